@@ -1,0 +1,3 @@
+-- Paper 01: cases that the checker computes.
+pub mod Starred
+pub mod NearMisses

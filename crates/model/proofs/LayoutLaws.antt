@@ -1,0 +1,6 @@
+pub mod Tests
+pub mod Bytes
+pub mod Formats
+pub mod Data
+pub mod Messages
+pub mod Requests

@@ -1,0 +1,6 @@
+pub mod Numbered
+pub mod Table
+pub mod Keep
+pub mod Play
+pub mod Store
+pub mod Ids

@@ -1,0 +1,7 @@
+pub mod Example
+pub mod Rows
+pub mod Orders
+pub mod Sessions
+pub mod Sets
+pub mod Shards
+pub mod WellFormed

@@ -1,0 +1,79 @@
+-- Roots only where they decide: of two vectors, the one whose sum of squares is not below the other's, and whose id
+-- is
+-- not lower, is not the nearer one. So a search by rising ids may pass over a vector by its sum alone. Assumes
+-- nothing.
+use mathlib.Core.Path.{_≡_, ap}
+use mathlib.Core.Logic.{_⊎_, inl, inr}
+use mathlib.Core.Bool.{Bool, not, cond}
+use mathlib.Core.List.{List, [], _∷_}
+use Prim.Native.Nat.{ℕ, _+_, _-_, _^_, _≤_, _<_}
+use native.Mathlib.Omega.{arith}
+use lib.Dec.{T, not-T}
+use borrow.Author.Tests.{lt-ltb}
+use lib.Ieee.{Float, binary32, add, fits, toBits}
+use lib.Ieee.Fits.{add-fits}
+use Rattle.model.specs.declared.Metric.the-variants.{Euclidean}
+use Rattle.model.specs.Nearest.Order.{key}
+use Rattle.model.specs.Nearest.Root.{sqrt, rootable}
+use Rattle.model.specs.Nearest.Distance.{sumFrom, squares, plusZero, distance, Bounded}
+use Rattle.model.specs.Nearest.Search.{Vector, nearer, neighbor}
+use Rattle.model.proofs.Nearest.Exact.{sqrt-nearest, sqrt-mono, plus-float}
+use Rattle.model.proofs.Nearest.NoNan.{squares-rootable}
+use Rattle.model.proofs.Nearest.Rank.{nearer-says}
+
+-- ---- a sum is a float of the format
+sum-fits : (term : Float → Float → Float) (acc : Float) (xs ys : List Float) → T (fits binary32 acc)
+    → T (fits binary32 (sumFrom term acc xs ys))
+unfolding sumFrom
+sum-fits term acc [] ys f = f
+sum-fits term acc (x ∷ xs) [] f = f
+sum-fits term acc (x ∷ xs) (y ∷ ys) f =
+    sum-fits term (add binary32 acc (term x y)) xs ys (add-fits binary32 acc (term x y))
+
+zero-fits : T (fits binary32 plusZero)
+unfolding fits
+zero-fits = tt
+
+pub squares-fits : (q v : List Float) → T (fits binary32 (squares q v))
+squares-fits q v = sum-fits _ plusZero q v zero-fits
+
+-- ---- the key of a root
+key-plus : (b : ℕ) → b < 2 ^ 31 → key b ≡ b + 2 ^ 31
+unfolding key
+key-plus b h = ap (λ (t : Bool). cond t (b + 2 ^ 31) (2 ^ 32 - 1 - b)) (lt-ltb b (2 ^ 31) h)
+
+root-key : (x : Float) → T (fits binary32 x) → T (rootable x)
+    → key (toBits binary32 (sqrt binary32 x)) ≡ toBits binary32 (sqrt binary32 x) + 2 ^ 31
+root-key x f t =
+    let r = sqrt-nearest x f t in
+    key-plus (toBits binary32 (sqrt binary32 x)) (plus-float (sqrt binary32 x) (r .w) (r .held) (r .ofR) .0)
+
+-- ---- the rule
+pub passed-over : (q : List Float) (a b : Vector) → Bounded q → Bounded (a .components) → Bounded (b .components)
+    → toBits binary32 (squares q (a .components)) ≤ toBits binary32 (squares q (b .components)) → a .id ≤ b .id
+    → T (not (nearer (neighbor Euclidean q b) (neighbor Euclidean q a)))
+unfolding neighbor distance
+passed-over q a b l m n h i =
+    not-T (nearer (neighbor Euclidean q b) (neighbor Euclidean q a))
+    (λ t. go (nearer-says (neighbor Euclidean q b) (neighbor Euclidean q a) t))
+  where
+    x : Float
+    x = squares q (a .components)
+
+    y : Float
+    y = squares q (b .components)
+
+    keys : key (toBits binary32 (sqrt binary32 x)) ≤ key (toBits binary32 (sqrt binary32 y))
+    keys =
+        omega (
+          arith,
+          root-key x (squares-fits q (a .components)) (squares-rootable q (a .components) l m),
+          root-key y (squares-fits q (b .components)) (squares-rootable q (b .components) l n),
+          sqrt-mono x y (squares-fits q (a .components)) (squares-fits q (b .components))
+              (squares-rootable q (a .components) l m) (squares-rootable q (b .components) l n) h,
+        )
+
+    go : (key (toBits binary32 (sqrt binary32 y)) < key (toBits binary32 (sqrt binary32 x)))
+        ⊎ ((key (toBits binary32 (sqrt binary32 y)) ≡ key (toBits binary32 (sqrt binary32 x))) × (b .id < a .id)) → ⊥
+    go (inl k) = omega (arith, keys)
+    go (inr (e, k)) = omega arith

@@ -1,0 +1,11 @@
+pub mod Shards
+pub mod Refusals
+pub mod Logs
+pub mod Formed
+pub mod After
+pub mod Kept
+pub mod KeptMap
+pub mod KeptCalls
+pub mod Answers
+pub mod Guards
+pub mod Frames

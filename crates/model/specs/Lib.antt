@@ -1,0 +1,11 @@
+pub mod Lists
+pub mod Limits
+pub mod Keys
+pub mod Refusals
+pub mod Nearest
+pub mod Log
+pub mod Map
+pub mod Node
+pub mod Layout
+pub mod Starred
+pub mod NearMisses

@@ -1,0 +1,13 @@
+pub mod Held
+pub mod Shards
+pub mod Lease
+pub mod Client
+pub mod Backup
+pub mod Wire
+pub mod Worker
+pub mod Ack
+pub mod Shown
+pub mod Refused
+pub mod WellFormed
+pub mod Calls
+pub mod Dump

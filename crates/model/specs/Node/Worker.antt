@@ -1,0 +1,122 @@
+-- Paper 01, 'The node', 'Rules of a run' (node.rs, replicate_to): the worker's step, and the request that it puts under way. Definitions
+-- only.
+use Prim.Native.Nat.{ℕ, _+_}
+use mathlib.Core.Bool.{Bool, true, false, cond, not}
+use mathlib.Core.List.{List, [], _∷_, map}
+use mathlib.Core.Option.{Option, none, some}
+use lib.Dec.{eqb, ltb}
+use lib.ListN.{length, take}
+use Rattle.model.specs.Lists.{_or_, any, find}
+use Rattle.model.specs.Limits.{maxBatch}
+use Rattle.model.specs.Keys.{Key}
+use Rattle.model.specs.Refusals.{Refusal}
+use Rattle.model.specs.Log.{Log, Entry, entriesFrom, epochEnds}
+use Rattle.model.specs.Layout.Message.{NewEpoch, Replicated, Copied, encodeNewEpoch, encodeReplicate, encodeCopyShard}
+use Rattle.model.specs.Node.Held.{Held, Node}
+use Rattle.model.specs.Node.Shards.{shardOf, leadsAt, ofNode, onNode}
+use Rattle.model.specs.Node.Wire.{wireOp, wireEntry}
+use Rattle.model.specs.declared.Metric.{Metric}
+use Rattle.model.specs.declared.Peer.{Peer}
+use Rattle.model.specs.declared.Role.{Role}
+use Rattle.model.specs.declared.Role.the-variants.{Backup, Primary}
+
+-- 'The node': Wait, Stop, Align, or Send: its first offset, how many entries, and the epoch of the first (which matters where it is alone)
+pub data Step : Type 0 where
+  stop : Step
+  wait : Step
+  align : Step
+  send : (first count epoch : ℕ) → Step
+
+-- node.rs, replicate_to: the entries to send, if there are any
+abbrev pub sendOf : ℕ → Log → Step
+sendOf first [] = wait
+sendOf first (e ∷ es) = send first (length (e ∷ es)) (e .epoch)
+
+-- node.rs, replicate_to: an aligned peer gets what follows its ack, at most 256 entries
+unfoldable pub stepRow : Log → Option Peer → Step
+stepRow l none = align
+stepRow l (some p) =
+    let first = p .acked .0 + 1 in
+    cond (p .aligned) (sendOf first (entriesFrom l first maxBatch)) align
+
+-- 'The node': Stop where replicate_to returns: no primary at that epoch, or the last shown map does not list the peer
+unfoldable pub stepHeld : (epoch peer : ℕ) → Held → Step
+stepHeld epoch peer h =
+    cond (not (leadsAt (h .role) epoch)) stop
+    (cond (not (any (onNode peer) (h .holders))) stop
+    (stepRow (h .replica .log) (find (ofNode peer) (h .peers))))
+
+-- Stop without the shard
+abbrev pub stepAt : (epoch peer : ℕ) → Option Held → Step
+stepAt epoch peer none = stop
+stepAt epoch peer (some h) = stepHeld epoch peer h
+
+-- 'The node': the worker's step; it changes nothing
+unfoldable pub onStep : Node → Key → (epoch peer : ℕ) → Step
+onStep n k epoch peer = stepAt epoch peer (shardOf n k)
+
+-- ---- the request of a step
+
+-- how a lone entry goes. 'The node': as Replicate. 'Rules of a run': as CopyShard where its epoch is below the primary's
+pub data Form : Type 0 where
+  asReplicate : Form
+  olderAsCopy : Form
+
+-- the requests 20, 21 and 22
+pub data Message : Type 0 where
+  newEpochMessage : NewEpoch → Message
+  replicateMessage : Replicated → Message
+  copyMessage : Copied → Message
+
+-- 'Bytes on the wire': a request's bytes
+unfoldable pub messageBytes : Message → List ℕ
+messageBytes (newEpochMessage m) = encodeNewEpoch m
+messageBytes (replicateMessage m) = encodeReplicate m
+messageBytes (copyMessage m) = encodeCopyShard m
+
+-- node.rs, `end_offset`: the log's end when this node became primary
+abbrev pub endOffset : Role → ℕ
+endOffset Backup = 0
+endOffset (Primary p o) = o .0
+
+-- node.rs, `epochs`: the epochs of the log when this node became primary (no cut happens while it is)
+unfoldable pub alignment : Held → (epoch : ℕ) → Metric → NewEpoch
+alignment h epoch metric =
+    let end = endOffset (h .role) in
+    record { key = h .key; epoch = epoch; end = end; table = epochEnds (take end (h .replica .log)); metric = metric }
+
+-- whether an entry alone goes as CopyShard
+abbrev pub copies : Form → (epoch given : ℕ) → Bool
+copies asReplicate epoch e = false
+copies olderAsCopy epoch e = ltb e epoch
+
+-- 22: the entries as CopyShard
+abbrev pub copyOf : Key → (epoch : ℕ) → Log → Message
+copyOf k epoch es = copyMessage (record { key = k; epoch = epoch; entries = map wireEntry es })
+
+-- 20: one entry as Replicate, under the primary's epoch
+abbrev pub loneOf : Key → (epoch : ℕ) → Entry → Message
+loneOf k epoch e = replicateMessage (record { key = k; epoch = epoch; offset = e .offset; op = wireOp (e .op) })
+
+-- node.rs, replicate_to: one entry goes as Replicate, several as CopyShard
+unfoldable pub sending : Form → Key → (epoch : ℕ) → Log → Option Message
+sending form k epoch [] = none
+sending form k epoch (e ∷ []) = some (cond (copies form epoch (e .epoch)) (copyOf k epoch (e ∷ [])) (loneOf k epoch e))
+sending form k epoch (e ∷ d ∷ es) = some (copyOf k epoch (e ∷ d ∷ es))
+
+-- node.rs, replicate_to: the request of a step, at the shard; Stop and Wait have none
+unfoldable pub requestHeld : Form → (epoch : ℕ) → Metric → Held → Step → Option Message
+requestHeld form epoch metric h stop = none
+requestHeld form epoch metric h wait = none
+requestHeld form epoch metric h align = some (newEpochMessage (alignment h epoch metric))
+requestHeld form epoch metric h (send first count e) =
+    sending form (h .key) epoch (entriesFrom (h .replica .log) first count)
+
+-- no request without the shard
+abbrev pub requestAt : Form → (epoch : ℕ) → Metric → Step → Option Held → Option Message
+requestAt form epoch metric step none = none
+requestAt form epoch metric step (some h) = requestHeld form epoch metric h step
+
+-- the request of a step that the node answered
+unfoldable pub onRequest : Node → Key → (epoch : ℕ) → Metric → Form → Step → Option Message
+onRequest n k epoch metric form step = requestAt form epoch metric step (shardOf n k)
