@@ -1,0 +1,9 @@
+-- Runs that the checker computes: the rules of a run are not about nothing.
+pub mod Opened
+pub mod Start
+pub mod Fresh
+pub mod Promotion
+pub mod ShrinkExpand
+pub mod Loss
+pub mod OlderEntry
+pub mod OutcomeOnce

@@ -1,0 +1,6 @@
+pub mod Cases
+pub mod Created
+pub mod Protocol
+pub mod Simulation
+pub mod Demand3
+pub mod Instance

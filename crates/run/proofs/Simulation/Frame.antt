@@ -1,0 +1,260 @@
+-- The relation after one part of the two states changes: all the other parts are as they were. Assumes nothing.
+use Prim.Native.Nat.{ℕ, _+_}
+use mathlib.Core.Path.{_≡_, refl, sym, ap, _∙_, subst}
+use mathlib.Core.List.{List, [], _∷_, _++_, map}
+use Rattle.model.specs.Lists.{collect}
+use Rattle.model.specs.Map.Tables as tables
+use Rattle.model.specs.Node.Held as held
+use Rattle.model.proofs.Lists.{nth-lt, nth-append}
+use Rattle.run.specs.State as real
+use Rattle.run.proofs.Protocol.Base.{All, all-map, all-snoc}
+use Rattle.run.proofs.Protocol.State as proto
+use Rattle.run.proofs.Protocol.State.{Map, Node, Request, Reply, Proposal, Outcome, State, Move}
+use Rattle.run.proofs.Simulation.Lists.{Each, pair-all, one-all, pair2-all, map-join}
+use Rattle.run.proofs.Simulation.Relation.{World, MapSim, NodeSim, RequestSim, ReplySim, OfferFits, OutcomeKey, WriteKey, proposalOf, shrinks, outcomeOf, acceptedOf, acknowledgedOf, Sim}
+
+-- the protocol gets to a state that is this one
+abbrev pub Reaches : World → real.State → State → Type 0
+Reaches w s a = (ms : List Move) × Sim w s (proto.run a ms)
+
+pub stays : (w : World) (s : real.State) (a : State) → Sim w s a → Reaches w s a
+unfolding proto.run
+stays w s a k = ([], k)
+
+pub moves : (w : World) (s : real.State) (a : State) (v : Move) → Sim w s (proto.step a v) → Reaches w s a
+unfolding proto.run
+moves w s a v k = (v ∷ [], k)
+
+-- a move, and then others
+pub then-moves : (w : World) (s : real.State) (a : State) (v : Move) → Reaches w s (proto.step a v) → Reaches w s a
+unfolding proto.run
+then-moves w s a v r = (v ∷ r .0, r .1)
+
+module _ (w : World) (s : real.State) (a : State) (k : Sim w s a) where
+  abbrev top : ℕ
+  top = a .map .epoch
+
+  -- ---- nodes
+
+  pub on-nodes : (n : ℕ) (x : held.Node) (b : Node) → NodeSim w top n x b → Sim w (real.setNode s n x) (proto.setNode a n b)
+  unfolding real.setNode proto.setNode
+  on-nodes n x b h = record {
+    table = k .table;
+    nodes = pair-all (λ m v u. NodeSim w top m v u) h (k .nodes);
+    clients = k .clients;
+    requests = k .requests;
+    replies = k .replies;
+    offers = k .offers;
+    offered = k .offered;
+    outcomes = k .outcomes;
+    told = k .told;
+    accepted = k .accepted;
+    written = k .written;
+    acknowledged = k .acknowledged;
+    known = k .known;
+  }
+
+  pub on-node : (n : ℕ) (x : held.Node) → NodeSim w top n x (a .nodes n) → Sim w (real.setNode s n x) a
+  unfolding real.setNode
+  on-node n x h = record {
+    table = k .table;
+    nodes = one-all (λ m v. NodeSim w top m v (a .nodes m)) h (k .nodes);
+    clients = k .clients;
+    requests = k .requests;
+    replies = k .replies;
+    offers = k .offers;
+    offered = k .offered;
+    outcomes = k .outcomes;
+    told = k .told;
+    accepted = k .accepted;
+    written = k .written;
+    acknowledged = k .acknowledged;
+    known = k .known;
+  }
+
+  -- ---- links
+
+  pub on-links : (from to : ℕ) (l : List real.Request) (m : List Request) → Each (RequestSim w to) l m
+      → Sim w (real.setRequests s from to l) (proto.setRequests a from to m)
+  unfolding real.setRequests proto.setRequests
+  on-links from to l m h = record {
+    table = k .table;
+    nodes = k .nodes;
+    clients = k .clients;
+    requests = pair2-all (λ c d u v. Each (RequestSim w d) u v) h (k .requests);
+    replies = k .replies;
+    offers = k .offers;
+    offered = k .offered;
+    outcomes = k .outcomes;
+    told = k .told;
+    accepted = k .accepted;
+    written = k .written;
+    acknowledged = k .acknowledged;
+    known = k .known;
+  }
+
+  -- ---- replies
+
+  pub on-replies : (l : List real.Reply) → All (ReplySim w (a .replies)) l → Sim w (real.setReplies s l) a
+  unfolding real.setReplies
+  on-replies l h = record {
+    table = k .table;
+    nodes = k .nodes;
+    clients = k .clients;
+    requests = k .requests;
+    replies = h;
+    offers = k .offers;
+    offered = k .offered;
+    outcomes = k .outcomes;
+    told = k .told;
+    accepted = k .accepted;
+    written = k .written;
+    acknowledged = k .acknowledged;
+    known = k .known;
+  }
+
+  later : (r : Reply) (q : real.Reply) → ReplySim w (a .replies) q → ReplySim w (a .replies ++ (r ∷ [])) q
+  later r q h = record {
+    place = h .place;
+    answer = h .answer;
+    found = nth-append (a .replies) (r ∷ []) (h .place) (nth-lt (a .replies) (h .place) _ (h .found)) ∙ h .found;
+    key = h .key;
+    message = h .message;
+    decoded = h .decoded;
+    deed = h .deed;
+  }
+
+  -- an answer that nobody here knows of, and its concrete one
+  pub on-answer : (r : Reply) → Sim w s (proto.addReply a r)
+  unfolding proto.addReply
+  on-answer r = record {
+    table = k .table;
+    nodes = k .nodes;
+    clients = k .clients;
+    requests = k .requests;
+    replies = all-map (later r) (s .replies) (k .replies);
+    offers = k .offers;
+    offered = k .offered;
+    outcomes = k .outcomes;
+    told = k .told;
+    accepted = k .accepted;
+    written = k .written;
+    acknowledged = k .acknowledged;
+    known = k .known;
+  }
+
+  -- ---- proposals and outcomes
+
+  pub on-offers : (l : List real.Offer) (m : List Proposal) → map (proposalOf w) l ≡ m → All (OfferFits w top) l
+      → Sim w (real.setOffers s l) (proto.setProposals a m)
+  unfolding real.setOffers proto.setProposals
+  on-offers l m e f = record {
+    table = k .table;
+    nodes = k .nodes;
+    clients = k .clients;
+    requests = k .requests;
+    replies = k .replies;
+    offers = e;
+    offered = f;
+    outcomes = k .outcomes;
+    told = k .told;
+    accepted = k .accepted;
+    written = k .written;
+    acknowledged = k .acknowledged;
+    known = k .known;
+  }
+
+  pub same-offers : (l : List real.Offer) → map (proposalOf w) l ≡ a .proposals → All (OfferFits w top) l → Sim w (real.setOffers s l) a
+  unfolding proto.setProposals
+  same-offers l e f = on-offers l (a .proposals) e f
+
+  pub on-outcomes : (l : List real.Outcome) (m : List Outcome) → collect (shrinks w) (outcomeOf w) l ≡ m → All (OutcomeKey w) l
+      → Sim w (real.setOutcomes s l) (proto.setOutcomes a m)
+  unfolding real.setOutcomes proto.setOutcomes
+  on-outcomes l m e f = record {
+    table = k .table;
+    nodes = k .nodes;
+    clients = k .clients;
+    requests = k .requests;
+    replies = k .replies;
+    offers = k .offers;
+    offered = k .offered;
+    outcomes = e;
+    told = f;
+    accepted = k .accepted;
+    written = k .written;
+    acknowledged = k .acknowledged;
+    known = k .known;
+  }
+
+  pub same-outcomes : (l : List real.Outcome) → collect (shrinks w) (outcomeOf w) l ≡ a .outcomes → All (OutcomeKey w) l
+      → Sim w (real.setOutcomes s l) a
+  unfolding proto.setOutcomes
+  same-outcomes l e f = on-outcomes l (a .outcomes) e f
+
+  -- ---- writes
+
+  pub on-accepted : (v : real.Write) → WriteKey w v
+      → Sim w (real.setWrites s (s .accepted ++ (v ∷ [])) (s .acknowledged)) (proto.addAccepted a (acceptedOf w v))
+  unfolding real.setWrites proto.addAccepted
+  on-accepted v e = record {
+    table = k .table;
+    nodes = k .nodes;
+    clients = k .clients;
+    requests = k .requests;
+    replies = k .replies;
+    offers = k .offers;
+    offered = k .offered;
+    outcomes = k .outcomes;
+    told = k .told;
+    accepted = map-join (acceptedOf w) (s .accepted) (v ∷ []) ∙ ap (λ (z : List proto.Accepted). z ++ (acceptedOf w v ∷ [])) (k .accepted);
+    written = all-snoc (WriteKey w) (s .accepted) v (k .written) e;
+    acknowledged = k .acknowledged;
+    known = k .known;
+  }
+
+  pub on-acknowledged : (v : real.Write) → WriteKey w v
+      → Sim w (real.setWrites s (s .accepted) (s .acknowledged ++ (v ∷ []))) (proto.addAcknowledged a (acknowledgedOf w v))
+  unfolding real.setWrites proto.addAcknowledged
+  on-acknowledged v e = record {
+    table = k .table;
+    nodes = k .nodes;
+    clients = k .clients;
+    requests = k .requests;
+    replies = k .replies;
+    offers = k .offers;
+    offered = k .offered;
+    outcomes = k .outcomes;
+    told = k .told;
+    accepted = k .accepted;
+    written = k .written;
+    acknowledged =
+        map-join (acknowledgedOf w) (s .acknowledged) (v ∷ [])
+        ∙ ap (λ (z : List proto.Acknowledged). z ++ (acknowledgedOf w v ∷ [])) (k .acknowledged);
+    known = all-snoc (WriteKey w) (s .acknowledged) v (k .known) e;
+  }
+
+  -- ---- the map
+
+  -- a map of the same epoch
+  pub on-map : (m : tables.Map) (b : Map) → b .epoch ≡ top → MapSim w m b → Sim w (real.setMap s m) (proto.setMap a b)
+  unfolding real.setMap proto.setMap
+  on-map m b p h = record {
+    table = h;
+    nodes = λ n. subst (λ (e : ℕ). NodeSim w e n (s .nodes n) (a .nodes n)) (sym p) (k .nodes n);
+    clients = k .clients;
+    requests = k .requests;
+    replies = k .replies;
+    offers = k .offers;
+    offered = subst (λ (e : ℕ). All (OfferFits w e) (s .offers)) (sym p) (k .offered);
+    outcomes = k .outcomes;
+    told = k .told;
+    accepted = k .accepted;
+    written = k .written;
+    acknowledged = k .acknowledged;
+    known = k .known;
+  }
+
+  pub same-map : (m : tables.Map) → MapSim w m (a .map) → Sim w (real.setMap s m) a
+  unfolding proto.setMap
+  same-map m h = on-map m (a .map) refl h

@@ -1,0 +1,115 @@
+-- Paper 01, 'Rules of a run', 'Messages', 'Commands': what is under way is lost, or a proposal times out. A lost reply stays with
+-- the protocol for good; what else is lost here is lost there too. Assumes nothing.
+use Prim.Native.Nat.{ℕ, zero, suc}
+use mathlib.Core.Path.{_≡_, refl, sym, ap, _∙_}
+use mathlib.Core.Bool.{Bool, true, false}
+use mathlib.Core.List.{List, [], _∷_, _++_, map}
+use mathlib.Core.Option.{Option, none, some}
+use Rattle.model.specs.Lists.{nth, collect}
+use Rattle.model.specs.Node.Ack.{Proposal, shrink, grow, leaves}
+use Rattle.model.proofs.Lists.{by-test, none-some}
+use Rattle.run.specs.State as real
+use Rattle.run.specs.Step as step
+use Rattle.run.proofs.Protocol.Base.{All, all-snoc, all-nth, removeAt}
+use Rattle.run.proofs.Protocol.State as proto
+use Rattle.run.proofs.Protocol.State.{State, rejection, silence, departure}
+use Rattle.run.proofs.Simulation.Lists.{each-removed, all-removed, all-replaced, removed-map, replaced-map, collect-skip, collect-removed, collect-taken, collect-replaced}
+use Rattle.run.proofs.Simulation.Relation.{World, RequestSim, ReplySim, OfferFits, OutcomeKey, proposalOf, shrinks, outcomeOf, Sim}
+use Rattle.run.proofs.Simulation.Frame.{Reaches, stays, moves, on-links, on-replies, on-offers, same-offers, on-outcomes, same-outcomes}
+
+pub removed-none : {A : Type 0} (l : List A) (i : ℕ) → nth l i ≡ none → step.removed l i ≡ l
+unfolding nth step.removed
+removed-none [] i e = refl
+removed-none (x ∷ xs) zero e = none-some (sym e)
+removed-none {A} (x ∷ xs) (suc i) e = ap (λ (v : List A). x ∷ v) (removed-none xs i e)
+
+-- 'a timeout or a refusal counting as not applied'
+pub not-left : (p : Proposal) → leaves p false ≡ false
+not-left shrink = refl
+not-left grow = refl
+
+module _ (w : World) (s : real.State) (a : State) (k : Sim w s a) where
+  pub request-lost : (from to i : ℕ) → Reaches w (step.onRequestLost s from to i) a
+  unfolding step.onRequestLost proto.step proto.onLose
+  request-lost from to i =
+      moves w _ a (departure from to i)
+      (on-links w s a k from to (step.removed (s .requests from to) i) (removeAt (a .requests from to) i)
+      (each-removed (RequestSim w to) (s .requests from to) i (a .requests from to) (k .requests from to)))
+
+  pub reply-lost : (i : ℕ) → Reaches w (step.onReplyLost s i) a
+  unfolding step.onReplyLost
+  reply-lost i =
+      stays w _ a (on-replies w s a k (step.removed (s .replies) i) (all-removed (ReplySim w (a .replies)) (s .replies) i (k .replies)))
+
+  pub offer-lost : (i : ℕ) → Reaches w (step.onOfferLost s i) a
+  unfolding step.onOfferLost proto.step proto.onForget
+  offer-lost i =
+      moves w _ a (rejection i)
+      (on-offers w s a k (step.removed (s .offers) i) (removeAt (a .proposals) i)
+      (removed-map (proposalOf w) (s .offers) i ∙ ap (λ (l : List proto.Proposal). removeAt l i) (k .offers))
+      (all-removed (OfferFits w (a .map .epoch)) (s .offers) i (k .offered)))
+
+  -- an outcome leaves the list, or one that was not applied takes its place
+  pub outcome-gone : (i : ℕ) (o : real.Outcome) → nth (s .outcomes) i ≡ some o → (l : List real.Outcome)
+      → collect (shrinks w) (outcomeOf w) l ≡ collect (shrinks w) (outcomeOf w) (step.removed (s .outcomes) i) → All (OutcomeKey w) l
+      → Reaches w (real.setOutcomes s l) a
+  unfolding proto.step proto.onUntell
+  outcome-gone i o e l q keys = go (shrinks w o) refl
+    where
+      go : (b : Bool) → shrinks w o ≡ b → Reaches w (real.setOutcomes s l) a
+      go true t =
+          let r = collect-taken (outcomeOf w) (shrinks w) (s .outcomes) i o e t in
+          moves w _ a (silence (r .0))
+          (on-outcomes w s a k l (removeAt (a .outcomes) (r .0))
+          (q ∙ r .2 ∙ ap (λ (v : List proto.Outcome). removeAt v (r .0)) (k .outcomes)) keys)
+      go false t =
+          stays w _ a (same-outcomes w s a k l (q ∙ collect-removed (outcomeOf w) (shrinks w) (s .outcomes) i o e t ∙ k .outcomes) keys)
+
+  pub outcome-lost : (i : ℕ) → Reaches w (step.onOutcomeLost s i) a
+  unfolding step.onOutcomeLost
+  outcome-lost i = go (nth (s .outcomes) i) refl
+    where
+      keys : All (OutcomeKey w) (step.removed (s .outcomes) i)
+      keys = all-removed (OutcomeKey w) (s .outcomes) i (k .told)
+
+      go : (o : Option real.Outcome) → nth (s .outcomes) i ≡ o → Reaches w (real.setOutcomes s (step.removed (s .outcomes) i)) a
+      go none e =
+          stays w _ a
+          (same-outcomes w s a k (step.removed (s .outcomes) i)
+          (ap (collect (shrinks w) (outcomeOf w)) (removed-none (s .outcomes) i e) ∙ k .outcomes) keys)
+      go (some o) e = outcome-gone i o e (step.removed (s .outcomes) i) refl keys
+
+  pub outcome-late : (i : ℕ) → Reaches w (step.onOutcomeTimeout s i) a
+  unfolding step.onOutcomeTimeout step.late
+  outcome-late i = go (nth (s .outcomes) i) refl
+    where
+      go : (o : Option real.Outcome) → nth (s .outcomes) i ≡ o → Reaches w (step.late s i o) a
+      go none e = stays w _ a k
+      go (some o) e =
+          outcome-gone i o e (step.replaced (s .outcomes) i (step.notApplied o))
+          (collect-replaced (outcomeOf w) (shrinks w) (s .outcomes) i o (step.notApplied o) e (not-left (o .what)))
+          (all-replaced (OutcomeKey w) (s .outcomes) i (step.notApplied o) (k .told) (all-nth (OutcomeKey w) (s .outcomes) i o (k .told) e))
+
+  -- an outcome that was not applied goes under way, or none does
+  pub told-not : (o : real.Offer) → OfferFits w (a .map .epoch) o → Sim w (step.told s o false) a
+  unfolding step.told
+  told-not o f =
+      by-test (λ v. Sim w v a) (o .awaited)
+      (λ t. same-outcomes w s a k (s .outcomes ++ (step.outcomeOf o false ∷ []))
+      (collect-skip (outcomeOf w) (shrinks w) (s .outcomes) (step.outcomeOf o false) (not-left (o .what)) ∙ k .outcomes)
+      (all-snoc (OutcomeKey w) (s .outcomes) (step.outcomeOf o false) (k .told) (f .key)))
+      (λ t. k)
+
+  pub offer-late : (i : ℕ) → Reaches w (step.onOfferTimeout s i) a
+  unfolding step.onOfferTimeout step.givenUp
+  offer-late i = go (nth (s .offers) i) refl
+    where
+      go : (o : Option real.Offer) → nth (s .offers) i ≡ o → Reaches w (step.givenUp s i o) a
+      go none e = stays w _ a k
+      go (some o) e =
+          let f = all-nth (OfferFits w (a .map .epoch)) (s .offers) i o (k .offered) e in
+          stays w _ a
+          (same-offers w (step.told s o false) a (told-not o f) (step.replaced (s .offers) i (step.unawaited o))
+          (replaced-map (proposalOf w) (s .offers) i o (step.unawaited o) e refl ∙ k .offers)
+          (all-replaced (OfferFits w (a .map .epoch)) (s .offers) i (step.unawaited o) (k .offered)
+          (record { key = f .key; peer = f .peer; upto = f .upto })))

@@ -1,0 +1,321 @@
+-- Paper 01, 'Rules of a run', 'At a node', 'Messages': a worker's step. An Align or a Send that fits its buffer goes under way; Wait, Stop
+-- and a refusal do nothing. Assumes nothing.
+use Prim.Native.Nat.{ℕ, _+_, _-_, _≤_, max}
+use mathlib.Core.Path.{_≡_, refl, sym, ap, _∙_, subst}
+use mathlib.Core.Bool.{true, false, not}
+use mathlib.Core.Logic.{inl, inr}
+use mathlib.Core.List.{List, [], _∷_, _++_, map}
+use mathlib.Core.Option.{Option, some}
+use native.Mathlib.Omega.{arith}
+use lib.Dec.{eqb, ltb}
+use lib.ListN.{length, take, drop, length-take}
+use borrow.Author.Tests.{eqb-false, not-true, not-false, ltb-false}
+use Rattle.model.specs.Keys.{Key}
+use Rattle.model.specs.Limits.{maxU64, maxEntries, maxBatch, maxTable}
+use Rattle.model.specs.Lists.{nth, any, find}
+use Rattle.model.specs.Log.{Op, Entry, Log, End, ShardReplica, epochEnds, entriesFrom}
+use Rattle.model.specs.Map.Change.{holds}
+use Rattle.model.specs.Layout.Format as format
+use Rattle.model.specs.Layout.Message as message
+use Rattle.model.specs.Layout.Message.{encodeNewEpoch, encodeReplicate, encodeCopyShard, decodeNewEpoch}
+use Rattle.model.specs.Layout.Writable.{GoodKey, GoodEnd, GoodNewEpoch, GoodCopied, GoodReplicated}
+use Rattle.model.specs.Node.Held as held
+use Rattle.model.specs.Node.Held.{Held}
+use Rattle.model.specs.Node.Shards.{leadsAt, ofNode, onNode}
+use Rattle.model.specs.Node.Wire.{wireOp, wireEntry}
+use Rattle.model.specs.Node.Worker as worker
+use Rattle.model.specs.Node.Worker.{Step, sendOf, stepRow, stepHeld, stepAt, onStep, olderAsCopy, Message, newEpochMessage, messageBytes, endOffset, copies, copyOf, loneOf, sending, requestHeld, requestAt, onRequest}
+use Rattle.model.specs.Node.Calls.{RequestAnswer, unsent, written, writtenIn, requestOf, requestWith, callRequest}
+use Rattle.model.specs.Node.WellFormed.{wellFormedLent}
+use Rattle.model.specs.declared.Metric.{Metric}
+use Rattle.model.specs.declared.Peer.{Peer}
+use Rattle.model.specs.declared.Replica.{Replica}
+use Rattle.model.specs.declared.Role as role
+use Rattle.model.proofs.Lists.{by-test, nth-taken}
+use Rattle.model.proofs.LayoutLaws.Data.{length-mapped}
+use Rattle.model.proofs.LayoutLaws.Messages.{new-epoch-back, replicate-back, copy-back}
+use Rattle.model.proofs.Log.Numbered.{from-at}
+use Rattle.run.specs.State as real
+use Rattle.run.specs.Step as step
+use Rattle.run.proofs.Protocol.Base.{All, nth-all}
+use Rattle.run.proofs.Protocol.State as proto
+use Rattle.run.proofs.Protocol.State.{Lead, Role, lead, Node, Request, State}
+use Rattle.run.proofs.Simulation.Lists.{each-last, any-find}
+use Rattle.run.proofs.Simulation.Ops.{op-back}
+use Rattle.run.proofs.Simulation.Relation.{World, LeadSim, HeldSim, AlignSim, CopySim, LoneSim, RequestSim, Sim}
+use Rattle.run.proofs.Simulation.Frame.{Reaches, stays, moves, on-links}
+use Rattle.run.proofs.Simulation.AtNode.{leads, shard-cases, log-facts, held-facts}
+use Rattle.run.proofs.Simulation.Commands.{u64-of}
+use Rattle.run.proofs.Simulation.Batches.{Ready, ready, Batch, batch, ends-good}
+
+module _ (w : World) (s : real.State) (a : State) (k : Sim w s a) (n : ℕ) (key : Key) (epoch peer : ℕ) (metric : Metric) (room : ℕ)
+    (ne : eqb n peer ≡ false) where
+  abbrev x : held.Node
+  x = s .nodes n
+
+  abbrev b : Node
+  b = a .nodes n
+
+  abbrev top : ℕ
+  top = a .map .epoch
+
+  abbrev Goal : RequestAnswer → Type 0
+  Goal r = Reaches w (step.posted s n key epoch peer r) a
+
+  idle : Goal unsent
+  unfolding step.posted
+  idle = stays w s a k
+
+  -- bytes that are a request of the protocol
+  puts : (bytes : List ℕ) (r : Request) (v : proto.Move) → proto.step a v ≡ proto.post a n peer r
+      → RequestSim w peer (record { sent = step.sentOf bytes; key = key; epoch = epoch; bytes = bytes }) r → Goal (written bytes)
+  unfolding step.posted proto.post
+  puts bytes r v moved sim =
+      let q : real.Request = record { sent = step.sentOf bytes; key = key; epoch = epoch; bytes = bytes } in
+      moves w _ a v
+      (subst (Sim w _) (sym moved)
+      (on-links w s a k n peer (s .requests n peer ++ (q ∷ [])) (a .requests n peer ++ (r ∷ []))
+      (each-last (RequestSim w peer) (s .requests n peer) (a .requests n peer) q r (k .requests n peer) sim)))
+
+  -- a message is written where it fits
+  fits-in : (m : Message) → Goal (written (messageBytes m)) → Goal (writtenIn room (some m))
+  unfolding step.posted
+  fits-in m g = by-test Goal (ltb room (length (messageBytes m))) (λ t. stays w s a k) (λ t. g)
+
+  module _ (h : Held) (is : x .held ≡ h ∷ []) (hs : HeldSim w top n h b) (same : key ≡ w .key) (l : Lead) (leading : b .role ≡ lead l)
+      (c : LeadSim w top n (h .role) (h .replica) (h .peers) l) (now : l .epoch ≡ epoch) (holder : holds peer (w .holders) ≡ true) where
+    abbrev log : Log
+    log = h .replica .log
+
+    own : h .replica .epoch ≡ epoch
+    own = c .epoch ∙ now
+
+    upto : epoch ≤ maxU64
+    upto = subst (λ (e : ℕ). e ≤ maxU64) own (hs .fits .epoch)
+
+    good-key : GoodKey (h .key)
+    good-key = subst GoodKey (sym (hs .key)) (w .goodKey)
+
+    small : length log ≤ maxEntries
+    small = held-facts w top n x b (k .nodes n) h is .log
+
+    each-ready : (i : ℕ) (e : Entry) → nth log i ≡ some e → Ready epoch e
+    each-ready i e q = subst (λ (d : ℕ). Ready d e) own (ready w (h .replica) (hs .fits) (log-facts w top n x b (k .nodes n) h is) small i e q)
+
+    -- ---- Align
+
+    abbrev aligning : message.NewEpoch
+    aligning = worker.alignment h epoch metric
+
+    aligns : l .aligned peer ≡ false → Goal (writtenIn room (requestHeld olderAsCopy epoch metric h worker.align))
+    unfolding requestHeld messageBytes
+    aligns loose = fits-in (newEpochMessage aligning)
+        (puts (encodeNewEpoch aligning) (proto.align epoch (l .end) (l .table)) (proto.alignment n peer) moved sim)
+      where
+        moved : proto.step a (proto.alignment n peer) ≡ proto.post a n peer (proto.align epoch (l .end) (l .table))
+        moved =
+            unfold proto.step in unfold proto.onAlign in unfold proto.alignAs in
+            ap (proto.alignAs a n peer) leading ∙ rw (ne, loose, now)
+
+        end : endOffset (h .role) ≡ l .end
+        end = ap (λ (r : role.Role). endOffset r) (c .role)
+
+        taken : All (Ready epoch) (take (l .end) log)
+        taken = nth-all (Ready epoch) (take (l .end) log) (λ i e q. each-ready i e (nth-taken (l .end) log i e q .1))
+
+        whole : aligning ≡ record { key = w .key; epoch = epoch; end = l .end; table = l .table; metric = metric }
+        whole = unfold worker.alignment in rw (end, hs .key, c .table)
+
+        shorter : length (take (l .end) log) ≤ length log
+        shorter = let p = length-take (l .end) log in let q = c .end in omega arith
+
+        table-good : GoodNewEpoch (record { key = w .key; epoch = epoch; end = l .end; table = l .table; metric = metric })
+        table-good =
+            let g = ends-good epoch upto (take (l .end) log) taken in
+            let n = g .1 in
+            let m = shorter in
+            let p = small in
+            let q = c .end in
+            let z : length (epochEnds (take (l .end) log)) ≤ maxTable = omega arith in (
+              w .goodKey,
+              u64-of epoch upto,
+              omega arith,
+              subst (λ (t : List End). length t ≤ maxTable) (sym (c .table)) z,
+              subst
+                  (format.All GoodEnd) (sym (c .table)) (g .0),
+            )
+
+        sim : AlignSim w peer (record {
+          sent = step.sentOf
+              (encodeNewEpoch aligning);
+          key = key;
+          epoch = epoch;
+          bytes = encodeNewEpoch aligning;
+        }) epoch (l .end) (l .table)
+        sim = record {
+          sent = unfold step.sentOf in unfold encodeNewEpoch in refl;
+          key = same;
+          epoch = refl;
+          metric = metric;
+          decoded =
+              ap (λ (m : message.NewEpoch). decodeNewEpoch (encodeNewEpoch m)) whole
+              ∙ new-epoch-back (record { key = w .key; epoch = epoch; end = l .end; table = l .table; metric = metric }) table-good;
+          upto = upto;
+          holder = holder;
+        }
+
+    -- ---- Send
+
+    module _ (first count : ℕ) (tied : l .aligned peer ≡ true) (few : count ≤ maxBatch) where
+      abbrev es : Log
+      es = entriesFrom log first count
+
+      all-ready : All (Ready epoch) es
+      all-ready = nth-all (Ready epoch) es (λ i e q. each-ready (max first 1 - 1 + i) e (from-at log first count i e q .1))
+
+      short : length es ≤ maxBatch
+      unfolding entriesFrom
+      short = let p = length-take count (drop (max first 1 - 1) log) in omega arith
+
+      ok : Batch epoch es
+      ok = batch epoch upto es all-ready
+
+      moved : (e : Entry) (r : Log) → es ≡ e ∷ r → proto.step a (proto.batch n peer first count) ≡ proto.post a n peer (proto.send epoch (e ∷ r))
+      unfolding proto.step proto.onSend proto.sendAs proto.sendBatch
+      moved e r q =
+          ap (proto.sendAs a n peer first count) leading ∙ rw (ne, tied)
+          (ap (λ (v : ShardReplica). proto.sendBatch a n peer (l .epoch) (entriesFrom (v .log) first count)) (sym (hs .replica))
+          ∙ ap (proto.sendBatch a n peer (l .epoch)) q
+          ∙ ap (λ (d : ℕ). proto.post a n peer (proto.send d (e ∷ r))) now)
+
+      abbrev request : List ℕ → real.Request
+      request bytes = record { sent = step.sentOf bytes; key = key; epoch = epoch; bytes = bytes }
+
+      abbrev copying : Log → message.Copied
+      copying v = record { key = h .key; epoch = epoch; entries = map wireEntry v }
+
+      -- several entries, or an older one alone
+      copies-out : (e : Entry) (r : Log) → es ≡ e ∷ r → Goal (writtenIn room (some (copyOf (h .key) epoch (e ∷ r))))
+      unfolding messageBytes step.sentOf encodeCopyShard
+      copies-out e r q =
+          let o : Batch epoch (e ∷ r) = subst (Batch epoch) q ok in
+          let z : length (map wireEntry (e ∷ r)) ≤ maxBatch =
+          (let p = length-mapped wireEntry (e ∷ r) in let v = subst (λ (v : Log). length v ≤ maxBatch) q short in omega arith) in
+          let good : GoodCopied (copying (e ∷ r)) = (good-key, u64-of epoch upto, z, o .good) in
+          let copy : CopySim w (request (encodeCopyShard (copying (e ∷ r)))) epoch (e ∷ r) = record {
+            sent = refl;
+            message = copying (e ∷ r);
+            decoded = copy-back (copying (e ∷ r)) good;
+            key = hs .key;
+            epoch = refl;
+            inside = o .inside;
+            entries = o .same;
+          } in
+          fits-in (copyOf (h .key) epoch (e ∷ r)) (puts (encodeCopyShard (copying (e ∷ r))) (proto.send epoch (e ∷ r))
+          (proto.batch n peer first count) (moved e r q)
+          (record {
+            key = same;
+            epoch = refl;
+            filled = refl;
+            formed = o .formed;
+            fits = o .fits;
+            upto = upto;
+            holder = holder;
+            way = inl copy;
+          }))
+
+      -- one entry of the epoch itself
+      goes-alone : (e : Entry) → es ≡ e ∷ [] → copies olderAsCopy epoch (e .epoch) ≡ false → Goal (writtenIn room (some (loneOf (h .key) epoch e)))
+      unfolding messageBytes step.sentOf encodeReplicate
+      goes-alone e q t =
+          let o : Batch epoch (e ∷ []) = subst (Batch epoch) q ok in
+          let rd : Ready epoch e = subst (All (Ready epoch)) q all-ready .0 in
+          let back = op-back (e .op) (rd .formed) (rd .id) in
+          let level : e .epoch ≡ epoch = (let u = rd .upto in let v = ltb-false (e .epoch) epoch t in omega arith) in
+          let m : message.Replicated = record { key = h .key; epoch = epoch; offset = e .offset; op = wireOp (e .op) } in
+          let low = rd .offset in
+          let good : GoodReplicated m = (good-key, u64-of epoch upto, omega arith, back .good) in
+          let lone : LoneSim w (request (encodeReplicate m)) epoch (e ∷ []) = record {
+            sent = refl;
+            message = m;
+            decoded = replicate-back m good;
+            key = hs .key;
+            epoch = refl;
+            inside = back .inside;
+            entries =
+                ap (λ (d : ℕ). one d (e .op)) level ∙ ap (λ (v : Op). one epoch v) (sym (back .same));
+          } in
+          fits-in (loneOf (h .key) epoch e) (puts (encodeReplicate m) (proto.send epoch (e ∷ [])) (proto.batch n peer first count) (moved e [] q)
+          (record {
+            key = same;
+            epoch = refl;
+            filled = refl;
+            formed = o .formed;
+            fits = o .fits;
+            upto = upto;
+            holder = holder;
+            way = inr lone;
+          }))
+        where
+          one : ℕ → Op → Log
+          one d v = record { epoch = d; offset = e .offset; op = v } ∷ []
+
+      sends : (v : Log) → es ≡ v → Goal (writtenIn room (sending olderAsCopy (h .key) epoch v))
+      unfolding sending
+      sends [] q = idle
+      sends (e ∷ []) q =
+          by-test (λ (m : Message). Goal (writtenIn room (some m))) (copies olderAsCopy epoch (e .epoch)) (λ t. copies-out e [] q)
+          (λ t. goes-alone e q t)
+      sends (e ∷ d ∷ r) q = copies-out e (d ∷ r) q
+
+    -- ---- the step of an aligned row
+
+    row-step : (p : Peer) → find (ofNode peer) (h .peers) ≡ some p
+        → Goal (writtenIn room (requestHeld olderAsCopy epoch metric h (stepRow log (some p))))
+    unfolding stepRow
+    row-step p here =
+        let row = c .rows .row peer p here in
+        by-test (λ (z : Step). Goal (writtenIn room (requestHeld olderAsCopy epoch metric h z))) (p .aligned)
+        (λ t. go (p .acked .0 + 1) (entriesFrom log (p .acked .0 + 1) maxBatch) refl (sym (row .aligned) ∙ t))
+        (λ t. aligns (sym (row .aligned) ∙ t))
+      where
+        go : (first : ℕ) (v : Log) → entriesFrom log first maxBatch ≡ v → l .aligned peer ≡ true
+            → Goal (writtenIn room (requestHeld olderAsCopy epoch metric h (sendOf first v)))
+        go first [] q t = unfold requestHeld in idle
+        go first (e ∷ r) q t =
+            unfold requestHeld in
+            sends first (length (e ∷ r)) t (count first (e ∷ r) q) (entriesFrom log first (length (e ∷ r))) refl
+          where
+            count : (first : ℕ) (v : Log) → entriesFrom log first maxBatch ≡ v → length v ≤ maxBatch
+            count first v q =
+                subst (λ (v : Log). length v ≤ maxBatch) q
+                (unfold entriesFrom in (let p = length-take maxBatch (drop (max first 1 - 1) log) in omega arith))
+
+    steps : Goal (writtenIn room (requestHeld olderAsCopy epoch metric h (stepRow log (find (ofNode peer) (h .peers)))))
+    steps =
+        let r = any-find (ofNode peer) (h .peers) (c .rows .has peer holder (λ e. eqb-false n peer ne (sym e))) in
+        subst (λ (o : Option Peer). Goal (writtenIn room (requestHeld olderAsCopy epoch metric h (stepRow log o)))) (sym (r .1))
+        (row-step (r .0) (r .1))
+
+  -- the step at the held shard
+  at-held : (h : Held) → x .held ≡ h ∷ [] → HeldSim w top n h b → key ≡ w .key
+      → Goal (writtenIn room (requestHeld olderAsCopy epoch metric h (stepHeld epoch peer h)))
+  unfolding stepHeld requestHeld holds
+  at-held h is hs same =
+      let P : Step → Type 0 = λ z. Goal (writtenIn room (requestHeld olderAsCopy epoch metric h z)) in
+      by-test P (not (leadsAt (h .role) epoch)) (λ t. idle)
+      (λ t. by-test P (not (any (onNode peer) (h .holders))) (λ u. idle)
+      (λ u. let c = leads w top n (h .role) (h .replica) (h .peers) (b .role) (hs .role) epoch (not-false (leadsAt (h .role) epoch) t) in
+      steps h is hs same (c .0) (c .1) (c .2) (c .3)
+      (subst (λ (rs : List Replica). any (onNode peer) rs ≡ true) (hs .holders) (not-false (any (onNode peer) (h .holders)) u))))
+
+  pub worked : Reaches w (step.onWork s n key epoch peer metric room) a
+  unfolding step.onWork callRequest requestWith requestOf onRequest onStep
+  worked =
+      by-test Goal (not (wellFormedLent x key)) (λ t. unfold step.posted in stays w s a k)
+      (λ t. shard-cases w top n x b (k .nodes n) (λ o. Goal (writtenIn room (requestAt olderAsCopy epoch metric (stepAt epoch peer o) o))) key idle
+      (λ y h is hs same. at-held h is hs same))
+
+pub on-work : (w : World) (s : real.State) (a : State) → Sim w s a → (n : ℕ) (key : Key) (epoch peer : ℕ) (metric : Metric) (room : ℕ)
+    → not (eqb n peer) ≡ true → Reaches w (step.onWork s n key epoch peer metric room) a
+on-work w s a k n key epoch peer metric room t = worked w s a k n key epoch peer metric room (not-true (eqb n peer) t)

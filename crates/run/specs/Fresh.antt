@@ -1,0 +1,66 @@
+-- Paper 01, 'Rules of a run', Fresh: one shard, created with distinct live holders, each listed under its own incarnation; all have been
+-- shown that map, with no earlier history; nothing is under way or acknowledged. Ids, incarnations, key, metric, leases, versions, other
+-- nodes, collections and sessions are free. Definitions only.
+use Prim.Native.Nat.{ℕ, _<_, _^_}
+use mathlib.Core.Bool.{Bool, true, false}
+use mathlib.Core.Path.{_≡_}
+use mathlib.Core.List.{List, [], _∷_}
+use mathlib.Core.Option.{Option, some}
+use Rattle.model.specs.Lists.{nth}
+use Rattle.model.specs.Map.Tables.{Map, ShardInfo, NodeInfo}
+use Rattle.model.specs.Map.Change.{holds, inSync}
+use Rattle.model.specs.Map.Create.{nodeAt}
+use Rattle.model.specs.Map.WellFormed.{wellFormedMap}
+use Rattle.model.specs.Layout.Writable.{GoodKey, U64}
+use Rattle.model.specs.Node.Held.{Node, emptyNode}
+use Rattle.model.specs.Node.Shown.{takeMap, collectionMetric}
+use Rattle.model.specs.declared.DataNodeId.{DataNodeId}
+use Rattle.model.specs.declared.Replica.{Replica}
+use Rattle.model.specs.declared.Metric.{Metric}
+use Rattle.run.specs.State.{State}
+
+-- no node is listed twice
+abbrev pub Distinct : List Replica → Type 0
+Distinct [] = Unit {0}
+Distinct (r ∷ rs) = (holds (r .node .0) rs ≡ false) × Distinct rs
+
+-- a holder is alive in the map, under the incarnation that the shard lists
+abbrev pub Live : Map → Replica → Type 0
+Live m r = (i : NodeInfo) × (nodeAt (m .nodes) (r .node .0) ≡ some i) × (i .alive ≡ true) × (i .incarnation ≡ r .incarnation)
+
+-- 'Fresh': every holder is live
+abbrev pub AllLive : Map → List Replica → Type 0
+AllLive m [] = Unit {0}
+AllLive m (r ∷ rs) = Live m r × U64 (r .node .0) × AllLive m rs
+
+-- 'Fresh': one shard, as Create leaves it
+pub record Created (m : Map) (i : ShardInfo) : Type 0 where
+  pub wellFormed : wellFormedMap m ≡ true
+  pub only : m .shards ≡ i ∷ []
+  pub key : GoodKey (i .key)
+  pub metric : (x : Metric) × (collectionMetric m (i .key .collection) ≡ some x)
+  pub distinct : Distinct (i .replicas)
+  pub live : AllLive m (i .replicas)
+  pub first : (r : Replica) × (nth (i .replicas) 0 ≡ some r) × (i .primary ≡ some (r .node .0))
+  pub everyone : (n : ℕ) → inSync n (i .insync) ≡ holds n (i .replicas)
+  pub epoch : i .epoch ≡ 1
+
+-- 'Fresh': a node that has been shown the map, with no earlier history. One that is no holder holds nothing, whether it has been or not.
+-- Its lease and the version it knows are free
+pub record Shown (m : Map) (i : ShardInfo) (me : ℕ) (n : Node) : Type 0 where
+  pub id : n .id ≡ me
+  pub held : n .held ≡ takeMap (emptyNode me (n .incarnation)) m .after .held
+  pub listed : (r : Replica) (place : ℕ) → nth (i .replicas) place ≡ some r → r .node .0 ≡ me → n .incarnation ≡ r .incarnation
+
+-- 'Fresh'
+pub record Fresh (s : State) : Type 0 where
+  pub shard : ShardInfo
+  pub created : Created (s .map) shard
+  pub shown : (n : ℕ) → Shown (s .map) shard n (s .nodes n)
+  pub clients : (n : ℕ) → U64 (s .clients n)
+  pub requests : (a b : ℕ) → s .requests a b ≡ []
+  pub replies : s .replies ≡ []
+  pub offers : s .offers ≡ []
+  pub outcomes : s .outcomes ≡ []
+  pub accepted : s .accepted ≡ []
+  pub acknowledged : s .acknowledged ≡ []

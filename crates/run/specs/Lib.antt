@@ -1,0 +1,8 @@
+pub mod State
+pub mod Event
+pub mod Step
+pub mod Rules
+pub mod Fresh
+pub mod Claim
+
+-- Paper 01, 'Rules of a run': the run of one shard.
