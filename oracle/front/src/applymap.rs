@@ -1,0 +1,28 @@
+//! Program `applymap` of paper 01: requests from an empty map, a line for each.
+
+use std::fmt::Write;
+
+use wire::Message;
+
+use crate::map::{Answer, Map};
+
+pub fn run(mut input: &[u8]) -> String {
+    let mut map = Map::default();
+    let mut out = String::new();
+    while let Some((Message::Request(request), length)) = wire::read_first(input) {
+        input = &input[length..];
+        let answer = map.apply(&request);
+        writeln!(out, "{}", line(request.index, answer, map.version())).expect("a string");
+    }
+    out
+}
+
+/// Index, word, reason and version.
+pub fn line(index: u64, answer: Answer, version: u64) -> String {
+    let (word, reason) = match answer {
+        Answer::Applied => ("applied", 0),
+        Answer::Rejected(reason) => ("rejected", reason),
+        Answer::Refused(number) => ("refused", number),
+    };
+    format!("{index} {word} {reason} {version}")
+}

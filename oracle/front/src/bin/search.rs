@@ -1,0 +1,6 @@
+//! Program `search` over the unchanged Rust: standard input to standard output.
+
+fn main() {
+    front::quiet();
+    front::main(front::search::run);
+}

@@ -1,0 +1,6 @@
+//! Program `shardof` over the unchanged Rust: standard input to standard output.
+
+fn main() {
+    front::quiet();
+    front::main(front::shardof::run);
+}

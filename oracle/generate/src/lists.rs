@@ -1,0 +1,190 @@
+//! The stored lists: what each is made of, with its seed.
+
+use crate::stream::{Stream, Tally};
+use crate::{damage, dome, maps, patterns, rng::Rng, scripts, searches};
+
+/// One stored input with its answers.
+pub struct List {
+    /// The folder, which is the program's name.
+    pub program: &'static str,
+    pub name: String,
+    pub input: Vec<u8>,
+    pub output: String,
+    pub tally: Tally,
+}
+
+/// Every stored list.
+pub fn all() -> Vec<List> {
+    let mut all = applymap();
+    all.extend(search());
+    all.extend(decode());
+    all.extend(replay());
+    all.extend(float_patterns());
+    all.push(list("shardof", "all", ids(6), front::shardof::run));
+    all
+}
+
+/// Ids and counts of shards: few, none, the largest, any.
+fn ids(seed: u64) -> Vec<u8> {
+    let mut rng = Rng::new(seed);
+    let mut out = Vec::new();
+    for n in 0..300 {
+        let id = if n < 20 { n } else { rng.corner() };
+        let shards = match rng.below(4) {
+            0 => rng.below(3) as u32,
+            1 => 64,
+            2 => u32::MAX - rng.below(2) as u32,
+            _ => rng.next() as u32,
+        };
+        out.extend(id.to_le_bytes());
+        out.extend(shards.to_le_bytes());
+    }
+    out
+}
+
+fn list(program: &'static str, name: &str, input: Vec<u8>, run: fn(&[u8]) -> String) -> List {
+    let output = run(&input);
+    List {
+        program,
+        name: name.into(),
+        input,
+        output,
+        tally: Tally::new(),
+    }
+}
+
+/// The paper's example: a node registered, the same again, marked dead.
+fn paper() -> maps::Requests {
+    let mut r = maps::Requests::default();
+    let register = || wire::Command::Register {
+        node: 1,
+        address: vec![],
+        incarnation: 4,
+    };
+    let dead = wire::Command::MarkNodeDead {
+        node: 1,
+        incarnation: 4,
+    };
+    for (n, command) in [register(), register(), dead].into_iter().enumerate() {
+        r.put(wire::Request {
+            index: 5 + n as u64,
+            client: 9,
+            seq: 1 + n as u64,
+            command,
+        });
+    }
+    r
+}
+
+fn applymap() -> Vec<List> {
+    let run = front::applymap::run;
+    let from = |name: &str, r: maps::Requests| List {
+        tally: r.tally,
+        ..list("applymap", name, r.input, run)
+    };
+    let mut all = vec![
+        from("paper", paper()),
+        from("limits", maps::limits()),
+        from("two-faults", maps::two_faults()),
+        from("repeats", maps::repeats()),
+    ];
+    for seed in 1..=3 {
+        all.push(from(&format!("random-{seed}"), maps::random(seed, 200)));
+    }
+    // What ends the program: nothing at all, a request cut short, a message of another kind, a
+    // name with an unused byte that is not zero.
+    let whole = paper().input;
+    let mut unclean = whole.clone();
+    unclean[35 + 63] = 1;
+    let gap = wire::write(&wire::Message::Gap(1));
+    for (name, input) in [
+        ("empty", vec![]),
+        ("cut", whole[..whole.len() - 1].to_vec()),
+        ("other-kind", [whole.clone(), gap, whole.clone()].concat()),
+        ("unclean", unclean),
+    ] {
+        all.push(list("applymap", name, input, run));
+    }
+    all
+}
+
+fn search() -> Vec<List> {
+    let mut rng = Rng::new(7);
+    let random: Vec<u8> = (0..160)
+        .flat_map(|_| searches::random(&mut rng, true))
+        .collect();
+    let run = front::search::run;
+    vec![
+        list("search", "chosen", searches::chosen().concat(), run),
+        list("search", "random", random, run),
+    ]
+}
+
+fn decode() -> Vec<List> {
+    let run = front::decode::run;
+    vec![
+        list("decode", "kinds", damage::input(&damage::stored(5)), run),
+        list("decode", "long", damage::input(&damage::long()), run),
+    ]
+}
+
+fn replay() -> Vec<List> {
+    let from = |name: &str, stream: Stream| List {
+        program: "replay",
+        name: name.into(),
+        input: stream.input(),
+        output: stream.output(),
+        tally: stream.tally,
+    };
+    let mut all = vec![
+        from("starred", scripts::starred()),
+        from("settled", scripts::settled()),
+        from("lone-entry", scripts::lone_entry()),
+        from("sessions", scripts::sessions()),
+        from("replies", scripts::replies()),
+        from("two-faults", scripts::two_faults()),
+        from("full-log", scripts::full_log()),
+        from("nine-shards", scripts::nine_shards()),
+        from("many-workers", scripts::many_workers()),
+    ];
+    for seed in 1..=3 {
+        let run = dome::run(seed, 260, dome::TAME);
+        all.push(from(&format!("tame-{seed}"), run));
+    }
+    for seed in 11..=17 {
+        let run = dome::run(seed, 200, dome::WILD);
+        all.push(from(&format!("wild-{seed}"), run));
+    }
+    // A record cut short, an unknown call and a node above 8 end the program with no line.
+    for (name, tail) in [
+        ("ends-cut", vec![14, 1, 0, 0]),
+        (
+            "ends-call",
+            [vec![18], vec![0; 11], node_record(1)].concat(),
+        ),
+        ("ends-node", [node_record(9), node_record(1)].concat()),
+    ] {
+        let mut input = node_record(1);
+        input.extend(tail);
+        all.push(list("replay", name, input, front::replay::run));
+    }
+    all
+}
+
+fn node_record(node: u8) -> Vec<u8> {
+    let mut record = vec![14, node];
+    record.extend([0; 10]);
+    record
+}
+
+fn float_patterns() -> Vec<List> {
+    use ::floats::programs;
+    let roots = patterns::root_input(&patterns::for_roots(3));
+    let order = patterns::order_input(&patterns::for_order(4));
+    let nans = patterns::order_input(&patterns::for_order_of_nans());
+    vec![
+        list("roots", "all", roots, programs::roots),
+        list("order", "finite", order, programs::order),
+        list("order", "nan", nans, programs::order),
+    ]
+}
