@@ -1,0 +1,2 @@
+-- The roots of the laws.
+pub mod Held

@@ -1,0 +1,2 @@
+-- The roots of the definitions.
+pub mod Held

@@ -1,0 +1,6 @@
+pub mod Writes
+pub mod Requests
+pub mod Pairs
+pub mod Entries
+pub mod Rows
+pub mod Placed
