@@ -1,0 +1,5 @@
+pub mod View
+pub mod Table
+pub mod Store
+pub mod Align
+pub mod Search
