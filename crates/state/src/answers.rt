@@ -1,0 +1,68 @@
+// Internal: answers and the keys beside them.
+ghost use mathlib.Core.Path.{_≡_};
+ghost use Rattle.model.specs.Map.Tables as tables;
+ghost use Rattle.model.specs.Map.Change.{accepts, rejects};
+ghost use Rattle.state.specs.Names.{viewKey};
+ghost use Rattle.state.specs.View.{answerOf, rejectionOf, refusalOf, isApplied};
+use crate::Answer;
+use crate::Name;
+use crate::Outcome;
+use crate::Refusal;
+use crate::Rejection;
+use crate::ShardKey;
+use crate::Verdict;
+
+// The key beside an answer that has none.
+pub fn no_key() -> ShardKey {
+    let name = Name {
+        bytes: [0u8; 32],
+        len: 0,
+    };
+    ShardKey {
+        collection: name,
+        shard: 0,
+    }
+}
+
+pub fn applied() -> Verdict
+    ensures { λ v. ⌜ answerOf v ≡ accepts ⌝ }
+{
+    let key = no_key();
+    Verdict {
+        answer: Answer::Done(Outcome::Applied),
+        key: key,
+    }
+}
+
+pub fn rejected(r: Rejection, key: ShardKey) -> Verdict
+    ensures { λ v. ⌜ answerOf v ≡ rejects (rejectionOf r (viewKey key)) ⌝ }
+{
+    Verdict {
+        answer: Answer::Done(Outcome::Rejected(r)),
+        key: key,
+    }
+}
+
+pub fn refused(r: Refusal) -> Verdict
+    ensures { λ v. ⌜ answerOf v ≡ tables.refused (refusalOf r) ⌝ }
+{
+    let key = no_key();
+    Verdict {
+        answer: Answer::Refused(r),
+        key: key,
+    }
+}
+
+// Whether a command takes effect.
+pub fn is_applied(v: Verdict) -> bool
+    ensures { λ r. ⌜ r ≡ isApplied (answerOf v) ⌝ }
+{
+    let a = v.answer;
+    match a {
+        Answer::Done(o) => match o {
+            Outcome::Applied => true,
+            Outcome::Rejected(_) => false,
+        },
+        Answer::Refused(_) => false,
+    }
+}
