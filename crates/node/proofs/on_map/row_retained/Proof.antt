@@ -1,0 +1,26 @@
+use borrow.Author.Needs.{needs}
+use Rattle.model.specs.Node.Shown.{retained}
+use native.Mathlib.Omega.{arith}
+use mathlib.Core.Path.{_≡_, refl, sym, _∙_, ap}
+use mathlib.Core.List.{List, [], _∷_, _++_}
+use Prim.Native.Nat.{ℕ, _+_, _-_, _*_, _≤_, _<_}
+use lib.ListN.{length, getD, take, drop, set}
+use Rattle.node.proofs.on_map.row_retained.Statement.{statement}
+use Rattle.node.proofs.on_map.row_retained.Tie as tie
+use Rattle.node.proofs.on_map.row_retained.Reads as reads
+use Rattle.node.proofs.on_map.row_retained.Lts as lts
+use Rattle.node.proofs.rows.both.Reads as both-reads
+use Rattle.node.proofs.rows.is_holder.Reads as is-holder-reads
+
+is-holder-requires : tie.Need-is-holder-requires
+is-holder-requires c κs = search needs
+
+both-requires : tie.Need-both-requires
+both-requires c κs = search needs
+
+returns : tie.Need-returns
+unfolding retained
+returns c = cc
+
+pub row-retained-spec : {M : Type 1} → statement M
+row-retained-spec = tie.close (tie.spec is-holder-requires both-requires returns)

@@ -1,0 +1,127 @@
+// The data node's transitions under its lock (paper 01, 'The node'; node.rs), on one held shard by value. What a held shard is read as stands
+// in specs/View.antt; what a call does, in model's Node. Whoever holds the node's header takes the one shard out and puts it back.
+use model::DataNodeId;
+use model::Epoch;
+use model::Metric;
+use model::Peer;
+use model::Replica;
+use model::Role;
+
+pub mod ack;
+pub mod formed;
+pub mod on_map;
+pub mod outcome;
+pub mod rows;
+pub mod wait;
+
+// One held shard without its key and its log. `last` is the log's length, `holders` and `count` say how many replicas and rows are in use;
+// what lies past them is free.
+pub struct Held {
+    pub epoch: Epoch,
+    pub metric: Metric,
+    pub last: u64,
+    pub role: Role,
+    pub own: bool,
+    pub replicas: [Replica; 8],
+    pub holders: usize,
+    pub peers: [Peer; 32],
+    pub count: usize,
+}
+
+// A list of nodes; what lies past `count` is free.
+pub struct Nodes {
+    pub items: [DataNodeId; 32],
+    pub count: usize,
+}
+
+// Waiting for acks: 18 with the own epoch, or another refusal's number.
+pub enum WaitAnswer {
+    Done,
+    Waiting,
+    NotPrimary(u64),
+    Refused(u8),
+}
+
+// The answer, the peers to propose a Shrink for, by rising node, and the shard after.
+pub struct Waited {
+    pub answer: WaitAnswer,
+    pub shrink: Nodes,
+    pub held: Held,
+}
+
+// The outcome of a proposal is taken note of, or refused by a number.
+pub enum OutcomeAnswer {
+    Noted,
+    Refused(u8),
+}
+
+pub struct Settled {
+    pub answer: OutcomeAnswer,
+    pub held: Held,
+}
+
+// The step that a reply answers.
+pub enum Sent {
+    Align,
+    Replicate,
+    Copy,
+}
+
+// A reply, 30 to 33.
+pub enum Reply {
+    Stored(u64),
+    Gap(u64),
+    Stale(u64),
+    Adopted(u64),
+}
+
+// What a reply brings about.
+pub enum Deed {
+    Nothing,
+    StepDown,
+    Unalign,
+    Record { through: u64, aligned: bool },
+}
+
+// Nothing to do, an Expand to propose for the peer, or a refusal's number.
+pub enum AckAnswer {
+    Noted,
+    Expand,
+    Refused(u8),
+}
+
+pub struct Acked {
+    pub answer: AckAnswer,
+    pub held: Held,
+}
+
+// Rows after a map: `full` where a 33rd would be needed.
+pub struct Grown {
+    pub full: bool,
+    pub peers: [Peer; 32],
+    pub count: usize,
+}
+
+// The primary that a map lists for a shard.
+pub enum Leader {
+    Nobody,
+    At(u64),
+}
+
+// What a map says of one shard; what lies past `holders` and `synced` is free.
+pub struct Info {
+    pub epoch: Epoch,
+    pub leader: Leader,
+    pub replicas: [Replica; 8],
+    pub holders: usize,
+    pub insync: [DataNodeId; 8],
+    pub synced: usize,
+}
+
+// A shard after a map, and the peers to start a worker for, by rising node. `full` where a 33rd worker would be needed: the shard is then
+// as it was.
+pub struct Shown {
+    pub full: bool,
+    pub start: Nodes,
+    pub held: Held,
+}

@@ -1,0 +1,3 @@
+pub mod OfAdmission
+pub mod OfLease
+pub mod OfStep

@@ -1,0 +1,39 @@
+use borrow.Author.Needs.{needs}
+use Prim.Native.Nat.{min}
+use mathlib.Core.Bool.{Bool, cond}
+use borrow.Author.Tests.{lt-ltb, le-ltb, le-leb, lt-leb, eq-eqb, ne-eqb}
+use Rattle.serve.specs.declared.Step.the-variants as S
+use native.Mathlib.Omega.{arith}
+use mathlib.Core.Path.{_≡_, refl, sym, _∙_, ap}
+use mathlib.Core.List.{List, [], _∷_, _++_}
+use Prim.Native.Nat.{ℕ, _+_, _-_, _*_, _≤_, _<_}
+use lib.ListN.{length, getD, take, drop, set}
+use Rattle.serve.proofs.worker.sends.Statement.{statement}
+use Rattle.serve.proofs.worker.sends.Tie as tie
+use Rattle.serve.proofs.worker.sends.Reads as reads
+use Rattle.serve.proofs.worker.sends.Lts as lts
+
+returns : tie.Need-returns
+returns c =
+    sym
+    (ap
+    (λ (b : Bool). cond b S.Wait (S.Send (c .before .args .acked + 1) (min 256 (c .before .args .last - c .before .args .acked))))
+    (le-leb _ _ (c .if1 .taken)))
+
+sub-rest : tie.Need-sub-rest
+sub-rest c = search needs
+
+add-t5 : tie.Need-add-t5
+add-t5 c = search needs
+
+returns-2 : tie.Need-returns-2
+returns-2 c = let e : min 256 (c .before .before .args .last - c .before .before .args .acked) ≡ c .before .before .args .last - c .before .before .args .acked = omega arith in rw (lt-leb _ _ (c .before .if1 .left), e)
+
+add-t6 : tie.Need-add-t6
+add-t6 c = search needs
+
+returns-3 : tie.Need-returns-3
+returns-3 c = let e : min 256 (c .before .before .args .last - c .before .before .args .acked) ≡ 256 = omega arith in rw (lt-leb _ _ (c .before .if1 .left), e)
+
+pub sends-spec : {M : Type 1} → statement M
+sends-spec = tie.close (tie.spec returns sub-rest add-t5 returns-2 add-t6 returns-3)

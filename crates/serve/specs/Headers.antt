@@ -1,0 +1,29 @@
+-- What the changes of a held shard's header promise, whatever its key, its log and its vectors are then. Definitions only.
+use Prim.Native.Nat.{ℕ}
+use mathlib.Core.Path.{_≡_}
+use mathlib.Core.List.{[]}
+use Rattle.model.specs.Keys.{Key}
+use Rattle.model.specs.Log.{Log, Vectors}
+use Rattle.model.specs.Node.Shards.{withReplica, demoted}
+use Rattle.model.specs.Node.Shards as shards
+use Rattle.model.specs.declared.Metric.{Metric}
+use Rattle.node.specs.declared.Held.{Held}
+use Rattle.node.specs.View.{viewHeld}
+
+-- node.rs, `or_insert_with`
+pub record Begins (metric : Metric) (r : Held) : Type 0 where
+  pub last : r .last ≡ 0
+  pub same : (k : Key) → viewHeld k [] [] r ≡ shards.begun k metric
+
+-- node.rs, on_new_epoch, where the epoch is taken: the log l and the vectors v are what the alignment left of l₀ and v₀
+pub record Realigns (h : Held) (epoch kept : ℕ) (r : Held) : Type 0 where
+  pub last : r .last ≡ kept
+  pub same : (k : Key) (l₀ l : Log) (v₀ v : Vectors)
+      → viewHeld k l v r
+      ≡ demoted (withReplica (viewHeld k l₀ v₀ h) (record { epoch = epoch; metric = h .metric; log = l; vectors = v }))
+
+-- node.rs, write and on_replicate: the log l and the vectors v instead of l₀ and v₀
+pub record Relogs (h : Held) (entries : ℕ) (r : Held) : Type 0 where
+  pub last : r .last ≡ entries
+  pub same : (k : Key) (l₀ l : Log) (v₀ v : Vectors)
+      → viewHeld k l v r ≡ withReplica (viewHeld k l₀ v₀ h) (record { epoch = h .epoch .0; metric = h .metric; log = l; vectors = v })

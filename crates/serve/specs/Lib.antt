@@ -1,0 +1,4 @@
+pub mod View
+pub mod Admits
+pub mod Headers
+pub mod Steps

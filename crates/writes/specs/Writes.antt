@@ -1,0 +1,35 @@
+-- What a Write on one held shard with its lent store promises: the definition's answer, and the definition's shard with its log and
+-- vectors, read from the store at exit, whatever the shard's key is. Definitions only.
+use Prim.Native.Nat.{ℕ}
+use mathlib.Core.Bool.{Bool, true}
+use mathlib.Core.Path.{_≡_}
+use Rattle.model.specs.Keys.{Key}
+use Rattle.model.specs.Refusals.{notPrimary, noLease, tooFewInSync, noRoom}
+use Rattle.model.specs.Log.{Op, lastOffset}
+use Rattle.model.specs.Node.Held as held
+use Rattle.model.specs.Node.Shards.{Result, gives}
+use Rattle.model.specs.Node.Client as client
+use Rattle.node.specs.declared.Held.{Held}
+use Rattle.node.specs.View.{viewHeld}
+use Rattle.serve.specs.declared.Admit.{Admit}
+use Rattle.serve.specs.declared.Admit.the-variants as A
+use Rattle.shard.specs.Store.{Store, Sized, storeLog, storeRows, wellFormedStore}
+use Rattle.shard.specs.Table.{vectorsOf}
+use Rattle.writes.specs.declared.Written.{Written}
+
+-- a held shard with its store, under the key k
+abbrev pub viewStored : Key → Held → Store → held.Held
+viewStored k h s = viewHeld k (storeLog s) (vectorsOf (storeLog s) (storeRows s)) h
+
+-- the answer that an admission stands for, with the shard as it is then
+abbrev pub writtenAs : Admit → held.Held → Result client.WriteAnswer held.Held
+writtenAs A.Yes h = gives (client.accepted (lastOffset (h .replica))) h
+writtenAs (A.NotPrimary e) h = gives (client.writeRefused (notPrimary e)) h
+writtenAs A.NoLease h = gives (client.writeRefused noLease) h
+writtenAs A.TooFew h = gives (client.writeRefused tooFewInSync) h
+writtenAs A.NoRoom h = gives (client.writeRefused noRoom) h
+
+pub record Writes (h : Held) (s t : Store) (epoch : ℕ) (lease : Bool) (least : ℕ) (op : Op) (r : Written) : Type 0 where
+  pub same : (k : Key) → writtenAs (r .admit) (viewStored k (r .held) t) ≡ client.writeHeld lease least epoch op (viewStored k h s)
+  pub well : wellFormedStore t ≡ true
+  pub sized : Sized t
