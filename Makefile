@@ -15,6 +15,9 @@ export ENGINE_DECODE ?= target/bin/messages
 export ENGINE_ROOTS ?= target/bin/roots
 export ENGINE_ORDER ?= target/bin/orders
 export ENGINE_SHARDOF ?= target/bin/shards
+export ENGINE_APPLYMAP ?= target/bin/applymap
+export ENGINE_SEARCH ?= target/bin/searches
+export ENGINE_HISTORY ?= target/bin/histories
 
 # The Rust this engine is a port of, as an oracle: needs cargo and the source files, never the gate.
 -include oracle/oracle.mk

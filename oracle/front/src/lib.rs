@@ -6,6 +6,7 @@
 pub mod applymap;
 pub mod convert;
 pub mod decode;
+pub mod history;
 pub mod map;
 pub mod node;
 pub mod reason;

@@ -3,6 +3,7 @@
 use std::fmt::Write;
 
 use datanode::node::inside::{Held, Role};
+use datanode::shard::ShardReplica;
 use rpc::{LogEntry, NodeStatus, Outcome, ShardInfo, ShardKey, WriteOp};
 
 use crate::convert;
@@ -25,7 +26,7 @@ pub fn key(key: &ShardKey) -> String {
     hex(&wire::key(&convert::wire_key(key)))
 }
 
-fn floats(vector: &[f32]) -> String {
+pub fn floats(vector: &[f32]) -> String {
     let bits = vector.iter().map(|f| format!(" {:08x}", f.to_bits()));
     bits.collect()
 }
@@ -42,13 +43,18 @@ pub fn held(held: &Held) -> String {
         None => out.push_str("role backup\n"),
         Some(primary) => role(&mut out, primary),
     }
-    replica.field_log().iter().for_each(|e| entry(&mut out, e));
+    log_and_vectors(&mut out, replica);
+    out
+}
+
+/// The entries of a replica, its vectors by rising id, and `end`.
+pub fn log_and_vectors(out: &mut String, replica: &ShardReplica) {
+    replica.field_log().iter().for_each(|e| entry(out, e));
     for id in replica.ids() {
         let vector = replica.vector(id).expect("listed");
         writeln!(out, "vector {id}{}", floats(vector)).expect("a string");
     }
     out.push_str("end\n");
-    out
 }
 
 fn role(out: &mut String, role: &Role) {
@@ -69,7 +75,7 @@ fn role(out: &mut String, role: &Role) {
     }
 }
 
-fn entry(out: &mut String, entry: &LogEntry) {
+pub fn entry(out: &mut String, entry: &LogEntry) {
     let what = match &entry.op {
         WriteOp::Upsert { id, vector } => format!("put {id}{}", floats(vector)),
         WriteOp::Delete { id } => format!("delete {id}"),

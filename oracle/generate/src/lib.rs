@@ -5,6 +5,7 @@ pub mod coverage;
 pub mod damage;
 pub mod dome;
 pub mod floats;
+pub mod histories;
 pub mod lists;
 pub mod maps;
 pub mod patterns;

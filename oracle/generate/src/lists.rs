@@ -1,7 +1,7 @@
 //! The stored lists: what each is made of, with its seed.
 
 use crate::stream::{Stream, Tally};
-use crate::{damage, dome, maps, patterns, rng::Rng, scripts, searches};
+use crate::{damage, dome, histories, maps, patterns, rng::Rng, scripts, searches};
 
 /// One stored input with its answers.
 pub struct List {
@@ -17,6 +17,7 @@ pub struct List {
 pub fn all() -> Vec<List> {
     let mut all = applymap();
     all.extend(search());
+    all.extend(history());
     all.extend(decode());
     all.extend(replay());
     all.extend(float_patterns());
@@ -118,6 +119,24 @@ fn search() -> Vec<List> {
         list("search", "chosen", searches::chosen().concat(), run),
         list("search", "random", random, run),
     ]
+}
+
+fn history() -> Vec<List> {
+    let from = |name: &str, made: histories::Made| {
+        let input = made.records.concat();
+        list("history", name, input, front::history::run)
+    };
+    let mut all = vec![
+        from("chosen", histories::chosen()),
+        from("full", histories::full()),
+    ];
+    for seed in 1..=3 {
+        all.push(from(
+            &format!("random-{seed}"),
+            histories::random(seed, 120),
+        ));
+    }
+    all
 }
 
 fn decode() -> Vec<List> {

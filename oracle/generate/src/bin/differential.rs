@@ -11,7 +11,7 @@ use std::time::{Duration, Instant};
 
 use front::replay::Record;
 use generate::rng::Rng;
-use generate::{damage, dome, maps, searches, stream};
+use generate::{damage, dome, histories, maps, searches, stream};
 
 /// A program of which both sides have one.
 struct Program {
@@ -23,7 +23,7 @@ struct Program {
     describe: fn(&[u8]) -> String,
 }
 
-const PROGRAMS: [Program; 7] = [
+const PROGRAMS: [Program; 8] = [
     Program {
         name: "replay",
         variable: "ENGINE_REPLAY",
@@ -47,6 +47,14 @@ const PROGRAMS: [Program; 7] = [
         oracle: front::search::run,
         fresh: fresh_search,
         describe: |_| String::new(),
+    },
+    Program {
+        name: "history",
+        variable: "ENGINE_HISTORY",
+        default: "target/host/history",
+        oracle: front::history::run,
+        fresh: |rng| histories::random(rng.next(), 60 + rng.below(300)).records,
+        describe: |record| format!("call {}", record[0]),
     },
     Program {
         name: "decode",
