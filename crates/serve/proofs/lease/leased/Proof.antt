@@ -19,7 +19,7 @@ returns : tie.Need-returns
 returns c = search needs
 
 returns-2 : tie.Need-returns-2
-returns-2 c = rw (c .before .e .given .1)
+returns-2 c = rw (c .before .e .given .1) refl
 
 pub leased-spec : {M : Type 1} → statement M
 leased-spec = tie.close (tie.spec enum-told enum-known-e returns returns-2)

@@ -33,7 +33,7 @@ add-t6 : tie.Need-add-t6
 add-t6 c = search needs
 
 returns-3 : tie.Need-returns-3
-returns-3 c = let e : min 256 (c .before .before .args .last - c .before .before .args .acked) ≡ 256 = omega arith in rw (lt-leb _ _ (c .before .if1 .left), e)
+returns-3 c = let e : min 256 (c .before .before .args .last - c .before .before .args .acked) ≡ 256 = omega arith in rw (lt-leb _ _ (c .before .if1 .left), e) refl
 
 pub sends-spec : {M : Type 1} → statement M
 sends-spec = tie.close (tie.spec returns sub-rest add-t5 returns-2 add-t6 returns-3)
