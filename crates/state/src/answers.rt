@@ -12,7 +12,7 @@ use crate::Rejection;
 use crate::ShardKey;
 use crate::Verdict;
 
-// The key beside an answer that has none.
+// Internal: the key beside an answer that has none.
 pub fn no_key() -> ShardKey {
     let name = Name {
         bytes: [0u8; 32],
@@ -24,6 +24,7 @@ pub fn no_key() -> ShardKey {
     }
 }
 
+// Internal: 0.
 pub fn applied() -> Verdict
     ensures { λ v. ⌜ answerOf v ≡ accepts ⌝ }
 {
@@ -34,6 +35,7 @@ pub fn applied() -> Verdict
     }
 }
 
+// Internal: 1 to 16, with the key among the operands.
 pub fn rejected(r: Rejection, key: ShardKey) -> Verdict
     ensures { λ v. ⌜ answerOf v ≡ rejects (rejectionOf r (viewKey key)) ⌝ }
 {
@@ -43,6 +45,7 @@ pub fn rejected(r: Rejection, key: ShardKey) -> Verdict
     }
 }
 
+// Internal: 21 to 25, the number alone.
 pub fn refused(r: Refusal) -> Verdict
     ensures { λ v. ⌜ answerOf v ≡ tables.refused (refusalOf r) ⌝ }
 {
@@ -53,7 +56,7 @@ pub fn refused(r: Refusal) -> Verdict
     }
 }
 
-// Whether a command takes effect.
+// Internal: whether a command takes effect.
 pub fn is_applied(v: Verdict) -> bool
     ensures { λ r. ⌜ r ≡ isApplied (answerOf v) ⌝ }
 {

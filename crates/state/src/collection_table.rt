@@ -13,13 +13,14 @@ use crate::Name;
 use crate::names::name_below;
 use crate::names::same_name;
 
+// Internal: the order of the table.
 pub fn collection_below(a: CollectionRow, b: CollectionRow) -> bool
     ensures { λ r. ⌜ r ≡ collectionBelow (viewCollection a) (viewCollection b) ⌝ }
 {
     name_below(a.name, b.name)
 }
 
-// Where the row is, or the count.
+// Internal: where the row is, or the count.
 pub fn collection_at(t: Collections, name: Name) -> usize
     requires { ⌜ t .count ≤ 16 ⌝ }
     ensures { λ r. ⌜ r ≡ firstAt (isNamed (viewName name)) (viewCollections t) ⌝ }
@@ -36,7 +37,7 @@ pub fn collection_at(t: Collections, name: Name) -> usize
     i
 }
 
-// Where the row belongs: past all that stand below it.
+// Internal: where the row belongs: past all that stand below it.
 pub fn collection_place(t: Collections, x: CollectionRow) -> usize
     requires { ⌜ t .count ≤ 16 ⌝ }
     ensures { λ r. ⌜ r ≡ placeAt collectionBelow (viewCollection x) (viewCollections t) ⌝ }
@@ -53,7 +54,7 @@ pub fn collection_place(t: Collections, x: CollectionRow) -> usize
     i
 }
 
-// The row put in: in the place of one with its key, or with those after it moved up by one.
+// Internal: the row put in: in the place of one with its key, or with those after it moved up by one.
 pub fn collection_put(t: Collections, x: CollectionRow) -> Collections
     requires { ⌜ (t .count ≤ 16) × (length (put collectionBelow (viewCollection x) (viewCollections t)) ≤ 16) ⌝ }
     ensures { λ r. ⌜ (viewCollections r ≡ put collectionBelow (viewCollection x) (viewCollections t)) × (r .count ≤ 16) ⌝ }

@@ -13,6 +13,7 @@ use crate::InSync;
 use model::DataNodeId;
 use model::Replica;
 
+// Internal: whether the node holds a copy.
 pub fn has_holder(h: Holders, node: DataNodeId) -> bool
     requires { ⌜ h .count ≤ 8 ⌝ }
     ensures { λ r. ⌜ r ≡ holds (node .0) (viewHolders h) ⌝ }
@@ -29,6 +30,7 @@ pub fn has_holder(h: Holders, node: DataNodeId) -> bool
     false
 }
 
+// Internal: whether the node is in sync.
 pub fn has_synced(s: InSync, node: DataNodeId) -> bool
     requires { ⌜ s .count ≤ 8 ⌝ }
     ensures { λ r. ⌜ r ≡ inSync (node .0) (viewInSync s) ⌝ }
@@ -45,6 +47,7 @@ pub fn has_synced(s: InSync, node: DataNodeId) -> bool
     false
 }
 
+// Internal: one replica more, behind the others.
 pub fn holder_added(h: Holders, r: Replica) -> Holders
     requires { ⌜ h .count < 8 ⌝ }
     ensures { λ o. ⌜ (viewHolders o ≡ viewHolders h ++ (r ∷ [])) × (o .count ≡ h .count + 1) ⌝ }
@@ -58,7 +61,7 @@ pub fn holder_added(h: Holders, r: Replica) -> Holders
     }
 }
 
-// All replicas but those on the node.
+// Internal: all replicas but those on the node.
 pub fn holder_removed(h: Holders, node: DataNodeId) -> Holders
     requires { ⌜ h .count ≤ 8 ⌝ }
     ensures { λ o. ⌜ (viewHolders o ≡ filter (λ r. not (isOn (node .0) r)) (viewHolders h)) × (o .count ≤ 8) ⌝ }
@@ -84,6 +87,7 @@ pub fn holder_removed(h: Holders, node: DataNodeId) -> Holders
     }
 }
 
+// Internal: all in-sync ids but that one.
 pub fn synced_removed(s: InSync, node: DataNodeId) -> InSync
     requires { ⌜ s .count ≤ 8 ⌝ }
     ensures { λ o. ⌜ (viewInSync o ≡ without (node .0) (viewInSync s)) × (o .count ≤ 8) ⌝ }
@@ -109,7 +113,7 @@ pub fn synced_removed(s: InSync, node: DataNodeId) -> InSync
     }
 }
 
-// Where the id belongs: past all that stand below it.
+// Internal: where the id belongs: past all that stand below it.
 pub fn synced_place(s: InSync, node: DataNodeId) -> usize
     requires { ⌜ s .count ≤ 8 ⌝ }
     ensures { λ r. ⌜ r ≡ placeAt idBelow node (viewInSync s) ⌝ }
@@ -126,7 +130,7 @@ pub fn synced_place(s: InSync, node: DataNodeId) -> usize
     i
 }
 
-// The id put in, where it is not there yet with those after it moved up by one.
+// Internal: the id put in, where it is not there yet with those after it moved up by one.
 pub fn synced_added(s: InSync, node: DataNodeId) -> InSync
     requires { ⌜ (s .count ≤ 8) × (length (put idBelow node (viewInSync s)) ≤ 8) ⌝ }
     ensures { λ o. ⌜ (viewInSync o ≡ put idBelow node (viewInSync s)) × (o .count ≤ 8) ⌝ }

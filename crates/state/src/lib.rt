@@ -6,21 +6,13 @@ use model::Epoch;
 use model::Metric;
 use model::Replica;
 
-mod answers;
-mod collection_table;
-mod commit;
-mod create;
-mod decide;
-mod dropped;
-mod holders_of;
-mod names;
-mod node_table;
-mod of_shard;
-mod register;
-mod remember;
-mod row_change;
-mod session_table;
-mod shard_table;
+pub mod answers;
+pub mod collection_table;
+pub mod holders_of;
+pub mod names;
+pub mod node_table;
+pub mod session_table;
+pub mod shard_table;
 
 // A collection's name; bytes past `len` are free.
 pub struct Name {

@@ -7,13 +7,14 @@ ghost use Rattle.state.specs.Names.{viewName, viewKey};
 use crate::Name;
 use crate::ShardKey;
 
-// How many bytes a name has.
+// Internal: how many bytes a name has.
 pub fn name_size(n: Name) -> usize
     ensures { λ r. ⌜ (r ≡ length (viewName n)) × (r ≤ 32) ⌝ }
 {
     if n.len < 32 { n.len } else { 32 }
 }
 
+// Internal: whether two names agree.
 pub fn same_name(a: Name, b: Name) -> bool
     ensures { λ r. ⌜ r ≡ sameName (viewName a) (viewName b) ⌝ }
 {
@@ -34,7 +35,7 @@ pub fn same_name(a: Name, b: Name) -> bool
     true
 }
 
-// Byte by byte; of two names that agree the shorter stands first.
+// Internal: byte by byte; of two names that agree the shorter stands first.
 pub fn name_below(a: Name, b: Name) -> bool
     ensures { λ r. ⌜ r ≡ nameBelow (viewName a) (viewName b) ⌝ }
 {
@@ -58,6 +59,7 @@ pub fn name_below(a: Name, b: Name) -> bool
     if n < m { true } else { false }
 }
 
+// Internal: whether two keys agree.
 pub fn same_key(a: ShardKey, b: ShardKey) -> bool
     ensures { λ r. ⌜ r ≡ sameKey (viewKey a) (viewKey b) ⌝ }
 {
@@ -67,6 +69,7 @@ pub fn same_key(a: ShardKey, b: ShardKey) -> bool
     same_name(a.collection, b.collection)
 }
 
+// Internal: by collection, then by number.
 pub fn key_below(a: ShardKey, b: ShardKey) -> bool
     ensures { λ r. ⌜ r ≡ keyBelow (viewKey a) (viewKey b) ⌝ }
 {

@@ -11,13 +11,14 @@ use crate::NodeRow;
 use crate::Nodes;
 use model::DataNodeId;
 
+// Internal: the order of the table.
 pub fn node_below(a: NodeRow, b: NodeRow) -> bool
     ensures { λ r. ⌜ r ≡ nodeBelow (viewNode a) (viewNode b) ⌝ }
 {
     a.node.0 < b.node.0
 }
 
-// Where the row is, or the count.
+// Internal: where the row is, or the count.
 pub fn node_at(t: Nodes, node: DataNodeId) -> usize
     requires { ⌜ t .count ≤ 32 ⌝ }
     ensures { λ r. ⌜ r ≡ firstAt (isNode (node .0)) (viewNodes t) ⌝ }
@@ -34,7 +35,7 @@ pub fn node_at(t: Nodes, node: DataNodeId) -> usize
     i
 }
 
-// Where the row belongs: past all that stand below it.
+// Internal: where the row belongs: past all that stand below it.
 pub fn node_place(t: Nodes, x: NodeRow) -> usize
     requires { ⌜ t .count ≤ 32 ⌝ }
     ensures { λ r. ⌜ r ≡ placeAt nodeBelow (viewNode x) (viewNodes t) ⌝ }
@@ -51,7 +52,7 @@ pub fn node_place(t: Nodes, x: NodeRow) -> usize
     i
 }
 
-// The row put in: in the place of one with its key, or with those after it moved up by one.
+// Internal: the row put in: in the place of one with its key, or with those after it moved up by one.
 pub fn node_put(t: Nodes, x: NodeRow) -> Nodes
     requires { ⌜ (t .count ≤ 32) × (length (put nodeBelow (viewNode x) (viewNodes t)) ≤ 32) ⌝ }
     ensures { λ r. ⌜ (viewNodes r ≡ put nodeBelow (viewNode x) (viewNodes t)) × (r .count ≤ 32) ⌝ }

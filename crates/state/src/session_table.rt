@@ -9,13 +9,14 @@ ghost use Rattle.state.specs.View.{viewSessions, viewSession};
 use crate::SessionRow;
 use crate::Sessions;
 
+// Internal: the order of the table.
 pub fn session_below(a: SessionRow, b: SessionRow) -> bool
     ensures { λ r. ⌜ r ≡ sessionBelow (viewSession a) (viewSession b) ⌝ }
 {
     a.client < b.client
 }
 
-// Where the row is, or the count.
+// Internal: where the row is, or the count.
 pub fn session_at(t: Sessions, client: u64) -> usize
     requires { ⌜ t .count ≤ 64 ⌝ }
     ensures { λ r. ⌜ r ≡ firstAt (isClient client) (viewSessions t) ⌝ }
@@ -32,7 +33,7 @@ pub fn session_at(t: Sessions, client: u64) -> usize
     i
 }
 
-// Where the row belongs: past all that stand below it.
+// Internal: where the row belongs: past all that stand below it.
 pub fn session_place(t: Sessions, x: SessionRow) -> usize
     requires { ⌜ t .count ≤ 64 ⌝ }
     ensures { λ r. ⌜ r ≡ placeAt sessionBelow (viewSession x) (viewSessions t) ⌝ }
@@ -49,7 +50,7 @@ pub fn session_place(t: Sessions, x: SessionRow) -> usize
     i
 }
 
-// The row put in: in the place of one with its key, or with those after it moved up by one.
+// Internal: the row put in: in the place of one with its key, or with those after it moved up by one.
 pub fn session_put(t: Sessions, x: SessionRow) -> Sessions
     requires { ⌜ (t .count ≤ 64) × (length (put sessionBelow (viewSession x) (viewSessions t)) ≤ 64) ⌝ }
     ensures { λ r. ⌜ (viewSessions r ≡ put sessionBelow (viewSession x) (viewSessions t)) × (r .count ≤ 64) ⌝ }

@@ -14,13 +14,14 @@ use crate::Shards;
 use crate::names::key_below;
 use crate::names::same_key;
 
+// Internal: the order of the table.
 pub fn shard_below(a: ShardRow, b: ShardRow) -> bool
     ensures { λ r. ⌜ r ≡ shardBelow (viewShard a) (viewShard b) ⌝ }
 {
     key_below(a.key, b.key)
 }
 
-// Where the row is, or the count.
+// Internal: where the row is, or the count.
 pub fn shard_at(t: Shards, key: ShardKey) -> usize
     requires { ⌜ t .count ≤ 64 ⌝ }
     ensures { λ r. ⌜ r ≡ firstAt (isShard (viewKey key)) (viewShards t) ⌝ }
@@ -37,7 +38,7 @@ pub fn shard_at(t: Shards, key: ShardKey) -> usize
     i
 }
 
-// Where the row belongs: past all that stand below it.
+// Internal: where the row belongs: past all that stand below it.
 pub fn shard_place(t: Shards, x: ShardRow) -> usize
     requires { ⌜ t .count ≤ 64 ⌝ }
     ensures { λ r. ⌜ r ≡ placeAt shardBelow (viewShard x) (viewShards t) ⌝ }
@@ -54,7 +55,7 @@ pub fn shard_place(t: Shards, x: ShardRow) -> usize
     i
 }
 
-// The row put in: in the place of one with its key, or with those after it moved up by one.
+// Internal: the row put in: in the place of one with its key, or with those after it moved up by one.
 pub fn shard_put(t: Shards, x: ShardRow) -> Shards
     requires { ⌜ (t .count ≤ 64) × (length (put shardBelow (viewShard x) (viewShards t)) ≤ 64) ⌝ }
     ensures { λ r. ⌜ (viewShards r ≡ put shardBelow (viewShard x) (viewShards t)) × (r .count ≤ 64) ⌝ }

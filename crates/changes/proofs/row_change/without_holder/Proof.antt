@@ -1,0 +1,30 @@
+use borrow.Author.Needs.{needs}
+use native.Mathlib.Omega.{arith}
+use mathlib.Core.Path.{_≡_, refl, sym, _∙_, ap}
+use mathlib.Core.List.{List, [], _∷_, _++_}
+use Prim.Native.Nat.{ℕ, _+_, _-_, _*_, _≤_, _<_}
+use lib.ListN.{length, getD, take, drop, set}
+use Rattle.model.specs.Map.Change.{decideChange, changed, holds, inSync, isPrimary, without, deposed}
+use borrow.Author.Tests.{eq-eqb, ne-eqb, le-leb, lt-leb}
+use mathlib.Core.Bool.{true, false}
+use Rattle.state.specs.View.{viewPrimary, viewInSync}
+use Rattle.state.specs.declared.Primary.{Primary}
+use Rattle.changes.proofs.row_change.without_holder.Statement.{statement}
+use Rattle.changes.proofs.row_change.without_holder.Tie as tie
+use Rattle.changes.proofs.row_change.without_holder.Reads as reads
+use Rattle.changes.proofs.row_change.without_holder.Lts as lts
+use Rattle.state.proofs.holders_of.holder_removed.Reads as holder-removed-reads
+use Rattle.state.proofs.holders_of.synced_removed.Reads as synced-removed-reads
+
+holder-removed-requires : tie.Need-holder-removed-requires
+holder-removed-requires c κs = search needs
+
+synced-removed-requires : tie.Need-synced-removed-requires
+synced-removed-requires c κs = search needs
+
+returns : tie.Need-returns
+unfolding changed
+returns c = rw (c .before .holder-removed .ensures .0, c .synced-removed .ensures .0)
+
+pub without-holder-spec : {M : Type 1} → statement M
+without-holder-spec = tie.close (tie.spec holder-removed-requires synced-removed-requires returns)

@@ -1,0 +1,3 @@
+pub mod OfWalk
+pub mod OfCommand
+pub mod OfCreate

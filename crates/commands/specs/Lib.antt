@@ -1,0 +1,4 @@
+pub mod Walk
+pub mod Grown
+pub mod Decided
+pub mod Committed
