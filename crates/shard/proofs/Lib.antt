@@ -14,11 +14,6 @@ pub mod Arrived
 pub mod Rebuilt
 pub mod Aligning
 pub mod Adopting
-pub mod Hits
-pub mod Placing
-pub mod Searching
 pub mod Checking
 pub mod Fitting
 pub mod Ends
-pub mod Writing
-pub mod Query

@@ -2,4 +2,3 @@ pub mod View
 pub mod Table
 pub mod Store
 pub mod Align
-pub mod Search

@@ -3,7 +3,6 @@
 mod align;
 mod check;
 mod log;
-mod nearest;
 pub mod replica;
 mod table;
 

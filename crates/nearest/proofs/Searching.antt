@@ -24,11 +24,11 @@ use Rattle.model.proofs.Lists.{and-left, and-right}
 use Rattle.model.proofs.Map.Rows.{every-tail}
 use Rattle.model.proofs.Nearest.Tests.{holds, is-true}
 use Rattle.model.proofs.Nearest.Search.{Rises, hits-first, First}
 use Rattle.shard.specs.Table.{Row, rowsOf, vectorOf, vectorsOf}
 use Rattle.shard.proofs.Rows.{rows-length, rows-at, no-row}
 use Rattle.shard.proofs.Bits.{every-at}
-use Rattle.shard.proofs.Hits.{number, insert-take, insert-length, every-insert}
-use Rattle.shard.proofs.Placing.{Placing}
+use Rattle.nearest.proofs.Hits.{number, insert-take, insert-length, every-insert}
+use Rattle.nearest.proofs.Placing.{Placing}
 
 -- ---- stored vectors lie in the domain
 

@@ -1,4 +1,4 @@
--- `shard::nearest::write_hits` meets its contract. Assumes nothing.
+-- `nearest::answer::write_hits` meets its contract. Assumes nothing.
 use borrow.Author.Needs.{needs}
 use native.Mathlib.Omega.{arith}
 use mathlib.Core.Path.{_≡_, refl, _∙_, ap}
@@ -8,11 +8,11 @@ use lib.ListN.{length, getD, take, drop, set}
 use mathlib.Core.List.{map}
 use lib.Ieee.{Float, nan}
 use lib.ListN.{length-set}
-use Rattle.shard.proofs.Writing.{write-next}
-use Rattle.shard.specs.Search.{idOf, distanceOf}
+use Rattle.nearest.proofs.Writing.{write-next}
+use Rattle.nearest.specs.Search.{idOf, distanceOf}
 use Rattle.model.specs.declared.Neighbor.{Neighbor}
-use Rattle.shard.proofs.nearest.write_hits.Statement.{statement}
-use Rattle.shard.proofs.nearest.write_hits.Tie as tie
+use Rattle.nearest.proofs.answer.write_hits.Statement.{statement}
+use Rattle.nearest.proofs.answer.write_hits.Tie as tie
 
 abbrev Inv-loop : tie.InvT-loop
 Inv-loop found₀ distances₀ h n i₀ found distances i =

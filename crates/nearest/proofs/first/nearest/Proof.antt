@@ -1,4 +1,4 @@
--- `shard::nearest::nearest` meets its contract. Assumes nothing.
+-- `nearest::first::nearest` meets its contract. Assumes nothing.
 use borrow.Author.Needs.{needs}
 use native.Mathlib.Omega.{arith}
 use mathlib.Core.Path.{_≡_, refl, sym, _∙_, ap}
@@ -11,13 +11,13 @@ use mathlib.Core.Logic.{_⊎_, inl, inr, ⊎-elim}
 use lib.Ieee.{Float, nan}
 use lib.ListN.{length-set}
 use Rattle.model.specs.Nearest.Search.{neighbor, nearer}
 use Rattle.shard.proofs.Facts.{facts, keys-fit, places-fit}
 use Rattle.model.specs.Nearest.Distance.{Bounded}
-use Rattle.shard.proofs.Searching.{Kept, kept-none, kept-length, kept-rises, kept-number, kept-more, kept-full, kept-all, look-bounded}
-use Rattle.shard.proofs.Placing.{Placing, placing-start, placing-on, placing-done}
+use Rattle.nearest.proofs.Searching.{Kept, kept-none, kept-length, kept-rises, kept-number, kept-more, kept-full, kept-all, look-bounded}
+use Rattle.nearest.proofs.Placing.{Placing, placing-start, placing-on, placing-done}
 use Rattle.shard.specs.View.{columns, logOf}
-use Rattle.shard.proofs.nearest.nearest.Statement.{statement}
-use Rattle.shard.proofs.nearest.nearest.Tie as tie
+use Rattle.nearest.proofs.first.nearest.Statement.{statement}
+use Rattle.nearest.proofs.first.nearest.Tie as tie
 use Rattle.ieee.proofs.order.nearer.Reads as nearer-reads
 use Rattle.ieee.proofs.sums.distance.Reads as distance-reads
 use Rattle.ieee.proofs.sums.norm.Reads as norm-reads

@@ -13,10 +13,10 @@ use Rattle.model.specs.Node.WellFormed.{wellFormedVector}
 use Rattle.model.specs.Node.Client.{SearchAnswer, found, searchRefused}
 use Rattle.model.specs.declared.Metric.{Metric}
 use Rattle.model.specs.declared.Neighbor.{Neighbor}
 use Rattle.shard.specs.Table.{vectorsOf}
 use Rattle.shard.specs.Store.{Store, storeLog, storeRows, wellFormedStore}
-use Rattle.shard.specs.declared.nearest.Found.{Found}
-use Rattle.shard.specs.declared.nearest.Found.the-variants.{Hits, Refused}
+use Rattle.nearest.specs.declared.answer.Found.{Found}
+use Rattle.nearest.specs.declared.answer.Found.the-variants.{Hits, Refused}
 
 abbrev pub idOf : Neighbor → ℕ
 idOf x = x .id

@@ -6,16 +6,13 @@ use model::Neighbor;
 use model::Offset;
 ghost use mathlib.Core.Path.{_≡_};
 ghost use mathlib.Core.Bool.{true};
-ghost use Prim.Native.Nat.{ℕ, _≤_, _<_, min};
-ghost use Rattle.model.specs.Node.WellFormed.{wellFormedVector};
-ghost use mathlib.Core.List.{_++_, map};
-ghost use lib.ListN.{length, take, drop};
-ghost use Rattle.shard.specs.Search.{idOf, distanceOf};
+ghost use Prim.Native.Nat.{_≤_};
+ghost use lib.ListN.{length, take};
 ghost use Rattle.model.specs.Nearest.Distance.{Bounded};
 ghost use Rattle.model.specs.Nearest.Search.{hits};
 ghost use Rattle.shard.specs.View.{columns};
 ghost use Rattle.shard.specs.Table.{rowsOf, vectorsOf};
-ghost use Rattle.shard.specs.Store.{lent, storeLog, storeRows, Sized, wellFormedStore};
+ghost use Rattle.shard.specs.Store.{lent, storeLog, Sized, wellFormedStore};
 
 // The first `count` of `items` are hits, nearest first; the others are free.
 pub struct Hits {
@@ -57,7 +54,7 @@ pub fn nearest(
     let mut i: usize = stored;
     while 0 < i {
         i -= 1;
-        let vector = super::components(codes, lengths, floats, count, Offset(places[i]));
+        let vector = shard::components(codes, lengths, floats, count, Offset(places[i]));
         let x = ieee::sums::distance(keys[i], metric, query, qnorm, vector);
         let mut j = n;
         while 0 < j && ieee::order::nearer(x, items[j - 1]) {
@@ -73,49 +70,4 @@ pub fn nearest(
         items: items,
         count: n,
     }
-}
-
-// What a search found: how many neighbours, or the number of its refusal.
-pub enum Found {
-    Hits(usize),
-    Refused(u8),
-}
-
-// Internal: the hits written into two lent columns; what lies past them stays as it was.
-pub fn write_hits(h: Hits, found: &mut [u64], distances: &mut [f32])
-    requires { ⌜ (h .count ≤ 1024) × (length (h .items) ≡ 1025) × (h .count ≤ length (now found)) × (h .count ≤ length (now distances)) ⌝ }
-    ensures { λ _. ⌜ (now (found .exit) ≡ map idOf (take (h .count) (h .items)) ++ drop (h .count) (now (found .entry)))
-        × (now (distances .exit) ≡ map distanceOf (take (h .count) (h .items)) ++ drop (h .count) (now (distances .entry))) ⌝ }
-{
-    let n = h.count;
-    let mut i: usize = 0;
-    while i < n {
-        let x = h.items[i];
-        found[i] = x.id;
-        distances[i] = x.distance;
-        i += 1;
-    }
-}
-
-// Internal: the lesser of two numbers.
-pub fn least(a: usize, b: usize) -> usize
-    ensures { λ r. ⌜ r ≡ min a b ⌝ }
-{
-    if a < b {
-        return a;
-    }
-    b
-}
-
-// Internal: whether a query has 1 to 32 floats in the domain (22 if not).
-pub fn query_fits(query: &[f32]) -> bool
-    ensures { λ r. ⌜ r ≡ wellFormedVector (now (query .entry)) ⌝ }
-{
-    if query.len() == 0 {
-        return false;
-    }
-    if 32 < query.len() {
-        return false;
-    }
-    super::check::all_in_domain(query)
 }

@@ -1,0 +1,5 @@
+pub mod Hits
+pub mod Placing
+pub mod Searching
+pub mod Writing
+pub mod Asked
