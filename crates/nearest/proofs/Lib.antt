@@ -3,3 +3,4 @@ pub mod Placing
 pub mod Searching
 pub mod Writing
 pub mod Asked
+pub mod Answered

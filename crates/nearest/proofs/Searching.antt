@@ -42,7 +42,7 @@ domain-all (x ∷ xs) e =
     both : (a b : Bool) → a ≡ true → T b → T (mathlib.Core.Bool._&&_ a b)
     both a b e t = subst (λ (v : Bool). T (mathlib.Core.Bool._&&_ v b)) (sym e) t
 
-vector-bounded : (xs : List Float) → wellFormedVector xs ≡ true → Bounded xs
+pub vector-bounded : (xs : List Float) → wellFormedVector xs ≡ true → Bounded xs
 unfolding wellFormedVector
 vector-bounded xs e =
     let a = and-right (leb 1 (length xs)) (leb (length xs) 32 and every component xs) e in (
