@@ -44,7 +44,7 @@ pub fn decide_change(s: ShardRow, c: Change) -> Verdict
 // Internal: the shard after a change that it takes.
 pub fn changed_row(s: ShardRow, c: Change) -> ShardRow
     requires { ⌜ Takes s c ⌝ }
-    ensures { λ r. ⌜ viewShard r ≡ changed (viewShard s) (changeOf c) ⌝ }
+    ensures { λ r. ⌜ (viewShard r ≡ changed (viewShard s) (changeOf c)) × (Sized r) ⌝ }
 {
     match c {
         Change::Add(node, incarnation) => with_holder(s, node, incarnation),
@@ -76,7 +76,7 @@ pub fn shard_answer(t: Shards, key: ShardKey, epoch: Epoch, c: Change) -> Verdic
 // Internal: the shard's row changed, if there is one.
 pub fn shard_changed(t: Shards, key: ShardKey, c: Change) -> Shards
     requires { ⌜ ChangeTaken t key c ⌝ }
-    ensures { λ r. ⌜ (viewShards r ≡ update (isShard (viewKey key)) (λ s. changed s (changeOf c)) (viewShards t)) × (r .count ≤ 64) ⌝ }
+    ensures { λ r. ⌜ (viewShards r ≡ update (isShard (viewKey key)) (λ s. changed s (changeOf c)) (viewShards t)) × (ShardsCounted r) ⌝ }
 {
     let count = t.count;
     let at = shard_at(t, key);

@@ -118,7 +118,7 @@ pub fn expand_answer(s: ShardRow, node: DataNodeId) -> Verdict
 // Internal: Add.
 pub fn with_holder(s: ShardRow, node: DataNodeId, incarnation: u64) -> ShardRow
     requires { ⌜ s .replicas .count < 8 ⌝ }
-    ensures { λ r. ⌜ viewShard r ≡ change.changed (viewShard s) (change.add (node .0) incarnation) ⌝ }
+    ensures { λ r. ⌜ (viewShard r ≡ change.changed (viewShard s) (change.add (node .0) incarnation)) × (Sized s → Sized r) ⌝ }
 {
     let grown = holder_added(
         s.replicas,
@@ -135,7 +135,7 @@ pub fn with_holder(s: ShardRow, node: DataNodeId, incarnation: u64) -> ShardRow
 // Internal: 'Near misses': what is removed leaves the in-sync set as well.
 pub fn without_holder(s: ShardRow, node: DataNodeId) -> ShardRow
     requires { ⌜ Sized s ⌝ }
-    ensures { λ r. ⌜ viewShard r ≡ change.changed (viewShard s) (change.remove (node .0)) ⌝ }
+    ensures { λ r. ⌜ (viewShard r ≡ change.changed (viewShard s) (change.remove (node .0))) × (Sized r) ⌝ }
 {
     let kept = holder_removed(s.replicas, node);
     let left = synced_removed(s.insync, node);
@@ -148,7 +148,7 @@ pub fn without_holder(s: ShardRow, node: DataNodeId) -> ShardRow
 // Internal: another node that was primary leaves the in-sync set.
 pub fn deposed(p: Primary, s: InSync, node: DataNodeId) -> InSync
     requires { ⌜ s .count ≤ 8 ⌝ }
-    ensures { λ r. ⌜ viewInSync r ≡ change.deposed (node .0) (viewPrimary p) (viewInSync s) ⌝ }
+    ensures { λ r. ⌜ (viewInSync r ≡ change.deposed (node .0) (viewPrimary p) (viewInSync s)) × (r .count ≤ 8) ⌝ }
 {
     match p {
         Primary::Nobody => s,
@@ -164,7 +164,7 @@ pub fn deposed(p: Primary, s: InSync, node: DataNodeId) -> InSync
 // Internal: Promote: one epoch on.
 pub fn with_primary(s: ShardRow, node: DataNodeId) -> ShardRow
     requires { ⌜ (Sized s) × (s .epoch .0 ≡ 18446744073709551615 → ⊥) ⌝ }
-    ensures { λ r. ⌜ viewShard r ≡ change.changed (viewShard s) (change.promote (node .0)) ⌝ }
+    ensures { λ r. ⌜ (viewShard r ≡ change.changed (viewShard s) (change.promote (node .0))) × (Sized r) ⌝ }
 {
     let p = s.primary;
     let synced = deposed(p, s.insync, node);
@@ -183,7 +183,7 @@ pub fn with_primary(s: ShardRow, node: DataNodeId) -> ShardRow
 // Internal: Shrink.
 pub fn without_synced(s: ShardRow, node: DataNodeId) -> ShardRow
     requires { ⌜ Sized s ⌝ }
-    ensures { λ r. ⌜ viewShard r ≡ change.changed (viewShard s) (change.shrink (node .0)) ⌝ }
+    ensures { λ r. ⌜ (viewShard r ≡ change.changed (viewShard s) (change.shrink (node .0))) × (Sized r) ⌝ }
 {
     let synced = synced_removed(s.insync, node);
     let mut out = s;
@@ -194,7 +194,7 @@ pub fn without_synced(s: ShardRow, node: DataNodeId) -> ShardRow
 // Internal: Expand.
 pub fn with_synced(s: ShardRow, node: DataNodeId) -> ShardRow
     requires { ⌜ (Sized s) × (length (put change.idBelow node (viewInSync (s .insync))) ≤ 8) ⌝ }
-    ensures { λ r. ⌜ viewShard r ≡ change.changed (viewShard s) (change.expand (node .0)) ⌝ }
+    ensures { λ r. ⌜ (viewShard r ≡ change.changed (viewShard s) (change.expand (node .0))) × (Sized r) ⌝ }
 {
     let synced = synced_added(s.insync, node);
     let mut out = s;

@@ -26,6 +26,7 @@ pub record Committable (m : ShardMap) (r : Request) (c : Command) : Type 0 where
   pub within : (bs : List ℕ) → commandFits (commandWith r c bs) ≡ true
   pub taken : (bs : List ℕ) → decide (viewMap m) (commandWith r c bs) ≡ accepts
 
--- the map is that of the definition
+-- the map is that of the definition, and its counts are within their limits
 pub record Committed (m : ShardMap) (r : Request) (c : Command) (o : ShardMap) : Type 0 where
   pub map : (bs : List ℕ) → viewMap o ≡ commit (viewMap m) (commandWith r c bs)
+  pub counted : TablesCounted o

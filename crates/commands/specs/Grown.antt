@@ -5,6 +5,7 @@ use mathlib.Core.Bool.{Bool, true, false, cond}
 use mathlib.Core.List.{List}
 use lib.ListN.{length}
 use Rattle.model.specs.Map.Tables as tables
+use Rattle.state.specs.Counted.{ShardsCounted}
 use Rattle.state.specs.View.{viewShards}
 use Rattle.state.specs.declared.Grown.{Grown}
 
@@ -12,4 +13,4 @@ use Rattle.state.specs.declared.Grown.{Grown}
 pub record GrownAs (wanted : List tables.ShardInfo) (r : Grown) : Type 0 where
   pub full : r .full ≡ true → 64 < length wanted
   pub fits : r .full ≡ false → (viewShards (r .shards) ≡ wanted) × (length wanted ≤ 64)
-  pub count : r .shards .count ≤ 64
+  pub counted : ShardsCounted (r .shards)

@@ -7,7 +7,7 @@ ghost use lib.Dec.{leb};
 ghost use Rattle.model.specs.Lists.{every, nth, put};
 ghost use Rattle.model.specs.Map.Create.{zeroIn, listMatches, nodeAt, isAlive, incarnationOf, firstNotAlive, createAnswer, addAll, replicaOf, newShard, shardBelow, withShards};
 ghost use Rattle.state.specs.Names.{viewName};
-ghost use Rattle.state.specs.Counted.{TablesCounted};
+ghost use Rattle.state.specs.Counted.{Sized, ShardsCounted, TablesCounted};
 ghost use Rattle.commands.specs.Grown.{GrownAs};
 ghost use Rattle.state.specs.View.{viewNodes, viewSpec, viewList, viewPlacement, viewHolders, viewInSync, viewPrimary, viewShard, viewShards, viewMap, answerOf};
 ghost use Rattle.commands.specs.Walk.{walkedOf};
@@ -142,7 +142,7 @@ pub fn incarnation_of(t: Nodes, node: DataNodeId) -> u64
 // Internal: the replicas of a new shard, in the order of its list.
 pub fn listed_holders(t: Nodes, list: NodeList) -> Holders
     requires { ⌜ t .count ≤ 32 ⌝ }
-    ensures { λ r. ⌜ viewHolders r ≡ map (replicaOf (viewNodes t)) (viewList list) ⌝ }
+    ensures { λ r. ⌜ (viewHolders r ≡ map (replicaOf (viewNodes t)) (viewList list)) × (r .count ≤ 8) ⌝ }
 {
     let n = list_size(list);
     let none = Replica {
@@ -172,7 +172,7 @@ pub fn listed_holders(t: Nodes, list: NodeList) -> Holders
 
 // Internal: the in-sync set of a new shard: a repeated node is in it once.
 pub fn listed_synced(list: NodeList) -> InSync
-    ensures { λ r. ⌜ viewInSync r ≡ addAll [] (viewList list) ⌝ }
+    ensures { λ r. ⌜ (viewInSync r ≡ addAll [] (viewList list)) × (r .count ≤ 8) ⌝ }
 {
     let n = list_size(list);
     let mut out = InSync {
@@ -204,7 +204,7 @@ pub fn first_of(list: NodeList) -> Primary
 // Internal: one shard of a new collection.
 pub fn new_shard(t: Nodes, name: Name, number: u32, list: NodeList) -> ShardRow
     requires { ⌜ t .count ≤ 32 ⌝ }
-    ensures { λ r. ⌜ viewShard r ≡ newShard (viewNodes t) (viewName name) number (viewList list) ⌝ }
+    ensures { λ r. ⌜ (viewShard r ≡ newShard (viewNodes t) (viewName name) number (viewList list)) × (Sized r) ⌝ }
 {
     let replicas = listed_holders(t, list);
     let insync = listed_synced(list);
@@ -239,7 +239,7 @@ pub fn shard_fits(t: Shards, x: ShardRow) -> bool
 
 // Internal: the shards of a placement put in, as far as there is room.
 pub fn with_shards(ss: Shards, t: Nodes, name: Name, p: Placement) -> Grown
-    requires { ⌜ (ss .count ≤ 64) × (t .count ≤ 32) × (p .count ≤ 16) ⌝ }
+    requires { ⌜ (ShardsCounted ss) × (t .count ≤ 32) × (p .count ≤ 16) ⌝ }
     ensures { λ r. ⌜ GrownAs (withShards (viewShards ss) (viewNodes t) (viewName name) 0 (viewPlacement p)) r ⌝ }
 {
     let count = p.count;

@@ -1,10 +1,11 @@
 // Internal: Drop, the tables without one collection.
 ghost use mathlib.Core.Path.{_≡_};
-ghost use mathlib.Core.Bool.{not};
+ghost use mathlib.Core.Bool.{not, true};
 ghost use Prim.Native.Nat.{_≤_};
 ghost use Rattle.model.specs.Lists.{filter};
 ghost use Rattle.model.specs.Keys.{sameName};
 ghost use Rattle.state.specs.Names.{viewName};
+ghost use Rattle.state.specs.Counted.{rowsCounted};
 ghost use Rattle.state.specs.View.{viewCollections, viewShards};
 use state::Collections;
 use state::Name;
@@ -40,7 +41,7 @@ pub fn collections_without(t: Collections, name: Name) -> Collections
 // Internal: the shards but those of that collection.
 pub fn shards_without(t: Shards, name: Name) -> Shards
     requires { ⌜ t .count ≤ 64 ⌝ }
-    ensures { λ o. ⌜ (viewShards o ≡ filter (λ s. not (sameName (s .key .collection) (viewName name))) (viewShards t)) × (o .count ≤ 64) ⌝ }
+    ensures { λ o. ⌜ (viewShards o ≡ filter (λ s. not (sameName (s .key .collection) (viewName name))) (viewShards t)) × (o .count ≤ 64) × (rowsCounted t ≡ true → rowsCounted o ≡ true) ⌝ }
 {
     let count = t.count;
     let xs = t.items;

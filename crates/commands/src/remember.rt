@@ -8,6 +8,7 @@ ghost use Rattle.model.specs.Lists.{put};
 ghost use Rattle.model.specs.Map.Apply as model;
 ghost use Rattle.state.specs.Names.{viewKey};
 ghost use Rattle.commands.specs.Committed.{commandWith};
+ghost use Rattle.state.specs.Counted.{TablesCounted};
 ghost use Rattle.state.specs.View.{outcomeOf, viewMap, viewRequest, viewSessions, sessionOf};
 use state::Command;
 use state::Outcome;
@@ -36,7 +37,7 @@ pub fn next_version(r: Request, version: u64) -> u64
 // Internal: the outcome of the request is remembered of its client.
 pub fn with_session(m: ShardMap, r: Request, o: Outcome, key: ShardKey, version: u64) -> ShardMap
     requires { ⌜ (m .sessions .count ≤ 64) × (length (put model.sessionBelow (sessionOf r o key) (viewSessions (m .sessions))) ≤ 64) ⌝ }
-    ensures { λ n. ⌜ viewMap n ≡ model.remembered (viewMap m) (viewRequest r []) (outcomeOf o (viewKey key)) version ⌝ }
+    ensures { λ n. ⌜ (viewMap n ≡ model.remembered (viewMap m) (viewRequest r []) (outcomeOf o (viewKey key)) version) × (TablesCounted m → TablesCounted n) ⌝ }
 {
     let client = r.client;
     let seq = r.seq;

@@ -1,3 +1,4 @@
 pub mod OfNames
 pub mod Tables
 pub mod Defaults
+pub mod Rows

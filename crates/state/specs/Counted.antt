@@ -17,10 +17,14 @@ pub record Sized (s : ShardRow) : Type 0 where
 abbrev pub rowCounted : ShardRow → Bool
 rowCounted s = leb (s .replicas .count) 8 and leb (s .insync .count) 8
 
+-- the arrays of each shard in use
+abbrev pub rowsCounted : Shards → Bool
+rowsCounted t = every rowCounted (take (t .count) (t .items))
+
 -- the shards in use, and the arrays of each
 pub record ShardsCounted (t : Shards) : Type 0 where
   pub count : t .count ≤ 64
-  pub rows : every rowCounted (take (t .count) (t .items)) ≡ true
+  pub rows : rowsCounted t ≡ true
 
 -- the rows in use of every table are within their arrays
 pub record TablesCounted (m : ShardMap) : Type 0 where

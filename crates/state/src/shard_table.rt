@@ -1,5 +1,6 @@
 // Internal: the table of shards, by rising key.
 ghost use mathlib.Core.Path.{_≡_};
+ghost use mathlib.Core.Bool.{true};
 ghost use Prim.Native.Nat.{_≤_};
 ghost use lib.ListN.{length};
 ghost use Rattle.model.specs.Lists.{put};
@@ -7,6 +8,7 @@ ghost use Rattle.model.specs.Map.Create.{shardBelow};
 ghost use Rattle.model.specs.Map.Apply.{isShard};
 ghost use Rattle.state.specs.Names.{viewKey};
 ghost use Rattle.state.specs.Find.{firstAt, placeAt};
+ghost use Rattle.state.specs.Counted.{rowCounted, rowsCounted};
 ghost use Rattle.state.specs.View.{viewShards, viewShard};
 use crate::ShardKey;
 use crate::ShardRow;
@@ -58,7 +60,7 @@ pub fn shard_place(t: Shards, x: ShardRow) -> usize
 // Internal: the row put in: in the place of one with its key, or with those after it moved up by one.
 pub fn shard_put(t: Shards, x: ShardRow) -> Shards
     requires { ⌜ (t .count ≤ 64) × (length (put shardBelow (viewShard x) (viewShards t)) ≤ 64) ⌝ }
-    ensures { λ r. ⌜ (viewShards r ≡ put shardBelow (viewShard x) (viewShards t)) × (r .count ≤ 64) ⌝ }
+    ensures { λ r. ⌜ (viewShards r ≡ put shardBelow (viewShard x) (viewShards t)) × (r .count ≤ 64) × (rowsCounted t ≡ true → rowCounted x ≡ true → rowsCounted r ≡ true) ⌝ }
 {
     let count = t.count;
     let at = shard_place(t, x);

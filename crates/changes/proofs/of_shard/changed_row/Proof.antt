@@ -57,23 +57,23 @@ with-synced-requires c κs =
 
 returns : tie.Need-returns
 returns c =
-    c .with-holder .ensures ∙ sym (ap (λ (q : Change). changed (viewShard (c .before .before .before .before .args .s)) (changeOf q)) (c .before .before .c .given .1))
+    (c .with-holder .ensures .0 ∙ sym (ap (λ (q : Change). changed (viewShard (c .before .before .before .before .args .s)) (changeOf q)) (c .before .before .c .given .1)), c .with-holder .ensures .1 (c .before .before .before .before .pre .sized))
 
 returns-2 : tie.Need-returns-2
 returns-2 c =
-    c .without-holder .ensures ∙ sym (ap (λ (q : Change). changed (viewShard (c .before .before .before .before .args .s)) (changeOf q)) (c .before .before .c2 .given .1))
+    (c .without-holder .ensures .0 ∙ sym (ap (λ (q : Change). changed (viewShard (c .before .before .before .before .args .s)) (changeOf q)) (c .before .before .c2 .given .1)), c .without-holder .ensures .1)
 
 returns-3 : tie.Need-returns-3
 returns-3 c =
-    c .with-primary .ensures ∙ sym (ap (λ (q : Change). changed (viewShard (c .before .before .before .before .args .s)) (changeOf q)) (c .before .before .c3 .given .1))
+    (c .with-primary .ensures .0 ∙ sym (ap (λ (q : Change). changed (viewShard (c .before .before .before .before .args .s)) (changeOf q)) (c .before .before .c3 .given .1)), c .with-primary .ensures .1)
 
 returns-4 : tie.Need-returns-4
 returns-4 c =
-    c .without-synced .ensures ∙ sym (ap (λ (q : Change). changed (viewShard (c .before .before .before .before .args .s)) (changeOf q)) (c .before .before .c4 .given .1))
+    (c .without-synced .ensures .0 ∙ sym (ap (λ (q : Change). changed (viewShard (c .before .before .before .before .args .s)) (changeOf q)) (c .before .before .c4 .given .1)), c .without-synced .ensures .1)
 
 returns-5 : tie.Need-returns-5
 returns-5 c =
-    c .with-synced .ensures ∙ sym (ap (λ (q : Change). changed (viewShard (c .before .before .before .before .args .s)) (changeOf q)) (c .before .before .c5 .given .1))
+    (c .with-synced .ensures .0 ∙ sym (ap (λ (q : Change). changed (viewShard (c .before .before .before .before .args .s)) (changeOf q)) (c .before .before .c5 .given .1)), c .with-synced .ensures .1)
 
 pub changed-row-spec : {M : Type 1} → statement M
 changed-row-spec =

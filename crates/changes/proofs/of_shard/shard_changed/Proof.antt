@@ -12,8 +12,9 @@ use Rattle.model.proofs.Map.Rows.{every-find}
 use Rattle.state.specs.Names.{viewKey}
 use Rattle.state.specs.Counted.{rowCounted}
 use Rattle.state.specs.View.{viewShard, viewShards, changeOf}
-use Rattle.changes.proofs.OfChange.{sized}
+use Rattle.changes.proofs.OfChange.{sized, counted}
 use Rattle.state.proofs.Defaults.{noShard}
+use Rattle.state.proofs.Rows.{set-row}
 use Rattle.state.proofs.Tables.{found, changed-row, kept-rows, every-at, of-field}
 use Rattle.changes.proofs.of_shard.shard_changed.Statement.{statement}
 use Rattle.changes.proofs.of_shard.shard_changed.Tie as tie
@@ -53,11 +54,11 @@ element-set-from-new c = search needs
 
 returns : tie.Need-returns
 returns c =
-    (changed-row viewShard (c .before .before .before .before .args .t1 .items) (c .before .before .before .before .args .t1 .count) (fits (c .before .before .before .before)) (isShard (viewKey (c .before .before .before .before .args .key))) (c .before .before .before .shard-at .result) (c .before .before .before .shard-at .ensures) (λ s. changed s (changeOf (c .before .before .before .before .args .c))) noShard _ (c .before .before .if1 .taken) (c .changed-row .ensures), c .before .before .before .before .pre .counted .count)
+    (changed-row viewShard (c .before .before .before .before .args .t1 .items) (c .before .before .before .before .args .t1 .count) (fits (c .before .before .before .before)) (isShard (viewKey (c .before .before .before .before .args .key))) (c .before .before .before .shard-at .result) (c .before .before .before .shard-at .ensures) (λ s. changed s (changeOf (c .before .before .before .before .args .c))) noShard _ (c .before .before .if1 .taken) (c .changed-row .ensures .0), record { count = c .before .before .before .before .pre .counted .count; rows = set-row rowCounted (c .before .before .before .before .args .t1 .items) (c .before .before .before .before .args .t1 .count) (c .before .before .before .shard-at .result) _ (c .before .before .if1 .taken) (c .before .before .before .before .pre .counted .rows) (counted _ (c .changed-row .ensures .1)) })
 
 returns-2 : tie.Need-returns-2
 returns-2 c =
-    (kept-rows viewShard (c .before .before .args .t1 .items) (c .before .before .args .t1 .count) (fits (c .before .before)) (isShard (viewKey (c .before .before .args .key))) (c .before .shard-at .result) (c .before .shard-at .ensures) (λ s. changed s (changeOf (c .before .before .args .c))) (c .if1 .left), c .before .before .pre .counted .count)
+    (kept-rows viewShard (c .before .before .args .t1 .items) (c .before .before .args .t1 .count) (fits (c .before .before)) (isShard (viewKey (c .before .before .args .key))) (c .before .shard-at .result) (c .before .shard-at .ensures) (λ s. changed s (changeOf (c .before .before .args .c))) (c .if1 .left), c .before .before .pre .counted)
 
 pub shard-changed-spec : {M : Type 1} → statement M
 shard-changed-spec =

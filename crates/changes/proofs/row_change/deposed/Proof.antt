@@ -24,7 +24,7 @@ enum-known-p c = search needs
 returns : tie.Need-returns
 unfolding deposed
 returns c =
-    sym (ap (λ (q : Primary). deposed (c .before .before .before .before .before .before .args .node .0) (viewPrimary q) (viewInSync (c .before .before .before .before .before .before .args .s))) (c .before .before .before .before .p .given .1) ∙ rw (eq-eqb _ _ (c .if1 .taken)))
+    (sym (ap (λ (q : Primary). deposed (c .before .before .before .before .before .before .args .node .0) (viewPrimary q) (viewInSync (c .before .before .before .before .before .before .args .s))) (c .before .before .before .before .p .given .1) ∙ rw (eq-eqb _ _ (c .if1 .taken))), c .before .before .before .before .before .before .pre)
 
 synced-removed-requires : tie.Need-synced-removed-requires
 synced-removed-requires c κs = search needs
@@ -32,12 +32,12 @@ synced-removed-requires c κs = search needs
 returns-2 : tie.Need-returns-2
 unfolding deposed
 returns-2 c =
-    sym (ap (λ (q : Primary). deposed (c .before .before .args .node .0) (viewPrimary q) (viewInSync (c .before .before .args .s))) (c .enum-told .given .1))
+    (sym (ap (λ (q : Primary). deposed (c .before .before .args .node .0) (viewPrimary q) (viewInSync (c .before .before .args .s))) (c .enum-told .given .1)), c .before .before .pre)
 
 returns-3 : tie.Need-returns-3
 unfolding deposed
 returns-3 c =
-    c .synced-removed .ensures .0 ∙ sym (ap (λ (q : Primary). deposed (c .before .before .before .before .before .before .before .args .node .0) (viewPrimary q) (viewInSync (c .before .before .before .before .before .before .before .args .s))) (c .before .before .before .before .before .p .given .1) ∙ rw (ne-eqb _ _ (c .before .if1 .left)))
+    (c .synced-removed .ensures .0 ∙ sym (ap (λ (q : Primary). deposed (c .before .before .before .before .before .before .before .args .node .0) (viewPrimary q) (viewInSync (c .before .before .before .before .before .before .before .args .s))) (c .before .before .before .before .before .p .given .1) ∙ rw (ne-eqb _ _ (c .before .if1 .left))), c .synced-removed .ensures .1)
 
 pub deposed-spec : {M : Type 1} → statement M
 deposed-spec =

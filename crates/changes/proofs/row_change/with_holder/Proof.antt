@@ -20,7 +20,10 @@ holder-added-requires c κs = search needs
 
 returns : tie.Need-returns
 unfolding changed
-returns c = rw (c .holder-added .ensures .0)
+returns c = (
+  rw (c .holder-added .ensures .0),
+  λ s. record { held = omega (arith, c .holder-added .ensures .1); synced = s .synced },
+)
 
 pub with-holder-spec : {M : Type 1} → statement M
 with-holder-spec = tie.close (tie.spec holder-added-requires returns)

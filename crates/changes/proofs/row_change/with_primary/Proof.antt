@@ -23,7 +23,10 @@ add-t9 c = search needs
 
 returns : tie.Need-returns
 unfolding changed
-returns c = rw (c .before .before .deposed .ensures)
+returns c = (
+  rw (c .before .before .deposed .ensures .0),
+  record { held = c .before .before .before .pre .0 .held; synced = c .before .before .deposed .ensures .1 },
+)
 
 pub with-primary-spec : {M : Type 1} → statement M
 with-primary-spec = tie.close (tie.spec deposed-requires add-t9 returns)

@@ -20,7 +20,8 @@ synced-added-requires c κs = search needs
 
 returns : tie.Need-returns
 unfolding changed
-returns c = rw (c .synced-added .ensures .0)
+returns c =
+    (rw (c .synced-added .ensures .0), record { held = c .before .pre .0 .held; synced = c .synced-added .ensures .1 })
 
 pub with-synced-spec : {M : Type 1} → statement M
 with-synced-spec = tie.close (tie.spec synced-added-requires returns)

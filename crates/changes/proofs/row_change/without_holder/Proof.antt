@@ -24,7 +24,10 @@ synced-removed-requires c κs = search needs
 
 returns : tie.Need-returns
 unfolding changed
-returns c = rw (c .before .holder-removed .ensures .0, c .synced-removed .ensures .0)
+returns c = (
+  rw (c .before .holder-removed .ensures .0, c .synced-removed .ensures .0),
+  record { held = c .before .holder-removed .ensures .1; synced = c .synced-removed .ensures .1 },
+)
 
 pub without-holder-spec : {M : Type 1} → statement M
 without-holder-spec = tie.close (tie.spec holder-removed-requires synced-removed-requires returns)

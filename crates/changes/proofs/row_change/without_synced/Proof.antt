@@ -20,7 +20,8 @@ synced-removed-requires c κs = search needs
 
 returns : tie.Need-returns
 unfolding changed
-returns c = rw (c .synced-removed .ensures .0)
+returns c =
+    (rw (c .synced-removed .ensures .0), record { held = c .before .pre .held; synced = c .synced-removed .ensures .1 })
 
 pub without-synced-spec : {M : Type 1} → statement M
 without-synced-spec = tie.close (tie.spec synced-removed-requires returns)

@@ -80,7 +80,10 @@ returns-5 c =
 returns-6 : tie.Need-returns-6
 unfolding commit
 returns-6 c =
-    record { map = λ bs. sym (ap (λ (q : Command). commit (viewMap (c .before .before .args .m)) (commandWith (c .before .before .args .r) q bs)) (c .enum-told2 .given .1)) }
+    record {
+      map = λ bs. sym (ap (λ (q : Command). commit (viewMap (c .before .before .args .m)) (commandWith (c .before .before .args .r) q bs)) (c .enum-told2 .given .1));
+      counted = c .before .before .pre .counted;
+    }
 
 pub committed-spec : {M : Type 1} → statement M
 committed-spec =

@@ -32,7 +32,15 @@ returns : tie.Need-returns
 unfolding commit createdCollections createdShards decide
 returns c =
     let e = not-full _ (c .before .before .before .with-shards .result) (c .before .before .before .with-shards .ensures) (create-room (viewMap (c .before .before .before .before .args .m)) (viewName (c .before .before .before .before .args .r .key .collection)) (viewSpec (c .before .before .before .before .args .spec)) (viewPlacement (c .before .before .before .before .args .r .placement)) (c .before .before .before .before .pre .taken []) .1) in
-    record { map = λ bs. rw (c .before .collection-put .ensures .0, e) }
+    record {
+      map = λ bs. rw (c .before .collection-put .ensures .0, e);
+      counted = record {
+        nodes = c .before .before .before .before .pre .counted .nodes;
+        collections = c .before .collection-put .ensures .1;
+        shards = c .before .before .before .with-shards .ensures .counted;
+        sessions = c .before .before .before .before .pre .counted .sessions;
+      };
+    }
 
 pub created-spec : {M : Type 1} → statement M
 created-spec = tie.close (tie.spec with-shards-requires collection-put-requires returns)

@@ -26,7 +26,16 @@ node-put-requires c κs =
 
 returns : tie.Need-returns
 unfolding commit
-returns c = record { map = λ bs. rw (c .node-put .ensures .0) }
+returns c =
+    record {
+      map = λ bs. rw (c .node-put .ensures .0);
+      counted = record {
+        nodes = c .node-put .ensures .1;
+        collections = c .before .before .pre .counted .collections;
+        shards = c .before .before .pre .counted .shards;
+        sessions = c .before .before .pre .counted .sessions;
+      };
+    }
 
 pub registered-spec : {M : Type 1} → statement M
 registered-spec = tie.close (tie.spec node-put-requires returns)

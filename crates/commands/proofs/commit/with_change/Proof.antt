@@ -30,7 +30,15 @@ shard-changed-requires c κs =
 returns : tie.Need-returns
 unfolding changeShard
 returns c =
-    record { map = λ bs. sym (commit-of (viewMap (c .before .args .m)) (viewKey (c .before .args .r .key)) (c .before .args .epoch .0) (changeOf (c .before .args .c)) ∙ rw (← c .shard-changed .ensures .0)) }
+    record {
+      map = λ bs. sym (commit-of (viewMap (c .before .args .m)) (viewKey (c .before .args .r .key)) (c .before .args .epoch .0) (changeOf (c .before .args .c)) ∙ rw (← c .shard-changed .ensures .0));
+      counted = record {
+        nodes = c .before .pre .counted .nodes;
+        collections = c .before .pre .counted .collections;
+        shards = c .shard-changed .ensures .1;
+        sessions = c .before .pre .counted .sessions;
+      };
+    }
 
 pub with-change-spec : {M : Type 1} → statement M
 with-change-spec = tie.close (tie.spec shard-changed-requires returns)

@@ -24,7 +24,16 @@ marked-dead-requires c κs = search needs
 
 returns : tie.Need-returns
 unfolding commit
-returns c = record { map = λ bs. rw (c .marked-dead .ensures .0) }
+returns c =
+    record {
+      map = λ bs. rw (c .marked-dead .ensures .0);
+      counted = record {
+        nodes = c .marked-dead .ensures .1;
+        collections = c .before .pre .counted .collections;
+        shards = c .before .pre .counted .shards;
+        sessions = c .before .pre .counted .sessions;
+      };
+    }
 
 pub with-dead-spec : {M : Type 1} → statement M
 with-dead-spec = tie.close (tie.spec marked-dead-requires returns)

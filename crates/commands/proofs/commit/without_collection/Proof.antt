@@ -29,7 +29,15 @@ shards-without-requires c κs = search needs
 returns : tie.Need-returns
 unfolding commit
 returns c =
-    record { map = λ bs. rw (c .before .collections-without .ensures .0, c .shards-without .ensures .0) }
+    record {
+      map = λ bs. rw (c .before .collections-without .ensures .0, c .shards-without .ensures .0);
+      counted = record {
+        nodes = c .before .before .pre .counted .nodes;
+        collections = c .before .collections-without .ensures .1;
+        shards = record { count = c .shards-without .ensures .1; rows = c .shards-without .ensures .2 (c .before .before .pre .counted .shards .rows) };
+        sessions = c .before .before .pre .counted .sessions;
+      };
+    }
 
 pub without-collection-spec : {M : Type 1} → statement M
 without-collection-spec =

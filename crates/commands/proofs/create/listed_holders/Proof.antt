@@ -69,7 +69,7 @@ loop-again c =
 
 returns : tie.Need-returns Inv-loop μ-loop
 returns c =
-    c .before .loop .inv .4 ∙ ap (map (replicaOf (viewNodes (c .before .before .before .args .t)))) (take-all (c .before .loop .j) (viewList (c .before .before .before .args .t2)) (omega (arith, c .before .loop .inv .2, c .loop-test .left)))
+    (c .before .loop .inv .4 ∙ ap (map (replicaOf (viewNodes (c .before .before .before .args .t)))) (take-all (c .before .loop .j) (viewList (c .before .before .before .args .t2)) (omega (arith, c .before .loop .inv .2, c .loop-test .left))), omega (arith, c .before .loop .inv .0, c .before .loop .inv .1, c .before .loop .inv .3))
 
 pub listed-holders-spec : {M : Type 1} → statement M
 listed-holders-spec =

@@ -66,7 +66,7 @@ loop-again c =
 
 returns : tie.Need-returns Inv-loop μ-loop
 returns c =
-    sym (c .before .loop .inv .5 ∙ synced-end (viewInSync (c .before .loop .out)) (viewList (c .before .before .before .args .t1)) (c .before .loop .j) (omega (arith, c .before .loop .inv .2, c .loop-test .left)))
+    (sym (c .before .loop .inv .5 ∙ synced-end (viewInSync (c .before .loop .out)) (viewList (c .before .before .before .args .t1)) (c .before .loop .j) (omega (arith, c .before .loop .inv .2, c .loop-test .left))), c .before .loop .inv .3)
 
 pub listed-synced-spec : {M : Type 1} → statement M
 listed-synced-spec =

@@ -24,8 +24,10 @@ first-of-requires c κs = search needs
 
 returns : tie.Need-returns
 unfolding newShard
-returns c =
-    rw (c .before .before .listed-holders .ensures, c .before .listed-synced .ensures, c .first-of .ensures)
+returns c = (
+  rw (c .before .before .listed-holders .ensures .0, c .before .listed-synced .ensures .0, c .first-of .ensures),
+  record { held = c .before .before .listed-holders .ensures .1; synced = c .before .listed-synced .ensures .1 },
+)
 
 pub new-shard-spec : {M : Type 1} → statement M
 new-shard-spec =

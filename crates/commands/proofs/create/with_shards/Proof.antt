@@ -10,7 +10,9 @@ use mathlib.Core.Bool.{true, false}
 use mathlib.Core.Logic.{⊎-elim}
 use borrow.Author.Tests.{not-true, not-false, leb-false, leb-true}
 use Rattle.model.proofs.Lists.{not-both}
+use Rattle.state.specs.Counted.{ShardsCounted}
 use Rattle.state.specs.Names.{viewName}
+use Rattle.changes.proofs.OfChange.{counted}
 use Rattle.state.specs.View.{viewNodes, viewShard, viewShards, viewList, viewPlacement}
 use Rattle.state.proofs.Defaults.{noList}
 use Rattle.commands.proofs.OfWalk.{open-shards, shards-end, shards-least}
@@ -29,7 +31,7 @@ use Rattle.state.proofs.shard_table.shard_put.Reads as shard-put-reads
 
 abbrev Inv-loop : tie.InvT-loop
 Inv-loop t name p count out₀ i₀ out i =
-    (i ≤ p .count) × (out .count ≤ 64) × (withShards (viewShards out₀) (viewNodes t) (viewName name) 0 (viewPlacement p) ≡ withShards (viewShards out) (viewNodes t) (viewName name) i (drop i (viewPlacement p)))
+    (i ≤ p .count) × (ShardsCounted out) × (withShards (viewShards out₀) (viewNodes t) (viewName name) 0 (viewPlacement p) ≡ withShards (viewShards out) (viewNodes t) (viewName name) i (drop i (viewPlacement p)))
 
 abbrev μ-loop : tie.MeasureT-loop
 μ-loop t name p count out₀ i₀ out i = p .count - i
@@ -66,19 +68,19 @@ new-shard-requires : tie.Need-new-shard-requires Inv-loop μ-loop
 new-shard-requires c κs = search needs
 
 shard-fits-requires : tie.Need-shard-fits-requires Inv-loop μ-loop
-shard-fits-requires c κs = c .before .before .before .loop .inv .1
+shard-fits-requires c κs = c .before .before .before .loop .inv .1 .count
 
 returns : tie.Need-returns Inv-loop μ-loop
 returns c =
     record {
-      full = λ _. omega (arith, leb-false (length (put shardBelow (viewShard (c .before .before .new-shard .result)) (viewShards (c .before .before .before .before .before .loop .out)))) 64 (sym (c .before .shard-fits .ensures) ∙ not-true _ (c .if1 .taken)), shards-least (viewNodes (c .before .before .before .before .before .before .args .t)) (viewName (c .before .before .before .before .before .before .args .name)) (put shardBelow (viewShard (c .before .before .new-shard .result)) (viewShards (c .before .before .before .before .before .loop .out))) (c .before .before .before .before .before .loop .i + 1) (drop (c .before .before .before .before .before .loop .i + 1) (viewPlacement (c .before .before .before .before .before .before .args .t4))), ap length (c .before .before .before .before .before .loop .inv .2 ∙ (step (c .before .before .before .before .before .before) (c .before .before .before .before .before .loop .out) (c .before .before .before .before .before .loop .i) (c .before .before .new-shard .result) (c .before .before .before .before .loop-test .taken) (c .before .before .new-shard .ensures))));
+      full = λ _. omega (arith, leb-false (length (put shardBelow (viewShard (c .before .before .new-shard .result)) (viewShards (c .before .before .before .before .before .loop .out)))) 64 (sym (c .before .shard-fits .ensures) ∙ not-true _ (c .if1 .taken)), shards-least (viewNodes (c .before .before .before .before .before .before .args .t)) (viewName (c .before .before .before .before .before .before .args .name)) (put shardBelow (viewShard (c .before .before .new-shard .result)) (viewShards (c .before .before .before .before .before .loop .out))) (c .before .before .before .before .before .loop .i + 1) (drop (c .before .before .before .before .before .loop .i + 1) (viewPlacement (c .before .before .before .before .before .before .args .t4))), ap length (c .before .before .before .before .before .loop .inv .2 ∙ (step (c .before .before .before .before .before .before) (c .before .before .before .before .before .loop .out) (c .before .before .before .before .before .loop .i) (c .before .before .new-shard .result) (c .before .before .before .before .loop-test .taken) (c .before .before .new-shard .ensures .0))));
       fits = λ e. not-both true refl e;
-      count = c .before .before .before .before .before .loop .inv .1;
+      counted = c .before .before .before .before .before .loop .inv .1;
     }
 
 shard-put-requires : tie.Need-shard-put-requires Inv-loop μ-loop
 shard-put-requires c κs =
-    (c .before .before .before .before .before .loop .inv .1, leb-true _ 64 (sym (c .before .shard-fits .ensures) ∙ not-false _ (c .if1 .left)))
+    (c .before .before .before .before .before .loop .inv .1 .count, leb-true _ 64 (sym (c .before .shard-fits .ensures) ∙ not-false _ (c .if1 .left)))
 
 add-i : tie.Need-add-i Inv-loop μ-loop
 add-i c = search needs
@@ -89,8 +91,8 @@ loop-less c = search needs
 loop-again : tie.Need-loop-again Inv-loop μ-loop
 loop-again c = (
   search needs,
-  c .shard-put .ensures .1,
-  c .before .before .before .before .before .before .loop .inv .2 ∙ (step (c .before .before .before .before .before .before .before) (c .before .before .before .before .before .before .loop .out) (c .before .before .before .before .before .before .loop .i) (c .before .before .before .new-shard .result) (c .before .before .before .before .before .loop-test .taken) (c .before .before .before .new-shard .ensures))
+  record { count = c .shard-put .ensures .1; rows = c .shard-put .ensures .2 (c .before .before .before .before .before .before .loop .inv .1 .rows) (counted (c .before .before .before .new-shard .result) (c .before .before .before .new-shard .ensures .1)) },
+  c .before .before .before .before .before .before .loop .inv .2 ∙ (step (c .before .before .before .before .before .before .before) (c .before .before .before .before .before .before .loop .out) (c .before .before .before .before .before .before .loop .i) (c .before .before .before .new-shard .result) (c .before .before .before .before .before .loop-test .taken) (c .before .before .before .new-shard .ensures .0))
       ∙ ap (λ (l : List ShardInfo). withShards l (viewNodes (c .before .before .before .before .before .before .before .args .t)) (viewName (c .before .before .before .before .before .before .before .args .name)) (c .before .before .before .before .before .before .loop .i + 1) (drop (c .before .before .before .before .before .before .loop .i + 1) (viewPlacement (c .before .before .before .before .before .before .before .args .t4)))) (sym (c .shard-put .ensures .0)),
 )
 
@@ -99,8 +101,8 @@ returns-2 c =
     let e = c .before .loop .inv .2 ∙ shards-end (viewNodes (c .before .before .args .t)) (viewName (c .before .before .args .name)) (viewShards (c .before .loop .out)) (viewPlacement (c .before .before .args .t4)) (c .before .loop .i) (omega (arith, size (c .before .before), c .loop-test .left)) in
     record {
       full = λ q. not-both false q refl;
-      fits = λ q. (sym e, omega (arith, ap length e, length-map (take (c .before .loop .out .count) (c .before .loop .out .items)) viewShard, length-take (c .before .loop .out .count) (c .before .loop .out .items), c .before .loop .inv .1));
-      count = c .before .loop .inv .1;
+      fits = λ q. (sym e, omega (arith, ap length e, length-map (take (c .before .loop .out .count) (c .before .loop .out .items)) viewShard, length-take (c .before .loop .out .count) (c .before .loop .out .items), c .before .loop .inv .1 .count));
+      counted = c .before .loop .inv .1;
     }
 
 pub with-shards-spec : {M : Type 1} → statement M

@@ -6,7 +6,11 @@ use Prim.Native.Nat.{ℕ, _+_, _-_, _*_, _≤_, _<_}
 use lib.ListN.{length, getD, take, drop, set}
 use mathlib.Core.Bool.{not, true, false}
 use mathlib.Core.List.{map}
-use Rattle.model.specs.Lists.{filter}
+use mathlib.Core.Path.{subst}
+use Rattle.model.specs.Lists.{filter, every}
+use Rattle.model.proofs.Map.Rows.{every-filter}
+use Rattle.state.specs.Counted.{rowCounted}
+use Rattle.state.specs.declared.ShardRow.{ShardRow}
 use Rattle.model.specs.Keys.{sameName}
 use Rattle.model.specs.Map.Tables.{Collection, ShardInfo}
 use Rattle.state.specs.Names.{viewName}
@@ -76,6 +80,9 @@ returns c =
       ap (map viewShard) (c .before .loop .inv .3 ∙ ap (λ (k : ℕ). filter (λ r. not (sameName (viewShard r .key .collection) (viewName (c .before .before .before .args .name)))) (take k (c .before .before .before .args .t .items))) e)
           ∙ map-filter viewShard (λ r. not (sameName (r .key .collection) (viewName (c .before .before .before .args .name)))) (take (c .before .before .before .args .t .count) (c .before .before .before .args .t .items)),
       search needs,
+      λ h. subst (λ (l : List ShardRow). every rowCounted l ≡ true)
+          (sym (c .before .loop .inv .3 ∙ ap (λ (k : ℕ). filter (λ r. not (sameName (viewShard r .key .collection) (viewName (c .before .before .before .args .name)))) (take k (c .before .before .before .args .t .items))) e))
+          (every-filter rowCounted (λ r. not (sameName (viewShard r .key .collection) (viewName (c .before .before .before .args .name)))) (take (c .before .before .before .args .t .count) (c .before .before .before .args .t .items)) h),
     )
 
 pub shards-without-spec : {M : Type 1} → statement M

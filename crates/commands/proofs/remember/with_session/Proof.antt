@@ -16,7 +16,10 @@ session-put-requires c κs = search needs
 
 returns : tie.Need-returns
 unfolding remembered
-returns c = rw (c .session-put .ensures .0)
+returns c = (
+  rw (c .session-put .ensures .0),
+  λ h. record { nodes = h .nodes; collections = h .collections; shards = h .shards; sessions = c .session-put .ensures .1 },
+)
 
 pub with-session-spec : {M : Type 1} → statement M
 with-session-spec = tie.close (tie.spec session-put-requires returns)

@@ -10,7 +10,9 @@ use mathlib.Core.Logic.{⊎-elim}
 use borrow.Author.Tests.{not-true, not-false}
 use Rattle.model.specs.Map.Create.{shardBelow}
 use Rattle.model.proofs.Map.Orders.{keys}
+use Rattle.state.specs.Counted.{rowCounted}
 use Rattle.state.specs.View.{viewShard}
+use Rattle.state.proofs.Rows.{set-row, insert-rows}
 use Rattle.state.proofs.Tables.{put-row, insert-row, insert-room, scan-most, carry-on, carried, of-field}
 use Rattle.state.proofs.shard_table.shard_put.Statement.{statement}
 use Rattle.state.proofs.shard_table.shard_put.Tie as tie
@@ -54,6 +56,7 @@ returns c = (
       (λ y. keys .apart (y .key) (viewShard (c .before .before .before .before .before .before .args .x) .key)) (c .before .before .before .before .before .shard-place .result) (c .before .before .before .before .before .shard-place .ensures)
       _ (c .before .before .before .if1 .taken) (sym (c .before .shard-below .ensures) ∙ not-true _ (c .if2 .taken)),
   search needs,
+  set-row rowCounted (c .before .before .before .before .before .before .args .t .items) (c .before .before .before .before .before .before .args .t .count) (c .before .before .before .before .before .shard-place .result) (c .before .before .before .before .before .before .args .x) (c .before .before .before .if1 .taken),
 )
 
 loop-holds : tie.Need-loop-holds Inv-loop μ-loop
@@ -94,13 +97,15 @@ add-t29 c = search needs
 
 returns-2 : tie.Need-returns-2 Inv-loop μ-loop
 returns-2 c =
-    let most = scan-most viewShard (c .before .before .before .before .before .args .t .items) (c .before .before .before .before .before .args .t .count) (fits (c .before .before .before .before .before)) (λ y. shardBelow y (viewShard (c .before .before .before .before .before .args .x))) in (
-      ap (map viewShard) (carried (c .before .before .before .before .before .args .t .items) (c .before .loop .items) (c .before .before .before .before .shard-place .result) (c .before .before .before .before .before .args .t .count) (c .before .loop .i) _ _
-          (c .before .loop .inv .3) (search needs) (omega (arith, c .before .before .before .before .shard-place .ensures)) (search needs) (fits (c .before .before .before .before .before)))
+    let most = scan-most viewShard (c .before .before .before .before .before .args .t .items) (c .before .before .before .before .before .args .t .count) (fits (c .before .before .before .before .before)) (λ y. shardBelow y (viewShard (c .before .before .before .before .before .args .x))) in
+    let e = carried (c .before .before .before .before .before .args .t .items) (c .before .loop .items) (c .before .before .before .before .shard-place .result) (c .before .before .before .before .before .args .t .count) (c .before .loop .i) _ _
+    (c .before .loop .inv .3) (search needs) (omega (arith, c .before .before .before .before .shard-place .ensures)) (search needs) (fits (c .before .before .before .before .before)) in (
+      ap (map viewShard) e
           ∙ sym (insert-row viewShard (c .before .before .before .before .before .args .t .items) (c .before .before .before .before .before .args .t .count) (fits (c .before .before .before .before .before)) shardBelow (c .before .before .before .before .before .args .x)
           (λ y. keys .apart (y .key) (viewShard (c .before .before .before .before .before .args .x) .key)) (c .before .before .before .before .shard-place .result) (c .before .before .before .before .shard-place .ensures)
           _ (λ h. ⊎-elim (λ w. sym (w .2 .ensures) ∙ not-false _ (w .3 .left)) (λ w. let l = w .left in absurd (omega arith)) (c .before .before .if1 .came))),
       search needs,
+      insert-rows rowCounted (c .before .before .before .before .before .args .t .items) (c .before .loop .items) (c .before .before .before .before .before .args .t .count) (c .before .before .before .before .before .args .t .count + 1) (c .before .before .before .before .shard-place .result) (c .before .before .before .before .before .args .x) e,
     )
 
 pub shard-put-spec : {M : Type 1} → statement M
