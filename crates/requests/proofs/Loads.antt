@@ -1,16 +1,18 @@
 -- The struct that is loaded from a command's operands is viewed as the command that was read; and what is answered, by whether rpc's reader
 -- answered a request. Assumes nothing.
-use Prim.Native.Nat.{ℕ, _+_}
+use Prim.Native.Nat.{ℕ, _+_, _≤_, _<_}
 use mathlib.Core.Path.{_≡_, refl, sym, ap, subst, _∙_}
 use mathlib.Core.Bool.{true, false}
-use mathlib.Core.List.{List, []}
+use mathlib.Core.List.{List, _++_, []}
 use mathlib.Core.Option.{Option, none, some}
 use native.Mathlib.Omega.{arith}
-use lib.ListN.{length}
+use lib.ListN.{length, drop, length-append, length-drop}
 use Rattle.model.specs.Map.WellFormed.{commandFits}
-use Rattle.model.specs.Layout.Format.{fits, value, next, whole}
+use Rattle.model.specs.Layout.Format.{Bytes, fits, value, next, whole}
 use Rattle.model.specs.Layout.Request as request
 use Rattle.model.proofs.LayoutLaws.Tests.{and-left, and-right}
+use Rattle.model.proofs.LayoutLaws.Formats.{reads}
+use Rattle.model.proofs.LayoutLaws.Requests.{request-at-forth}
 use Rattle.model.proofs.LayoutLaws.Data.{whenever-some}
 use Rattle.rpc.specs.Shown.{requestShown, requestPart, requestReadOf, readOr, messageOf}
 use Rattle.rpc.specs.declared.CommandPart.{CommandPart}
@@ -122,6 +124,23 @@ module _ (s : List ℕ) (p : RequestPart) (r : request.Request) (h : Shows s p r
         ∙ h .fits;
   }
 
+-- a request ends further on in the bytes
+module _ (s : List ℕ) (b : Bytes s) (at : ℕ) (r : request.Request) (end : ℕ) (e : request.requestAt s at ≡ some (r, end)) where
+  pub ends-inside : end ≤ length s
+  unfolding request.requestAt
+  ends-inside =
+      let w = whenever-some (fits request.requestF s at) (request.requestOf (value request.requestF s at), next request.requestF s at) (r, end) e in
+      let l : next request.requestF s at ≤ length s = reads s b request.requestF at (w .0) .within in
+      rw (ap (λ (z : request.Request × ℕ). z .1) (w .1)) at l
+
+  pub ends-later : at < end
+  unfolding request.encodeRequest
+  ends-later =
+      let h : drop at s ≡ request.encodeRequest r ++ drop end s = request-at-forth s b at r end e .1 in
+      let l = simp (length-append, length-drop) at (ap length h) in
+      let k = ends-inside in
+      omega arith
+
 -- ---- the answers
 
 -- a request that was read at a place
@@ -158,15 +177,20 @@ module _ (s : List ℕ) (at : ℕ) where
     unfolding requestReadOf
     missed-at h = none-of (request.requestAt s at) (λ r e. h (r .0) (ap (λ (z : RequestRead). z .message) (q ∙ ap (readOr at) e)))
 
-  pub none-at : (x : Request) → request.requestAt s at ≡ none → LoadedAt s at (record { found = false; request = x; next = at })
-  none-at x e = record { padding = []; read = e; stays = λ h. refl; within = λ h. absurd (let z : _≡_ {A = ℕ} 0 1 = cc in omega arith) }
+  no {ℓ} : {P : Type ℓ} → false ≡ true → P
+  no h = let z : _≡_ {A = ℕ} 0 1 = cc in absurd (omega arith)
 
-  pub some-at : (p : RequestPart) (end : ℕ) → Found s p (request.requestAt s at) end → (x : Request) → LoadedAs s p x
+  pub none-at : (x : Request) → request.requestAt s at ≡ none → LoadedAt s at (record { found = false; request = x; next = at })
+  none-at x e = record { padding = []; read = e; stays = λ h. refl; passes = λ h. no h; inside = λ h. no h; within = λ h. no h }
+
+  pub some-at : (p : RequestPart) (end : ℕ) → Bytes s → Found s p (request.requestAt s at) end → (x : Request) → LoadedAs s p x
       → LoadedAt s at (record { found = true; request = x; next = end })
-  some-at p end f x l = record {
+  some-at p end b f x l = record {
     padding = paddingOf (commandRead s (p .command));
     read = f .read ∙ ap (λ (r : request.Request). some (r, end)) (sym (loaded-is s p (f .request) (f .shows) x l));
     stays = λ h. let z : _≡_ {A = ℕ} 0 1 = cc in absurd (omega arith);
+    passes = λ h. ends-later s b at (f .request) end (f .read);
+    inside = λ h. ends-inside s b at (f .request) end (f .read);
     within = λ h. loaded-within s p (f .request) (f .shows) x l;
   }
 

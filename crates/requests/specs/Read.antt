@@ -1,5 +1,5 @@
 -- What is loaded: the request that model reads, as the struct of crate `state`. Definitions only.
-use Prim.Native.Nat.{ℕ, _≤_}
+use Prim.Native.Nat.{ℕ, _≤_, _<_}
 use mathlib.Core.Path.{_≡_}
 use mathlib.Core.Bool.{true, false}
 use mathlib.Core.List.{List, []}
@@ -9,14 +9,17 @@ use Rattle.model.specs.Limits.{maxName, maxAddress, maxLists}
 use Rattle.model.specs.Layout.Format.{word, next, value, valueN}
 use Rattle.model.specs.Layout.Parts.{whenever}
 use Rattle.model.specs.Layout.Request as request
-use Rattle.model.specs.Map.WellFormed.{commandFits}
+use Rattle.model.specs.Map.Tables.{emptyMap}
+use Rattle.model.specs.Map.WellFormed.{wellFormedMap, commandFits}
 use Rattle.rpc.specs.declared.Part.{Part}
 use Rattle.rpc.specs.declared.KeyPart.{KeyPart}
 use Rattle.rpc.specs.declared.CommandPart.{CommandPart}
 use Rattle.rpc.specs.declared.CommandPart.the-variants as part
 use Rattle.rpc.specs.declared.RequestPart.{RequestPart}
-use Rattle.state.specs.View.{viewCommand, viewRequest}
+use Rattle.state.specs.Counted.{TablesCounted}
+use Rattle.state.specs.View.{viewCommand, viewMap, viewRequest}
 use Rattle.state.specs.declared.Request.{Request}
+use Rattle.state.specs.declared.ShardMap.{ShardMap}
 use Rattle.requests.specs.Parts.{bytesAt, listsAt, listedRows}
 use Rattle.requests.specs.declared.Loaded.{Loaded}
 
@@ -59,6 +62,13 @@ paddingOf (request.shrinkInSync k n e) = []
 paddingOf (request.expandInSync k n e) = []
 paddingOf (request.bench bs) = bs
 
+-- ---- the map that requests are first applied to
+
+pub record Starts (m : ShardMap) : Type 0 where
+  pub view : viewMap m ≡ emptyMap
+  pub counted : TablesCounted m
+  pub formed : wellFormedMap (viewMap m) ≡ true
+
 -- ---- the struct
 
 -- 'The shard map': the lengths and counts of the struct are within their arrays
@@ -80,11 +90,13 @@ pub record Within (r : Request) : Type 0 where
 
 -- ---- the answers
 
--- 'Program applymap': found exactly where model reads a request, and then its request and the position after it
+-- 'Program applymap': found exactly where model reads a request, and then its request and the position after it, further on in the bytes
 pub record LoadedAt (s : List ℕ) (at : ℕ) (l : Loaded) : Type 0 where
   pub padding : List ℕ
   pub read : request.requestAt s at ≡ whenever (l .found) (viewRequest (l .request) padding, l .next)
   pub stays : l .found ≡ false → l .next ≡ at
+  pub passes : l .found ≡ true → at < l .next
+  pub inside : l .found ≡ true → l .next ≤ length s
   pub within : l .found ≡ true → Within (l .request)
 
 -- 'Bytes on the wire': found exactly where all of the bytes are a request, and then that request

@@ -1,8 +1,5 @@
 // The map that requests are first applied to.
-ghost use mathlib.Core.Path.{_≡_};
-ghost use Rattle.model.specs.Map.Tables.{emptyMap};
-ghost use Rattle.state.specs.View.{viewMap};
-ghost use Rattle.state.specs.Counted.{TablesCounted};
+ghost use Rattle.requests.specs.Read.{Starts};
 use model::DataNodeId;
 use model::Epoch;
 use model::Metric;
@@ -98,7 +95,7 @@ fn no_session() -> SessionRow {
 
 // 'Program applymap' starts from an empty map. Rows past a count are free: here all of them are alike.
 pub fn empty_map() -> ShardMap
-    ensures { λ m. ⌜ (viewMap m ≡ emptyMap) × TablesCounted m ⌝ }
+    ensures { λ m. ⌜ Starts m ⌝ }
 {
     ShardMap {
         version: 0,

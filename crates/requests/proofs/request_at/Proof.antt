@@ -1,4 +1,5 @@
 -- A request that rpc's reader answers is model's; where it answers none, model reads none. Assumes nothing.
+use native.Mathlib.Omega.{arith}
 use borrow.Author.Needs.{needs}
 use mathlib.Core.List.{[], _∷_}
 use types.Run.{miss}
@@ -32,7 +33,7 @@ returns-2 : tie.Need-returns-2
 returns-2 c =
     let a = c .before .before .before .before .before .before .args in
     let r = c .before .before .before .before .request-at in
-    some-at (a .s .now) (a .at) _ (r .result .next) (found-at (a .s .now) (a .at) (r .result) (r .ensures) _ (c .before .before .message .given .1)) (c .load .result) (c .load .ensures)
+    some-at (a .s .now) (a .at) _ (r .result .next) (λ i. omega (arith, c .before .before .before .before .before .shared-slice-known .given i)) (found-at (a .s .now) (a .at) (r .result) (r .ensures) _ (c .before .before .message .given .1)) (c .load .result) (c .load .ensures)
 
 pub request-at-spec : {M : Type 1} → statement M
 request-at-spec =

@@ -1,7 +1,8 @@
 -- No row of any table is in use. Assumes nothing.
 use borrow.Author.Needs.{needs}
 use mathlib.Core.Path.{refl}
-use Rattle.model.specs.Lists.{every}
+use Rattle.model.specs.Lists.{every, rising, _and_}
+use Rattle.model.specs.Map.WellFormed.{tableFits, wellFormedMap}
 use Rattle.requests.proofs.start.empty_map.Statement.{statement}
 use Rattle.requests.proofs.start.empty_map.Tie as tie
 
@@ -18,9 +19,12 @@ no-session-requires : tie.Need-no-session-requires
 no-session-requires c κs = search needs
 
 returns : tie.Need-returns
-unfolding every
-returns c =
-    (refl, record { nodes = search needs; collections = search needs; shards = record { count = search needs; rows = refl }; sessions = search needs })
+unfolding every rising _and_ tableFits wellFormedMap
+returns c = record {
+  view = refl;
+  counted = record { nodes = search needs; collections = search needs; shards = record { count = search needs; rows = refl }; sessions = search needs };
+  formed = refl;
+}
 
 pub empty-map-spec : {M : Type 1} → statement M
 empty-map-spec =
