@@ -1,0 +1,6 @@
+pub mod Answers
+pub mod Domain
+pub mod Fitting
+pub mod Lookup
+pub mod Played
+pub mod Walking

@@ -1,0 +1,155 @@
+// The clause of 24 that the table is the log played: the rows fit, and each entry is settled. Nearly every entry of a log is one that a row
+// names, which a mark tells; the others are looked up. Internal.
+
+ghost use mathlib.Core.Path.{_≡_};
+ghost use mathlib.Core.Bool.{true};
+ghost use Prim.Native.Nat.{ℕ, _+_, _≤_, _<_};
+ghost use lib.ListN.{length, getD};
+ghost use Rattle.shard.specs.Table.{rowsOf, rowsPlayed};
+ghost use Rattle.shard.specs.Store.{sameRows};
+ghost use Rattle.storecheck.specs.Conditions.{Decides, Rises, Walk, Agrees, Again, Settled, AllSettled};
+
+// Whether an entry behind place i has its id.
+pub fn comes_again(ids: &[u64], count: usize, i: usize) -> bool
+    requires { ⌜ (i < count) × (count ≤ length (now ids)) ⌝ }
+    ensures { λ r. ⌜ Decides r (Again (now (ids .entry)) count i) ⌝ }
+{
+    let id = ids[i];
+    let mut k = i + 1;
+    while k < count {
+        if ids[k] == id {
+            return true;
+        }
+        k += 1;
+    }
+    false
+}
+
+// Whether entry i agrees with the rows.
+pub fn agrees(
+    ids: &[u64],
+    codes: &[u8],
+    keys: &[u64],
+    places: &[u64],
+    stored: usize,
+    i: usize,
+) -> bool
+    requires { ⌜ (i < 1024) × (stored ≤ 1024) × (length (now ids) ≡ 1024) × (length (now codes) ≡ 1024) × (length (now keys) ≡ 1024) × (length (now places) ≡ 1024)
+        × Rises (now keys) stored ⌝ }
+    ensures { λ r. ⌜ Decides r (Agrees (now (ids .entry)) (now (codes .entry)) (now (keys .entry)) (now (places .entry)) stored i) ⌝ }
+{
+    let id = ids[i];
+    let at = super::rows::seek(keys, stored, id);
+    if stored <= at {
+        return codes[i] != 1;
+    }
+    if keys[at] != id {
+        return codes[i] != 1;
+    }
+    (i as u64) < places[at]
+}
+
+// Where the hint for an id is kept.
+fn slot(id: u64) -> usize
+    ensures { λ r. ⌜ r < 2039 ⌝ }
+{
+    (id % 2039) as usize
+}
+
+// Whether the hint for the id of entry i is the place of an entry behind it with that id. Hints may hold anything: an answer of false says
+// nothing.
+pub fn hinted(ids: &[u64], hints: &[u16], count: usize, i: usize) -> bool
+    requires { ⌜ (i < count) × (count ≤ length (now ids)) × (length (now hints) ≡ 2039) ⌝ }
+    ensures { λ r. ⌜ (r ≡ true → Again (now (ids .entry)) count i) ⌝ }
+{
+    let at = slot(ids[i]);
+    let k = place_of(hints[at]);
+    if k <= i {
+        return false;
+    }
+    if count <= k {
+        return false;
+    }
+    ids[k] == ids[i]
+}
+
+fn place_of(hint: u16) -> usize {
+    hint as usize
+}
+
+// Whether entry i is settled.
+pub fn is_settled(
+    ids: &[u64],
+    codes: &[u8],
+    keys: &[u64],
+    places: &[u64],
+    marks: &[u8],
+    hints: &[u16],
+    count: usize,
+    stored: usize,
+    i: usize,
+) -> bool
+    requires { ⌜ (i < count) × Walk (now ids) (now codes) (now keys) (now places) (now marks) count stored × (length (now hints) ≡ 2039) ⌝ }
+    ensures { λ r. ⌜ Decides r (Settled (now (ids .entry)) (now (codes .entry)) (now (keys .entry)) (now (places .entry)) count stored i) ⌝ }
+{
+    if marks[i] != 0 {
+        return true;
+    }
+    if hinted(ids, hints, count, i) {
+        return true;
+    }
+    if agrees(ids, codes, keys, places, stored, i) {
+        return true;
+    }
+    comes_again(ids, count, i)
+}
+
+// Whether every entry is, from the last to the first, so that a hint is the place of the entry met last. What the hints hold at the end
+// is free.
+pub fn all_settled(
+    ids: &[u64],
+    codes: &[u8],
+    keys: &[u64],
+    places: &[u64],
+    marks: &[u8],
+    hints: &mut [u16],
+    count: usize,
+    stored: usize,
+) -> bool
+    requires { ⌜ Walk (now ids) (now codes) (now keys) (now places) (now marks) count stored × (length (now hints) ≡ 2039) ⌝ }
+    ensures { λ r. ⌜ Decides r (AllSettled (now (ids .entry)) (now (codes .entry)) (now (keys .entry)) (now (places .entry)) count stored) ⌝ }
+{
+    let mut i = count;
+    while 0 < i {
+        i -= 1;
+        if !is_settled(ids, codes, keys, places, marks, hints, count, stored, i) {
+            return false;
+        }
+        let at = slot(ids[i]);
+        hints[at] = i as u16;
+    }
+    true
+}
+
+// Whether the rows of the table are the log played. The entries' offsets are 1, 2, 3 and so on.
+pub fn table_played(
+    offsets: &[u64],
+    ids: &[u64],
+    codes: &[u8],
+    keys: &[u64],
+    places: &[u64],
+    count: usize,
+    stored: usize,
+) -> bool
+    requires { ⌜ (count ≤ 1024) × (stored ≤ 1024) × (length (now ids) ≡ 1024) × (length (now codes) ≡ 1024) × (length (now keys) ≡ 1024)
+        × (length (now places) ≡ 1024) × ((i : ℕ) → i < count → getD (now offsets) i 0 ≡ i + 1) ⌝ }
+    ensures { λ r. ⌜ r ≡ sameRows (rowsOf (now (keys .entry)) (now (places .entry)) stored)
+        (rowsPlayed (now (offsets .entry)) (now (ids .entry)) (now (codes .entry)) count) ⌝ }
+{
+    let mut marks = [0u8; 1024];
+    if !super::rows::mark_rows(ids, codes, keys, places, &mut marks, count, stored) {
+        return false;
+    }
+    let mut hints = [0u16; 2039];
+    all_settled(ids, codes, keys, places, &marks, &mut hints, count, stored)
+}
