@@ -1,0 +1,5 @@
+pub mod InMessage
+pub mod OfOps
+pub mod OfStores
+pub mod OfBatch
+pub mod OfTables

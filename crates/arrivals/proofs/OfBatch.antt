@@ -1,0 +1,235 @@
+-- A batch by its offsets, and stored entry by entry. Assumes nothing.
+use Prim.Native.Nat.{ℕ, zero, suc, _+_, _-_, _≤_, _<_}
+use mathlib.Core.Path.{_≡_, refl, sym, ap, _∙_, subst}
+use mathlib.Core.Bool.{Bool, true, false, cond}
+use mathlib.Core.List.{List, [], _∷_, map}
+use lib.Dec.{eqb, ltb}
+use lib.ListN.{length}
+use native.Mathlib.Omega.{arith}
+use borrow.Author.Tests.{eq-eqb, ne-eqb, le-ltb, lt-ltb}
+use Rattle.model.specs.Lists.{every}
+use Rattle.model.specs.Refusals.{noRoom}
+use Rattle.model.specs.Log.{Entry, ShardReplica, StoreResult, lastOffset, push, store, storeAll}
+use Rattle.model.specs.Layout.Message.{replyStored, replyStale}
+use Rattle.model.specs.Layout.Parts.{WireEntry}
+use Rattle.model.specs.Node.Wire.{entryInDomain, storedEntry}
+use Rattle.model.specs.Node.Client.{overfull}
+use Rattle.model.specs.Node.Held.{Held}
+use Rattle.model.specs.Node.Shards.{Result, gives, withReplica}
+use Rattle.model.specs.Node.Backup.{BackupAnswer, replied, backupRefused, isEmpty, copyHeld}
+use Rattle.model.specs.declared.Metric.{Metric}
+use Rattle.model.specs.declared.Epoch.{Epoch}
+use Rattle.model.specs.declared.Offset.{Offset}
+use Rattle.model.proofs.Log.Store.{push-length, store-cases, store-epoch, store-all-longer}
+use Rattle.model.proofs.Lists.{and-left}
+use Rattle.shard.specs.Store.{Store, Sized, replicaOf, wellFormedStore}
+use Rattle.shard.specs.declared.replica.Outcome.{Outcome}
+use Rattle.shard.specs.declared.replica.Outcome.the-variants.{Through, Stale, Full}
+use Rattle.shard.proofs.Arrived.{count-most}
+use Rattle.model.specs.Layout.Format.{next, value, valueN}
+use Rattle.model.specs.Layout.Parts.{entryF, entryOf}
+use Rattle.rpc.specs.Shown.{part, entryShown}
+use Rattle.rpc.specs.declared.Part.{Part}
+use Rattle.rpc.specs.declared.EntryPart.{EntryPart}
+use Rattle.arrivals.specs.Parts.{entriesIn, EntriesThere}
+use Rattle.arrivals.proofs.InMessage.{entryIn, entries-all, entries-none, entries-split}
+use Rattle.arrivals.specs.Arrivals.{Arrives, GrowsTo, StoresAll, Copies}
+use Rattle.arrivals.proofs.OfStores.{last-is, own-epoch}
+
+-- ---- by the offsets
+
+-- a log of n entries after one of this offset
+abbrev pub afterOne : (n offset : ℕ) → ℕ
+afterOne n o = cond (eqb o (n + 1)) (n + 1) n
+
+-- .. and after a batch
+unfoldable pub grown : ℕ → List WireEntry → ℕ
+grown n [] = n
+grown n (e ∷ es) = grown (afterOne n (e .offset)) es
+
+pub after-most : (n o : ℕ) → afterOne n o ≤ n + 1
+after-most n o = by (eqb o (n + 1))
+  where
+    by : (b : Bool) → cond b (n + 1) n ≤ n + 1
+    by true = omega arith
+    by false = omega arith
+
+-- at the own epoch a store takes the next offset alone
+after-store : (r : ShardReplica) (epoch : ℕ) (e : Entry) → epoch ≡ r .epoch → lastOffset (store r epoch e .replica) ≡ afterOne (lastOffset r) (e .offset)
+after-store r epoch e own =
+    let n = lastOffset r in
+    let no : (e .offset ≡ n + 1 → ⊥) → n ≡ afterOne n (e .offset) = λ d. sym (ap (λ (b : Bool). cond b (n + 1) n) (ne-eqb (e .offset) (n + 1) d)) in
+    store-cases (λ v. lastOffset (v .replica) ≡ afterOne n (e .offset)) r epoch e
+    (λ p q. push-length r e ∙ sym (ap (λ (b : Bool). cond b (n + 1) n) (eq-eqb (e .offset) (n + 1) q)))
+    (λ p q. no (λ z. omega arith)) (λ p q. no (λ z. omega arith)) (λ d. absurd (d own))
+
+grown-is : (es : List WireEntry) (r : ShardReplica) (epoch : ℕ) → epoch ≡ r .epoch
+    → grown (lastOffset r) es ≡ lastOffset (storeAll r epoch (map storedEntry es))
+unfolding grown storeAll
+grown-is [] r epoch own = refl
+grown-is (e ∷ es) r epoch own =
+    ap (λ (k : ℕ). grown k es) (sym (after-store r epoch (storedEntry e) own))
+    ∙ grown-is es (store r epoch (storedEntry e) .replica) epoch (own ∙ sym (store-epoch r epoch (storedEntry e)))
+
+pub grows : (es : List WireEntry) (n r : ℕ) → grown n es ≡ r → GrowsTo es n r
+grows es n r h q l = sym h ∙ ap (λ (k : ℕ). grown k es) (sym l) ∙ grown-is es q (q .epoch) refl
+
+-- what is left of a batch in a message: one entry more, or none
+module _ (s : List ℕ) (n at i : ℕ) where
+  pub grown-end : n ≤ i → (k : ℕ) → grown k (entriesIn s (part at (n - i))) ≡ k
+  unfolding grown
+  grown-end h k = ap (grown k) (entries-none s n at i h)
+
+  pub grown-on : (l : i < n) (h : EntriesThere s (part at (n - i))) (e : EntryPart)
+      → e ≡ entryShown at (entryOf (value entryF s at)) (next entryF s at) → (k : ℕ)
+      → grown k (entriesIn s (part at (n - i))) ≡ grown (afterOne k (e .offset .0)) (entriesIn s (part (e .next) (n - (i + 1))))
+  unfolding grown
+  grown-on l h e q k = ap (grown k) (entries-split s n at i l h e q)
+
+-- ---- entry by entry
+
+-- a store on the way, with what is left of a batch
+pub record OnWay (own : ℕ) (es : List Entry) (s₀ s : Store) (rest : List Entry) : Type 0 where
+  pub same : (m : Metric) → storeAll (replicaOf own m s) own rest ≡ storeAll (replicaOf own m s₀) own es
+  pub well : wellFormedStore s ≡ true
+  pub sized : Sized s
+
+-- the batch has room
+pub Fitting : (own : ℕ) → List Entry → Store → Type 0
+Fitting own es s = (m : Metric) → lastOffset (storeAll (replicaOf own m s) own es) ≤ 1024
+
+-- a batch's growth, of the replica in a store
+pub grows-last : (own : ℕ) (es : List WireEntry) (s : Store) (n : ℕ) → GrowsTo es (s .count) n → (m : Metric)
+    → n ≡ lastOffset (storeAll (replicaOf own m s) own (map storedEntry es))
+grows-last own es s n g m =
+    g (replicaOf own m s) (last-is own m s)
+    ∙ ap (λ (e : ℕ). lastOffset (storeAll (replicaOf own m s) e (map storedEntry es))) (own-epoch own m s)
+
+pub fitting : (own : ℕ) (es : List WireEntry) (s : Store) (n : ℕ) → GrowsTo es (s .count) n → n ≤ 1024 → Fitting own (map storedEntry es) s
+unfolding Fitting
+fitting own es s n g h m = let q = grows-last own es s n g m in omega arith
+
+pub overflowing : (own : ℕ) (es : List WireEntry) (s : Store) (n : ℕ) → GrowsTo es (s .count) n → 1024 < n → (m : Metric)
+    → 1024 < lastOffset (storeAll (replicaOf own m s) own (map storedEntry es))
+overflowing own es s n g h m = let q = grows-last own es s n g m in omega arith
+
+pub on-start : (own : ℕ) (es : List Entry) (s : Store) → Sized s → wellFormedStore s ≡ true → OnWay own es s s es
+on-start own es s z w = record { same = λ m. refl; well = w; sized = z }
+
+module _ (own : ℕ) (es : List Entry) (s₀ : Store) (fit : Fitting own es s₀) where
+  pub on-next : (s t : Store) (e : Entry) (rest : List Entry) (a : Outcome) → OnWay own es s₀ s (e ∷ rest) → Arrives own own e s t a
+      → OnWay own es s₀ t rest
+  unfolding Fitting storeAll
+  on-next s t e rest a w d = record {
+    same = λ m. ap (λ (r : ShardReplica). storeAll r own rest) (taken m) ∙ w .same m;
+    well = d .arrived .well;
+    sized = d .arrived .sized;
+  }
+    where
+      taken : (m : Metric) → replicaOf own m t ≡ store (replicaOf own m s) own e .replica
+      taken m =
+          let q = store (replicaOf own m s) own e .replica in
+          let l = store-all-longer own q rest in
+          let f = fit m in
+          let n : lastOffset (storeAll q own rest) ≡ lastOffset (storeAll (replicaOf own m s₀) own es) = ap lastOffset (w .same m) in
+          let b : overfull q ≡ false = le-ltb 1024 (lastOffset q) (omega arith) in
+          d .arrived .replica m ∙ ap (λ (c : Bool). cond c (replicaOf own m s) q) b
+
+pub on-end : (own : ℕ) (es : List Entry) (s₀ s : Store) → OnWay own es s₀ s [] → StoresAll own es s₀ s
+unfolding storeAll
+on-end own es s₀ s w = record { replica = w .same; well = w .well; sized = w .sized }
+
+-- .. over the entries of a message
+module _ (own : ℕ) (b : List ℕ) where
+  pub on-begin : (p : Part) (s : Store) → Sized s → wellFormedStore s ≡ true
+      → OnWay own (map storedEntry (entriesIn b p)) s s (map storedEntry (entriesIn b (part (p .at) (p .len - 0))))
+  on-begin p s z w =
+      subst (λ (l : List WireEntry). OnWay own (map storedEntry (entriesIn b p)) s s (map storedEntry l)) (sym (entries-all b p))
+      (on-start own (map storedEntry (entriesIn b p)) s z w)
+
+  module _ (es : List Entry) (s₀ : Store) (n at i : ℕ) where
+    pub on-done : (s : Store) → n ≤ i → OnWay own es s₀ s (map storedEntry (entriesIn b (part at (n - i)))) → StoresAll own es s₀ s
+    on-done s h w =
+        on-end own es s₀ s (subst (λ (l : List WireEntry). OnWay own es s₀ s (map storedEntry l)) (entries-none b n at i h) w)
+
+    pub on-turn : Fitting own es s₀ → (l : i < n) (h : EntriesThere b (part at (n - i))) (e : EntryPart)
+        → e ≡ entryShown at (entryOf (value entryF b at)) (next entryF b at) → (s t : Store) (a : Outcome)
+        → OnWay own es s₀ s (map storedEntry (entriesIn b (part at (n - i)))) → Arrives own own (storedEntry (entryIn b e)) s t a
+        → OnWay own es s₀ t (map storedEntry (entriesIn b (part (e .next) (n - (i + 1)))))
+    on-turn fit l h e q s t a w d =
+        on-next own es s₀ fit s t (storedEntry (entryIn b e)) (map storedEntry (entriesIn b (part (e .next) (n - (i + 1))))) a
+        (subst (λ (r : List WireEntry). OnWay own es s₀ s (map storedEntry r)) (entries-split b n at i l h e q) w) d
+
+-- ---- a CopyShard
+
+-- no entries, or some
+pub batch-none : (b : List ℕ) (p : Part) → p .len ≡ 0 → map storedEntry (entriesIn b p) ≡ []
+unfolding entriesIn
+batch-none b p e = ap (λ (n : ℕ). map storedEntry (map entryOf (valueN (value entryF b) (next entryF b) n (p .at)))) e
+
+pub batch-some : (b : List ℕ) (p : Part) → (p .len ≡ 0 → ⊥) → isEmpty (map storedEntry (entriesIn b p)) ≡ false
+unfolding entriesIn
+batch-some b p h = by (p .len) refl
+  where
+    by : (n : ℕ) → p .len ≡ n → isEmpty (map storedEntry (map entryOf (valueN (value entryF b) (next entryF b) n (p .at)))) ≡ false
+    by zero e = absurd (h e)
+    by (suc n) e = refl
+
+module _ (own epoch : ℕ) (es : List Entry) (s : Store) (z : Sized s) (w : wellFormedStore s ≡ true) where
+  pub copies-none : es ≡ [] → (o : Offset) → o .0 ≡ s .count → Copies own epoch es s s (Through o)
+  unfolding copyHeld
+  copies-none e o q = record {
+    same = λ m h r. rw e (ap (λ (n : ℕ). gives {S = Held} (replied (replyStored n)) (withReplica h (replicaOf own m s)))
+        (q ∙ sym (last-is own m s) ∙ ap lastOffset (sym r)) ∙ ap (λ (v : ShardReplica). gives {S = Held} (replied (replyStored (lastOffset (h .replica)))) (withReplica h v)) (sym r));
+    kept = λ t. refl;
+    well = w;
+    sized = z;
+  }
+
+  module _ (some-entry : isEmpty es ≡ false) where
+    pub copies-stale : (epoch ≡ own → ⊥) → (o : Epoch) → o .0 ≡ own → Copies own epoch es s s (Stale o)
+    unfolding copyHeld
+    copies-stale n o q = record {
+      same = λ m h r.
+          let e : h .replica .epoch ≡ own = ap (λ (v : ShardReplica). v .epoch) r ∙ own-epoch own m s in
+          let b : eqb epoch (h .replica .epoch) ≡ false = ne-eqb epoch (h .replica .epoch) (λ p. n (p ∙ e)) in
+          rw (some-entry, b) (ap (λ (n : ℕ). gives {S = Held} (replied (replyStale n)) (withReplica h (replicaOf own m s))) (q ∙ sym e)
+          ∙ ap (λ (v : ShardReplica). gives {S = Held} (replied (replyStale (h .replica .epoch))) (withReplica h v)) (sym r));
+      kept = λ t. refl;
+      well = w;
+      sized = z;
+    }
+
+    module _ (p : epoch ≡ own) where
+      pub copies-full : ((m : Metric) → 1024 < lastOffset (storeAll (replicaOf own m s) own es)) → Copies own epoch es s s Full
+      unfolding copyHeld
+      copies-full f = record {
+        same = λ m h r.
+            let e : h .replica .epoch ≡ own = ap (λ (v : ShardReplica). v .epoch) r ∙ own-epoch own m s in
+            let b : eqb epoch (h .replica .epoch) ≡ true = eq-eqb epoch (h .replica .epoch) (p ∙ sym e) in
+            let k : storeAll (h .replica) epoch es ≡ storeAll (replicaOf own m s) own es = ap (λ (v : ShardReplica). storeAll v epoch es) r ∙ ap (λ (x : ℕ). storeAll (replicaOf own m s) x es) p in
+            let o : overfull (storeAll (h .replica) epoch es) ≡ true = lt-ltb 1024 (lastOffset (storeAll (h .replica) epoch es)) (rw k (f m)) in
+            rw (some-entry, b, o) (ap (λ (v : ShardReplica). gives {S = Held} (backupRefused noRoom) (withReplica h v)) (sym r));
+        kept = λ t. refl;
+        well = w;
+        sized = z;
+      }
+
+      pub copies-all : (t : Store) → StoresAll own es s t → (n : ℕ) → ((m : Metric) → n ≡ lastOffset (storeAll (replicaOf own m s) own es)) → n ≤ 1024
+          → (o : Offset) → o .0 ≡ n → Copies own epoch es s t (Through o)
+      unfolding copyHeld
+      copies-all t d n l most o q = record {
+        same = λ m h r.
+            let e : h .replica .epoch ≡ own = ap (λ (v : ShardReplica). v .epoch) r ∙ own-epoch own m s in
+            let b : eqb epoch (h .replica .epoch) ≡ true = eq-eqb epoch (h .replica .epoch) (p ∙ sym e) in
+            let k : storeAll (h .replica) epoch es ≡ replicaOf own m t = ap (λ (v : ShardReplica). storeAll v epoch es) r ∙ ap (λ (x : ℕ). storeAll (replicaOf own m s) x es) p ∙ sym (d .replica m) in
+            let j : n ≡ lastOffset (replicaOf own m t) = l m ∙ ap lastOffset (sym (d .replica m)) in
+            let v : overfull (replicaOf own m t) ≡ false = le-ltb 1024 (lastOffset (replicaOf own m t)) (omega arith) in
+            rw (some-entry, b, k, v) (ap (λ (x : ℕ). gives {S = Held} (replied (replyStored x)) (withReplica h (replicaOf own m t))) (q ∙ j));
+        kept = λ c. absurd-kept c;
+        well = d .well;
+        sized = d .sized;
+      }
+        where
+          absurd-kept : false ≡ true → t ≡ s
+          absurd-kept c = let x : _≡_ {A = ℕ} 0 1 = cc in absurd (omega arith)

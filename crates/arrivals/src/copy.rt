@@ -1,0 +1,194 @@
+// 22: a batch of entries, each stored under its own epoch (paper 01, 'Who is turned down', CopyShard; node.rs, on_copy).
+ghost use mathlib.Core.Path.{_≡_};
+ghost use mathlib.Core.Bool.{true, cond};
+ghost use mathlib.Core.List.{map};
+ghost use Prim.Native.Nat.{_+_, _≤_, _<_};
+ghost use lib.Dec.{eqb};
+ghost use Rattle.model.specs.Lists.{every};
+ghost use Rattle.model.specs.Node.Wire.{entryInDomain, storedEntry};
+ghost use Rattle.shard.specs.View.{columns};
+ghost use Rattle.shard.specs.Store.{lent, Sized, wellFormedStore};
+ghost use Rattle.arrivals.specs.Parts.{entriesIn, EntriesThere};
+ghost use Rattle.arrivals.specs.Arrivals.{GrowsTo, StoresAll, Copies};
+use crate::store::store_under;
+use model::Epoch;
+use model::Offset;
+use rpc::Part;
+use rpc::parts::entry_at;
+use shard::replica::Outcome;
+use shard::replica::Taken;
+
+// How many entries the log and how many rows the table has.
+pub struct Stock {
+    pub count: usize,
+    pub stored: usize,
+}
+
+// A log of `last` entries after one of this offset.
+fn after(last: usize, offset: Offset) -> usize
+    requires { ⌜ last < 1000000 ⌝ }
+    ensures { λ r. ⌜ r ≡ cond (eqb (offset .0) (last + 1)) (last + 1) last ⌝ }
+{
+    if offset.0 == (last + 1) as u64 {
+        return last + 1;
+    }
+    last
+}
+
+// How many entries the log has after a batch, by the offsets alone: those already held and those behind a gap add nothing.
+pub fn grows_to(s: &[u8], p: Part, count: usize) -> usize
+    requires { ⌜ (EntriesThere (now s) p) × (count ≤ 1024) ⌝ }
+    ensures { λ r. ⌜ GrowsTo (entriesIn (now (s .entry)) p) count r ⌝ }
+{
+    let n = p.len;
+    let mut at = p.at;
+    let mut last = count;
+    let mut i: usize = 0;
+    while i < n {
+        let e = entry_at(s, at);
+        let offset = e.offset;
+        last = after(last, offset);
+        at = e.next;
+        i += 1;
+    }
+    last
+}
+
+// The entries of a batch at the own epoch, one after the other; `grows_to` has found room for them.
+pub fn store_all(
+    epochs: &mut [u64],
+    offsets: &mut [u64],
+    ids: &mut [u64],
+    codes: &mut [u8],
+    lengths: &mut [u8],
+    floats: &mut [f32],
+    keys: &mut [u64],
+    places: &mut [u64],
+    count: usize,
+    stored: usize,
+    own: Epoch,
+    s: &[u8],
+    p: Part,
+    last: usize,
+) -> Stock
+    requires { ⌜ (Sized (lent (columns (now epochs) (now offsets) (now ids) (now codes) (now lengths) (now floats)) (now keys) (now places) count stored))
+        × (wellFormedStore (lent (columns (now epochs) (now offsets) (now ids) (now codes) (now lengths) (now floats)) (now keys) (now places) count stored) ≡ true)
+        × (EntriesThere (now s) p) × (every entryInDomain (entriesIn (now s) p) ≡ true)
+        × (GrowsTo (entriesIn (now s) p) count last) × (last ≤ 1024) ⌝ }
+    ensures { λ r. ⌜ StoresAll (own .0) (map storedEntry (entriesIn (now (s .entry)) p))
+        (lent (columns (now (epochs .entry)) (now (offsets .entry)) (now (ids .entry)) (now (codes .entry)) (now (lengths .entry)) (now (floats .entry)))
+        (now (keys .entry)) (now (places .entry)) count stored)
+        (lent (columns (now (epochs .exit)) (now (offsets .exit)) (now (ids .exit)) (now (codes .exit)) (now (lengths .exit)) (now (floats .exit)))
+        (now (keys .exit)) (now (places .exit)) (r .count) (r .stored)) ⌝ }
+{
+    let n = p.len;
+    let mut at = p.at;
+    let mut c = count;
+    let mut k = stored;
+    let mut i: usize = 0;
+    while i < n {
+        let e = entry_at(s, at);
+        let under = e.epoch;
+        let offset = e.offset;
+        let op = e.op;
+        let t = store_under(
+            epochs,
+            offsets,
+            ids,
+            codes,
+            lengths,
+            floats,
+            keys,
+            places,
+            c,
+            k,
+            own,
+            own,
+            under,
+            offset,
+            s,
+            op,
+        );
+        c = t.count;
+        k = t.stored;
+        at = e.next;
+        i += 1;
+    }
+    Stock {
+        count: c,
+        stored: k,
+    }
+}
+
+// A CopyShard sent by the primary of `epoch`, to a replica at `own`: an empty one is Stored at any epoch; 23 is found before anything is
+// stored.
+pub fn copy(
+    epochs: &mut [u64],
+    offsets: &mut [u64],
+    ids: &mut [u64],
+    codes: &mut [u8],
+    lengths: &mut [u8],
+    floats: &mut [f32],
+    keys: &mut [u64],
+    places: &mut [u64],
+    count: usize,
+    stored: usize,
+    own: Epoch,
+    epoch: Epoch,
+    s: &[u8],
+    p: Part,
+) -> Taken
+    requires { ⌜ (Sized (lent (columns (now epochs) (now offsets) (now ids) (now codes) (now lengths) (now floats)) (now keys) (now places) count stored))
+        × (wellFormedStore (lent (columns (now epochs) (now offsets) (now ids) (now codes) (now lengths) (now floats)) (now keys) (now places) count stored) ≡ true)
+        × (EntriesThere (now s) p) × (every entryInDomain (entriesIn (now s) p) ≡ true) ⌝ }
+    ensures { λ r. ⌜ Copies (own .0) (epoch .0) (map storedEntry (entriesIn (now (s .entry)) p))
+        (lent (columns (now (epochs .entry)) (now (offsets .entry)) (now (ids .entry)) (now (codes .entry)) (now (lengths .entry)) (now (floats .entry)))
+        (now (keys .entry)) (now (places .entry)) count stored)
+        (lent (columns (now (epochs .exit)) (now (offsets .exit)) (now (ids .exit)) (now (codes .exit)) (now (lengths .exit)) (now (floats .exit)))
+        (now (keys .exit)) (now (places .exit)) (r .count) (r .stored))
+        (r .outcome) ⌝ }
+{
+    if p.len == 0 {
+        return Taken {
+            outcome: Outcome::Through(Offset(count as u64)),
+            count: count,
+            stored: stored,
+        };
+    }
+    if epoch.0 != own.0 {
+        return Taken {
+            outcome: Outcome::Stale(own),
+            count: count,
+            stored: stored,
+        };
+    }
+    let last = grows_to(s, p, count);
+    if 1024 < last {
+        return Taken {
+            outcome: Outcome::Full,
+            count: count,
+            stored: stored,
+        };
+    }
+    let t = store_all(
+        epochs,
+        offsets,
+        ids,
+        codes,
+        lengths,
+        floats,
+        keys,
+        places,
+        count,
+        stored,
+        own,
+        s,
+        p,
+        last,
+    );
+    Taken {
+        outcome: Outcome::Through(Offset(last as u64)),
+        count: t.count,
+        stored: t.stored,
+    }
+}
