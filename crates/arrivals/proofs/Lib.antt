@@ -3,3 +3,4 @@ pub mod OfOps
 pub mod OfStores
 pub mod OfBatch
 pub mod OfTables
+pub mod OfMessages
