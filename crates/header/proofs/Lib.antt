@@ -1,0 +1,4 @@
+pub mod OfLists
+pub mod OfFormed
+pub mod OfShards
+pub mod OfCalls

@@ -1,0 +1,59 @@
+use borrow.Author.Needs.{needs}
+use Rattle.state.specs.Names.{viewKey}
+use Rattle.state.proofs.Tables.{of-field}
+use Rattle.node.proofs.OfFormed.{formed-few}
+use Rattle.header.specs.View.{noKept}
+use Rattle.header.proofs.OfFormed.{header-few, shard-formed}
+use Rattle.header.proofs.OfCalls.{ack-absent, ack-done}
+use native.Mathlib.Omega.{arith}
+use mathlib.Core.Path.{_≡_, refl, sym, _∙_, ap}
+use mathlib.Core.List.{List, [], _∷_, _++_}
+use Prim.Native.Nat.{ℕ, _+_, _-_, _*_, _≤_, _<_}
+use lib.ListN.{length, getD, take, drop, set}
+use Rattle.header.proofs.ack.ack_in.Statement.{statement}
+use Rattle.header.proofs.ack.ack_in.Tie as tie
+use Rattle.header.proofs.ack.ack_in.Reads as reads
+use Rattle.header.proofs.ack.ack_in.Lts as lts
+use Rattle.header.proofs.shards.place_of.Reads as place-of-reads
+use Rattle.header.proofs.shards.with_held.Reads as with-held-reads
+use Rattle.node.proofs.ack.ack_held.Reads as ack-held-reads
+
+-- the shards in use are in the array
+fits : (c : tie.Start) → c .args .n .count ≤ length (c .args .n .held)
+fits c =
+    let h : length (c .args .n .held) ≡ 8 = search (needs, of-field) in
+    let few = header-few (c .args .n) (c .pre .0) in
+    omega arith
+
+place-of-requires : tie.Need-place-of-requires
+place-of-requires c κs = header-few (c .before .args .n) (c .before .pre .0)
+
+returns : tie.Need-returns
+returns c = ack-absent (c .before .before .before .args .n) (viewKey (c .before .before .before .args .key)) (c .before .before .before .args .epoch .0) (c .before .before .before .args .peer .0) (c .before .before .before .args .step) (c .before .before .before .args .reply) (c .before .before .before .pre .1) (fits (c .before .before .before)) (c .before .place-of .result) (c .before .place-of .ensures) (c .if1 .taken)
+
+mul-x : tie.Need-mul-x
+mul-x c = let few = header-few (c .before .before .before .args .n) (c .before .before .before .pre .0) in search needs
+
+array-copy-out-x : tie.Need-array-copy-out-x
+array-copy-out-x c = let few = header-few (c .before .before .before .args .n) (c .before .before .before .pre .0) in search needs
+
+ack-held-requires : tie.Need-ack-held-requires
+ack-held-requires c κs = (formed-few _ (shard-formed (c .before .before .before .before .before .args .n) (c .before .before .before .before .before .pre .0) (fits (c .before .before .before .before .before)) (c .before .before .before .place-of .result) (c .before .before .if1 .left) noKept), c .before .before .before .before .before .pre .1)
+
+with-held-requires : tie.Need-with-held-requires
+with-held-requires c κs = let few = header-few (c .before .before .before .before .before .before .before .args .n) (c .before .before .before .before .before .before .before .pre .0) in let lt = c .before .before .before .before .if1 .left in omega arith
+
+returns-2 : tie.Need-returns-2
+returns-2 c = ack-done (c .before .before .before .before .before .before .before .before .args .n) (viewKey (c .before .before .before .before .before .before .before .before .args .key)) (c .before .before .before .before .before .before .before .before .args .epoch .0) (c .before .before .before .before .before .before .before .before .args .peer .0) (c .before .before .before .before .before .before .before .before .args .step) (c .before .before .before .before .before .before .before .before .args .reply) (c .before .before .before .before .before .before .before .before .pre .1) (fits (c .before .before .before .before .before .before .before .before)) (c .before .before .before .before .before .before .place-of .result) (c .before .before .before .before .before .before .place-of .ensures) (c .before .before .before .before .before .if1 .left) (c .before .before .ack-held .result) (c .before .before .ack-held .ensures) (c .with-held .result) (c .with-held .ensures)
+
+pub ack-in-spec : {M : Type 1} → statement M
+ack-in-spec =
+    tie.close
+    (tie.spec
+    place-of-requires
+    returns
+    mul-x
+    array-copy-out-x
+    ack-held-requires
+    with-held-requires
+    returns-2)

@@ -1,0 +1,78 @@
+// The node's header (paper 01, 'The node'; node.rs, State), by value: what every call of a node is lent. The logs and vectors of its shards
+// are in stores of their own. A call takes the one shard that it names out of the header and puts it back.
+use model::DataNodeId;
+use node::AckAnswer;
+use node::Held;
+use node::Nodes;
+use node::OutcomeAnswer;
+use node::WaitAnswer;
+use serve::Expiry;
+use serve::Step;
+use state::ShardKey;
+
+pub mod ack;
+pub mod formed;
+pub mod grant;
+pub mod outcome;
+pub mod shards;
+pub mod step;
+pub mod wait;
+
+// A held shard: which of the eight stores is its own, and how many rows that store's table of vectors has. The slot stays with the shard
+// when keys shift places.
+pub struct Kept {
+    pub key: ShardKey,
+    pub slot: usize,
+    pub stored: usize,
+    pub held: Held,
+}
+
+// The source's State, with the node's id. The first `count` shards are in use, by rising key; the rest is free.
+pub struct Node {
+    pub id: DataNodeId,
+    pub incarnation: u64,
+    pub expiry: Expiry,
+    pub version: u64,
+    pub held: [Kept; 8],
+    pub count: usize,
+}
+
+// A grant is taken note of, or refused by a number.
+pub enum GrantAnswer {
+    Granted,
+    Refused(u8),
+}
+
+pub struct NodeGranted {
+    pub answer: GrantAnswer,
+    pub node: Node,
+}
+
+// The answer, the peers to propose a Shrink for, by rising node, and the node after.
+pub struct NodeWaited {
+    pub answer: WaitAnswer,
+    pub shrink: Nodes,
+    pub node: Node,
+}
+
+pub struct NodeAcked {
+    pub answer: AckAnswer,
+    pub node: Node,
+}
+
+// What a node proposes.
+pub enum Proposal {
+    Shrink,
+    Grow,
+}
+
+pub struct NodeSettled {
+    pub answer: OutcomeAnswer,
+    pub node: Node,
+}
+
+// A worker's step, or a refusal's number.
+pub enum StepAnswer {
+    Stepped(Step),
+    Refused(u8),
+}
