@@ -1,19 +1,16 @@
--- Every element of a list, of its parts, and from a place on; a stored float's domain. Assumes nothing.
+-- Every element of a list, of its parts, and what a test of all carries that does not stop early. Assumes nothing.
 use Prim.Native.Nat.{ℕ, zero, suc, _+_, _*_, _≤_, _<_}
 use mathlib.Core.Path.{_≡_, refl, sym, ap, _∙_}
-use mathlib.Core.Bool.{Bool, true, false, cond}
+use mathlib.Core.Bool.{Bool, true, false}
 use mathlib.Core.List.{List, [], _∷_}
-use native.Mathlib.Numerals.{add-one}
 use native.Mathlib.Omega.{arith}
-use lib.Dec.{T}
-use lib.Ieee.{Float, binary32, fits}
-use lib.ListN.{length, take, drop, getD, drop-of-length-le}
-use lib.Seq.{drop-cons, take-nil}
+use lib.Ieee.{Float}
+use lib.ListN.{length, take, drop, getD}
+use lib.Seq.{take-nil}
 use Rattle.model.specs.Lists.{_and_, every}
-use Rattle.model.specs.Nearest.Order.{inDomain}
 use Rattle.model.specs.Node.WellFormed.{component}
 use Rattle.model.proofs.Map.Rows.{every-tail, every-cons}
-use Rattle.model.proofs.Nearest.Tests.{is-true}
+use Rattle.shard.proofs.Checking.{every-on, every-stop, every-end}
 use Rattle.storecheck.specs.Entries.{StretchFits}
 
 module _ {ℓ} {A : Type ℓ} (p : A → Bool) where
@@ -35,37 +32,25 @@ module _ {ℓ} {A : Type ℓ} (p : A → Bool) where
   every-part (suc n) (suc a) k (x ∷ l) h e = every-part n a k l (omega arith) (every-tail p x (take n l) e .1)
 
   module _ (l : List A) (i : ℕ) (d : A) where
-    every-head : (b : Bool) → p (getD l i d) ≡ b → i < length l → every p (drop i l) ≡ cond b (every p (drop (i + 1) l)) false
-    unfolding every
-    every-head b q h =
-        ap (every p) (drop-cons l i d h)
-        ∙ ap (λ (v : Bool). cond v (every p (drop (suc i) l)) false) q
-        ∙ ap (λ (n : ℕ). cond b (every p (drop n l)) false) (sym (add-one i))
-
     -- a test of all without early exit: what was found so far, and the rest
     pub pass-on : (ok : Bool) → p (getD l i d) ≡ true → i < length l → ok and every p (drop (i + 1) l) ≡ ok and every p (drop i l)
-    pass-on ok q h = ap (λ (v : Bool). ok and v) (sym (every-head true q h))
+    pass-on ok q h = ap (λ (v : Bool). ok and v) (sym (every-on p l i d q h))
 
     pub pass-out : (ok : Bool) → p (getD l i d) ≡ false → i < length l → false and every p (drop (i + 1) l) ≡ ok and every p (drop i l)
     unfolding _and_
-    pass-out ok q h = sym (none-left ok) ∙ ap (λ (v : Bool). ok and v) (sym (every-head false q h))
+    pass-out ok q h = sym (none-left ok) ∙ ap (λ (v : Bool). ok and v) (sym (every-stop p l i d q h))
       where
         none-left : (b : Bool) → b and false ≡ false
         none-left true = refl
         none-left false = refl
 
   pub pass-end : (ok : Bool) (l : List A) (i : ℕ) → length l ≤ i → ok ≡ ok and every p (drop i l)
-  unfolding every _and_
-  pass-end ok l i h = sym (ap (λ (v : List A). ok and every p v) (drop-of-length-le l {i = i} h) ∙ all-left ok)
+  unfolding _and_
+  pass-end ok l i h = sym (ap (λ (v : Bool). ok and v) (every-end p l i h) ∙ all-left ok)
     where
       all-left : (b : Bool) → b and true ≡ b
       all-left true = refl
       all-left false = refl
-
--- a stored float fits its type, so that its domain alone is tested
-pub component-is : (x : Float) (b : Bool) → T (fits binary32 x) → b ≡ inDomain x → component x ≡ b
-unfolding _and_
-component-is x b f e = ap (λ (v : Bool). v and inDomain x) (is-true (fits binary32 x) f) ∙ sym e
 
 -- the stretches of n entries, if all floats up to the last of them lie in the domain
 pub stretches : (fs : List Float) (n i e : ℕ) → i < n → e ≡ n * 32 → every component (take e fs) ≡ true → StretchFits fs i

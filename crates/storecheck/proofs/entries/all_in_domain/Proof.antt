@@ -9,7 +9,8 @@ use lib.Ieee.{nan}
 use mathlib.Core.Bool.{Bool}
 use Rattle.model.specs.Lists.{_and_, every}
 use Rattle.model.specs.Node.WellFormed.{component}
-use Rattle.storecheck.proofs.Domain.{component-is, pass-on, pass-out, pass-end}
+use Rattle.shard.proofs.Checking.{component-is}
+use Rattle.storecheck.proofs.Domain.{pass-on, pass-out, pass-end}
 use Rattle.storecheck.proofs.entries.all_in_domain.Statement.{statement}
 use Rattle.storecheck.proofs.entries.all_in_domain.Tie as tie
 
