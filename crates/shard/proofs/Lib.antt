@@ -15,5 +15,4 @@ pub mod Rebuilt
 pub mod Aligning
 pub mod Adopting
 pub mod Checking
-pub mod Fitting
 pub mod Ends

@@ -15,8 +15,7 @@ use Rattle.shard.specs.declared.replica.Outcome.the-variants.{Through, G
 use Rattle.model.specs.Nearest.Order.{bitsInDomain}
 use Rattle.model.specs.Node.WellFormed.{numberedFrom, wellFormedEntry}
 use Rattle.model.specs.declared.Metric.{Metric}
-use lib.Ieee.{Float}
-use Rattle.shard.specs.View.{Columns, entryOf, logOf}
+use Rattle.shard.specs.View.{Columns, logOf}
 use Rattle.shard.specs.Table.{Row, rowsOf, playRows, vectorsOf}
 
 -- the columns of the log, the two of the table, and how much of them is used
@@ -107,21 +106,3 @@ pub record Arrived (own epoch : ℕ) (e : Entry) (s t : Store) (a : Outcome) : T
       replicaOf own m t ≡ cond (overfull (q .replica)) (replicaOf own m s) (q .replica)
   pub well : wellFormedStore t ≡ true
   pub sized : Sized t
-
-unfoldable pub sameNumbers : List ℕ → List ℕ → Bool
-sameNumbers [] [] = true
-sameNumbers [] (y ∷ ys) = false
-sameNumbers (x ∷ xs) [] = false
-sameNumbers (x ∷ xs) (y ∷ ys) = eqb x y and sameNumbers xs ys
-
--- the clauses of one entry: its offset, its code and length, its components
-unfoldable pub entryFits : Columns → ℕ → Bool
-entryFits c i = eqb (getD (c .offsets) i 0) (i + 1) and (codeFits c i and wellFormedEntry (entryOf c i))
-
--- .. told by the columns of offsets, codes, lengths and floats
-abbrev pub EntryFits : (offsets codes lengths : List ℕ) → List Float → ℕ → Bool → Type 0
-EntryFits os cs ls fs i b = (es is : List ℕ) → b ≡ entryFits (record { epochs = es; offsets = os; ids = is; codes = cs; lengths = ls; floats = fs }) i
-
-abbrev pub EntriesFit : (offsets codes lengths : List ℕ) → List Float → ℕ → Bool → Type 0
-EntriesFit os cs ls fs n b =
-    (es is : List ℕ) → b ≡ everyBelow (entryFits (record { epochs = es; offsets = os; ids = is; codes = cs; lengths = ls; floats = fs })) n
