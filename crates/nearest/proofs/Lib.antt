@@ -1,5 +1,8 @@
 pub mod Hits
 pub mod Placing
+pub mod Filling
+pub mod Settled
+pub mod Chosen
 pub mod Searching
 pub mod Writing
 pub mod Asked

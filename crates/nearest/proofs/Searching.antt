@@ -1,34 +1,40 @@
--- The walk over the rows of a table, from the last to the first: what is kept so far are the first k of the rest. Assumes nothing.
-use Prim.Native.Nat.{ℕ, zero, suc, _+_, _-_, _≤_, _<_, min}
+-- The column of the stored vectors: it can be chosen from, and its neighbours are those of the search. Assumes nothing.
+use Prim.Native.Nat.{ℕ, zero, suc, _+_, _-_, _^_, _≤_, _<_}
 use mathlib.Core.Path.{_≡_, refl, sym, ap, _∙_, subst}
 use mathlib.Core.Bool.{Bool, true, false, not, cond}
-use mathlib.Core.List.{List, [], _∷_, _++_, map}
-use mathlib.Core.Option.{Option, none, some}
+use mathlib.Core.List.{List, [], _∷_, map}
 use mathlib.Core.Logic.{_⊎_, inl, inr}
-use native.Mathlib.Numerals.{add-one}
 use native.Mathlib.Omega.{arith}
-use lib.Dec.{T, leb}
-use lib.Ieee.{Float, binary32, fits, isNan}
-use borrow.Author.Tests.{leb-true}
-use lib.ListN.{length, take, drop, getD, length-map, drop-of-length-le, List·getD-map}
-use lib.Seq.{drop-cons, take-all, take-take, length-take-le, getD-take}
-use Rattle.model.specs.Lists.{_and_, nth, every}
+use lib.Dec.{T, not-T, leb, ltb, eqb}
+use lib.Ieee.{Float, nan, binary32, fits, toBits}
+use borrow.Author.Tests.{leb-true, ltb-true, ltb-false, eqb-true, eqb-false, lt-ltb}
+use lib.ListN.{length, take, getD, length-map, List·getD-map}
+use lib.Seq.{ext-getD}
+use Rattle.model.specs.Lists.{_and_, nth, every, rising}
 use Rattle.model.specs.declared.Metric.{Metric}
+use Rattle.model.specs.declared.Metric.the-variants.{Euclidean, Angular}
 use Rattle.model.specs.declared.Neighbor.{Neighbor}
-use Rattle.model.specs.Nearest.Order.{inDomain}
-use Rattle.model.specs.Nearest.Distance.{Bounded, allInDomain}
-use Rattle.model.specs.Nearest.Search.{Vector, neighbor, nearer, insert, ordered, hits}
+use Rattle.model.specs.Nearest.Order.{key, inDomain}
+use Rattle.model.specs.Nearest.Root.{rootable}
+use Rattle.model.specs.Nearest.Distance.{Bounded, allInDomain, norm, squares, distance}
+use Rattle.model.specs.Nearest.Search.{Vector, neighbor, nearer, ordered, hits}
 use Rattle.model.specs.Node.WellFormed.{component, wellFormedVector, wellFormedOp, wellFormedEntry}
 use Rattle.model.specs.Log.{Op, upsert, delete, Entry, Log, entryAt, components, componentsAt, lookup}
 use Rattle.model.proofs.Lists.{and-left, and-right}
 use Rattle.model.proofs.Map.Rows.{every-tail}
-use Rattle.model.proofs.Nearest.Tests.{holds, is-true}
-use Rattle.model.proofs.Nearest.Search.{Rises, hits-first, First}
-use Rattle.shard.specs.Table.{Row, rowsOf, vectorOf, vectorsOf}
+use Rattle.model.proofs.Nearest.Exact.{sqrt-nearest, plus-float}
+use Rattle.model.proofs.Nearest.NoNan.{squares-rootable}
+use Rattle.model.proofs.Nearest.Rank.{keyOf, nearer-says}
+use Rattle.model.proofs.Nearest.Skip.{squares-fits, passed-over}
+use Rattle.shard.specs.View.{columns, logOf, firsts, stretch, opOf}
+use Rattle.shard.specs.Table.{Row, rowBelow, rowsOf, vectorOf, vectorsOf}
+use Rattle.shard.specs.Store.{Store, storeLog, storeRows, Sized}
+use Rattle.shard.proofs.Columns.{look-zero, look-past, look-at, op-set, op-deleted}
+use Rattle.shard.proofs.Facts.{Facts, keys-fit, places-fit, rows-rising}
+use Rattle.shard.proofs.Firsts.{firsts-length, firsts-at}
 use Rattle.shard.proofs.Rows.{rows-length, rows-at, no-row}
-use Rattle.shard.proofs.Bits.{every-at}
-use Rattle.nearest.proofs.Hits.{number, insert-take, insert-length, every-insert}
-use Rattle.nearest.proofs.Placing.{Placing}
+use Rattle.nearest.specs.Column.{settled, Ready, neighborAt, keyAt, Selectable, kindOf, rough, Walkable}
+use Rattle.nearest.proofs.Settled.{rough-settled, rough-ready}
 
 -- ---- stored vectors lie in the domain
 
@@ -66,126 +72,166 @@ unfolding lookup entryAt allInDomain
 look-bounded l zero e = (omega arith, tt)
 look-bounded l (suc i) e = nth-bounded l i e
 
--- ---- the rest of the rows
+-- ---- a lookup is told by the columns of codes, lengths and floats
+stretch-same : (cs ls : List ℕ) (fs : List Float) (es os is es′ os′ is′ : List ℕ) (i : ℕ)
+    → stretch (columns es os is cs ls fs) i ≡ stretch (columns es′ os′ is′ cs ls fs) i
+unfolding stretch
+stretch-same cs ls fs es os is es′ os′ is′ i = refl
 
-module _ (l : Log) (keys places : List ℕ) (stored : ℕ) (hk : stored ≤ length keys) (hp : stored ≤ length places) where
-  abbrev all : List Vector
-  all = vectorsOf l (rowsOf keys places stored)
+look-same : (cs ls : List ℕ) (fs : List Float) (es os is es′ os′ is′ : List ℕ) (n o : ℕ)
+    → lookup (logOf (columns es os is cs ls fs) n) o ≡ lookup (logOf (columns es′ os′ is′ cs ls fs) n) o
+look-same cs ls fs es os is es′ os′ is′ n zero =
+    look-zero (logOf (columns es os is cs ls fs) n) 0 refl ∙ sym (look-zero (logOf (columns es′ os′ is′ cs ls fs) n) 0 refl)
+look-same cs ls fs es os is es′ os′ is′ n (suc i) = within (ltb i n) refl
+  where
+    same : (b : Bool) → eqb (getD cs i 0) 1 ≡ b
+        → components (opOf (columns es os is cs ls fs) i) ≡ components (opOf (columns es′ os′ is′ cs ls fs) i)
+    same true e =
+        op-set (columns es os is cs ls fs) i (eqb-true (getD cs i 0) 1 e) ∙ stretch-same cs ls fs es os is es′ os′ is′ i
+        ∙ sym (op-set (columns es′ os′ is′ cs ls fs) i (eqb-true (getD cs i 0) 1 e))
+    same false e =
+        op-deleted (columns es os is cs ls fs) i (eqb-false (getD cs i 0) 1 e)
+        ∙ sym (op-deleted (columns es′ os′ is′ cs ls fs) i (eqb-false (getD cs i 0) 1 e))
 
-  all-length : length all ≡ stored
-  unfolding vectorsOf
-  all-length = length-map (rowsOf keys places stored) (vectorOf l) ∙ rows-length keys places stored hk hp
+    within : (b : Bool) → ltb i n ≡ b
+        → lookup (logOf (columns es os is cs ls fs) n) (suc i) ≡ lookup (logOf (columns es′ os′ is′ cs ls fs) n) (suc i)
+    within true e =
+        look-at (columns es os is cs ls fs) n (suc i) i (omega arith) (ltb-true i n e) ∙ same (eqb (getD cs i 0) 1) refl
+        ∙ sym (look-at (columns es′ os′ is′ cs ls fs) n (suc i) i (omega arith) (ltb-true i n e))
+    within false e =
+        look-past (columns es os is cs ls fs) n (suc i) (omega (arith, ltb-false i n e))
+        ∙ sym (look-past (columns es′ os′ is′ cs ls fs) n (suc i) (omega (arith, ltb-false i n e)))
 
-  pub rest-next : (i : ℕ) → i < stored
-      → drop i all ≡ record { id = getD keys i 0; components = lookup l (getD places i 0) } ∷ drop (i + 1) all
-  unfolding vectorsOf vectorOf
-  rest-next i h =
-      drop-cons all i (vectorOf l no-row) (subst (λ (m : ℕ). i < m) (sym all-length) h)
-      ∙ ap (λ (v : Vector). v ∷ drop (suc i) all)
-      (List·getD-map (vectorOf l) (rowsOf keys places stored) i no-row ∙ ap (vectorOf l) (rows-at keys places stored hk hp i no-row h))
-      ∙ ap (λ (m : ℕ). record { id = getD keys i 0; components = lookup l (getD places i 0) } ∷ drop m all) (sym (add-one i))
+-- ---- ids rise
+below-all : (x d : Row) (l : List Row) → rising rowBelow (x ∷ l) ≡ true → (j : ℕ) → j < length l → x .id < getD l j d .id
+unfolding rising
+below-all x d [] r j h = absurd (omega arith)
+below-all x d (y ∷ l) r zero h = ltb-true (x .id) (y .id) (and-left (rowBelow x y) (rising rowBelow (y ∷ l)) r)
+below-all x d (y ∷ l) r (suc j) h =
+    let a = ltb-true (x .id) (y .id) (and-left (rowBelow x y) (rising rowBelow (y ∷ l)) r) in
+    let b = below-all y d l (and-right (rowBelow x y) (rising rowBelow (y ∷ l)) r) j (omega arith) in
+    omega arith
 
-  rest-none : drop stored all ≡ []
-  rest-none = drop-of-length-le all {i = stored} (subst (λ (m : ℕ). m ≤ stored) (sym all-length) (omega arith))
+rising-rest : (x : Row) (l : List Row) → rising rowBelow (x ∷ l) ≡ true → rising rowBelow l ≡ true
+unfolding rising
+rising-rest x [] r = refl
+rising-rest x (y ∷ l) r = and-right (rowBelow x y) (rising rowBelow (y ∷ l)) r
 
--- what is kept while the rest of the rows from i on have been looked at
-pub record Kept (l : Log) (keys places : List ℕ) (stored : ℕ) (m : Metric) (q : List Float) (k : ℕ) (items : List Neighbor) (n i : ℕ) : Type 0 where
-  pub most : n ≤ k
-  pub long : length items ≡ 1025
-  pub upto : i ≤ stored
-  pub found : take n items ≡ hits m q (drop i (vectorsOf l (rowsOf keys places stored))) k
-  pub numbers : every number (take n items) ≡ true
+ids-rise : (d : Row) (l : List Row) → rising rowBelow l ≡ true → (i j : ℕ) → i < j → j < length l → getD l i d .id < getD l j d .id
+ids-rise d [] r i j h k = absurd (omega arith)
+ids-rise d (x ∷ l) r zero zero h k = absurd (omega arith)
+ids-rise d (x ∷ l) r (suc i) zero h k = absurd (omega arith)
+ids-rise d (x ∷ l) r zero (suc j) h k = below-all x d l r j (omega arith)
+ids-rise d (x ∷ l) r (suc i) (suc j) h k = ids-rise d l (rising-rest x l r) i j (omega arith) (omega arith)
 
-hits-none : (m : Metric) (q : List Float) (k : ℕ) → [] ≡ hits m q [] k
-unfolding hits ordered
-hits-none m q zero = refl
-hits-none m q (suc k) = refl
+-- ---- a greater element, a later id: not nearer
+key-plus : (b : ℕ) → b < 2 ^ 31 → key b ≡ b + 2 ^ 31
+unfolding key
+key-plus b h = ap (λ (t : Bool). cond t (b + 2 ^ 31) (2 ^ 32 - 1 - b)) (lt-ltb b (2 ^ 31) h)
 
-hits-next : (m : Metric) (q : List Float) (v : Vector) (vs : List Vector) (k : ℕ)
-    → hits m q (v ∷ vs) k ≡ take k (insert (neighbor m q v) (hits m q vs k))
-unfolding hits ordered
-hits-next m q v vs k = sym (insert-take (neighbor m q v) k (ordered (map (neighbor m q) vs)))
+-- a sum has a plus sign, so that its place is its pattern's
+sum-key : (q v : List Float) → Bounded q → Bounded v → key (toBits binary32 (squares q v)) ≡ toBits binary32 (squares q v) + 2 ^ 31
+sum-key q v a b =
+    let f = squares-fits q v in
+    let r = sqrt-nearest (squares q v) f (squares-rootable q v a b) in
+    key-plus (toBits binary32 (squares q v)) (plus-float (squares q v) (r .u) f (r .ofX) .0)
 
-every-take : (p : Neighbor → Bool) (k : ℕ) (l : List Neighbor) → every p l ≡ true → every p (take k l) ≡ true
-unfolding every
-every-take p zero l h = refl
-every-take p (suc k) [] h = refl
-every-take p (suc k) (x ∷ xs) h =
-    let r = every-tail p x xs h in Rattle.model.proofs.Map.Rows.every-cons p x (take k xs) (r .0) (every-take p k xs (r .1))
+not-nearer : (m : Metric) (q : List Float) (a b : Vector) → Bounded q → Bounded (a .components) → Bounded (b .components)
+    → key (toBits binary32 (rough m q (a .components))) < key (toBits binary32 (rough m q (b .components))) → a .id ≤ b .id
+    → T (not (nearer (neighbor m q b) (neighbor m q a)))
+unfolding rough neighbor
+not-nearer Euclidean q a b l m n h i =
+    passed-over q a b l m n (omega (arith, sum-key q (a .components) l m, sum-key q (b .components) l n)) i
+not-nearer Angular q a b l m n h i =
+    not-T (nearer (neighbor Angular q b) (neighbor Angular q a)) (λ t. go (nearer-says (neighbor Angular q b) (neighbor Angular q a) t))
+  where
+    go : (key (toBits binary32 (distance Angular q (b .components))) < key (toBits binary32 (distance Angular q (a .components))))
+        ⊎ ((key (toBits binary32 (distance Angular q (b .components))) ≡ key (toBits binary32 (distance Angular q (a .components)))) × (b .id < a .id)) → ⊥
+    go (inl k) = omega arith
+    go (inr (e, k)) = omega arith
 
-module _ (l : Log) (keys places : List ℕ) (stored : ℕ) (hk : stored ≤ length keys) (hp : stored ≤ length places)
-    (m : Metric) (q : List Float) (k : ℕ) where
-  pub kept-none : (items : List Neighbor) → length items ≡ 1025 → Kept l keys places stored m q k items 0 stored
-  unfolding every
-  kept-none items len = record {
-    most = omega arith;
-    long = len;
-    upto = omega arith;
-    found = hits-none m q k ∙ ap (λ (vs : List Vector). hits m q vs k) (sym (rest-none l keys places stored hk hp));
-    numbers = refl;
+-- ---- the stored vectors
+module _ (s : Store) (f : Facts s) (z : Sized s) (m : Metric) (q : List Float) (asked : Bounded q) where
+  pub walkable : (qnorm : Float) → qnorm ≡ norm q
+      → Walkable (s .columns .codes) (s .columns .lengths) (s .columns .floats) (s .places) (s .count) (s .stored) q qnorm
+  walkable qnorm e = record {
+    count-most = f .count;
+    codes-long = z .codes;
+    lengths-long = z .lengths;
+    floats-long = f .floats;
+    places-long = places-fit s f z;
+    rows-most = f .stored;
+    asked = asked;
+    norm-is = e;
+    vectors = λ es os is o.
+        subst Bounded
+        (look-same (s .columns .codes) (s .columns .lengths) (s .columns .floats) (s .columns .epochs) (s .columns .offsets) (s .columns .ids) es os is (s .count) o)
+        (look-bounded (storeLog s) o (f .entries));
   }
 
-  module _ (items : List Neighbor) (n i : ℕ) (kept : Kept l keys places stored m q k items n i) (room : k ≤ 1024) where
-    pub kept-length : length (take n items) ≡ n
-    kept-length = length-take-le n items (omega (arith, kept .most, kept .long))
+  abbrev vec : ℕ → Vector
+  vec i = record { id = getD (s .keys) i 0; components = lookup (storeLog s) (getD (s .places) i 0) }
 
-    pub kept-rises : Rises (take n items)
-    kept-rises = subst Rises (sym (kept .found)) (hits-first m q (drop i (vectorsOf l (rowsOf keys places stored))) k .rises)
+  row-at : (i : ℕ) → i < s .stored → getD (storeRows s) i no-row ≡ record { id = getD (s .keys) i 0; offset = getD (s .places) i 0 }
+  row-at i h = rows-at (s .keys) (s .places) (s .stored) (keys-fit s f z) (places-fit s f z) i no-row h
 
-    -- a hit that is kept has a number for its distance
-    pub kept-number : (x d : Neighbor) (now : List Neighbor) (j : ℕ) → Placing x (take n items) now n j → 0 < j
-        → T (not (isNan (getD now (j - 1) d .distance)))
-    kept-number x d now j p h =
-        let b = p .below in
-        let lt : j - 1 < j = omega arith in
-        holds
-        (ap number (sym (getD-take j now (j - 1) d lt) ∙ ap (λ (t : List Neighbor). getD t (j - 1) d) (p .front)
-        ∙ getD-take j (take n items) (j - 1) d lt)
-        ∙ every-at number (take n items) (j - 1) d (kept .numbers) (subst (λ (a : ℕ). j - 1 < a) (sym kept-length) (omega arith)))
+  all-rows : length (storeRows s) ≡ s .stored
+  all-rows = rows-length (s .keys) (s .places) (s .stored) (keys-fit s f z) (places-fit s f z)
 
-    -- the row before i, put into its place
-    module _ (pos : 0 < i) (x : Neighbor)
-        (isX : x ≡ neighbor m q (record { id = getD keys (i - 1) 0; components = lookup l (getD places (i - 1) 0) }))
-        (num : T (not (isNan (x .distance)))) (after : List Neighbor) (la : length after ≡ 1025)
-        (put : take (n + 1) after ≡ insert x (take n items)) where
-      next-found : hits m q (drop (i - 1) (vectorsOf l (rowsOf keys places stored))) k ≡ take k (insert x (take n items))
-      next-found =
-          let u = kept .upto in
-          let e : i - 1 + 1 ≡ i = omega arith in
-          let v : Vector = record { id = getD keys (i - 1) 0; components = lookup l (getD places (i - 1) 0) } in
-          ap (λ (vs : List Vector). hits m q vs k) (rest-next l keys places stored hk hp (i - 1) (omega arith))
-          ∙ hits-next m q v (drop (i - 1 + 1) (vectorsOf l (rowsOf keys places stored))) k
-          ∙ ap (λ (a : ℕ). take k (insert (neighbor m q v) (hits m q (drop a (vectorsOf l (rowsOf keys places stored))) k))) e
-          ∙ ap (λ (a : List Neighbor). take k (insert (neighbor m q v) a)) (sym (kept .found))
-          ∙ ap (λ (a : Neighbor). take k (insert a (take n items))) (sym isX)
+  keys-rise : (i j : ℕ) → i < j → j < s .stored → getD (s .keys) i 0 < getD (s .keys) j 0
+  keys-rise i j h k =
+      let r = ids-rise no-row (storeRows s) (rows-rising s f) i j h (subst (λ (n : ℕ). j < n) (sym all-rows) k) in
+      subst (λ (x : ℕ). x < getD (s .keys) j 0) (ap (λ (x : Row). x .id) (row-at i (omega arith)))
+      (subst (λ (x : ℕ). getD (storeRows s) i no-row .id < x) (ap (λ (x : Row). x .id) (row-at j k)) r)
 
-      all-numbers : every number (insert x (take n items)) ≡ true
-      all-numbers = every-insert number x (take n items) (is-true (number x) num) (kept .numbers)
+  module _ (xs : List Float) (long : s .stored ≤ length xs)
+      (filled : (i : ℕ) → i < s .stored → getD xs i nan ≡ rough m q (lookup (storeLog s) (getD (s .places) i 0))) where
+    at-neighbor : (i : ℕ) → i < s .stored → neighborAt (kindOf m) (s .keys) xs i ≡ neighbor m q (vec i)
+    unfolding neighborAt neighbor
+    at-neighbor i h =
+        ap (λ (d : Float). record { id = getD (s .keys) i 0; distance = d })
+        (ap (settled (kindOf m)) (filled i h) ∙ rough-settled m q (lookup (storeLog s) (getD (s .places) i 0)))
 
-      pub kept-more : n < k → Kept l keys places stored m q k after (n + 1) (i - 1)
-      kept-more h = record {
-        most = omega arith;
-        long = la;
-        upto = omega (arith, kept .upto);
-        found =
-            put
-            ∙ sym (take-all k (insert x (take n items)) (let a = insert-length x (take n items) in let b = kept-length in omega arith))
-            ∙ sym next-found;
-        numbers = ap (every number) put ∙ all-numbers;
-      }
+    bounded : (i : ℕ) → Bounded (lookup (storeLog s) (getD (s .places) i 0))
+    bounded i = look-bounded (storeLog s) (getD (s .places) i 0) (f .entries)
 
-      pub kept-full : k ≤ n → Kept l keys places stored m q k after n (i - 1)
-      kept-full h =
-          let e : n ≡ k = (let a = kept .most in omega arith) in
-          let t : take n after ≡ take n (insert x (take n items)) = sym (take-take n (n + 1) after (omega arith)) ∙ ap (take n) put in
-          record {
-            most = kept .most;
-            long = la;
-            upto = omega (arith, kept .upto);
-            found = t ∙ ap (λ (a : ℕ). take a (insert x (take n items))) e ∙ sym next-found;
-            numbers = ap (every number) t ∙ every-take number n (insert x (take n items)) all-numbers;
-          }
+    passes : (i j : ℕ) → i < j → j < s .stored → keyAt xs i < keyAt xs j
+        → T (not (nearer (neighborAt (kindOf m) (s .keys) xs j) (neighborAt (kindOf m) (s .keys) xs i)))
+    passes i j h k l =
+        let hi : i < s .stored = omega arith in
+        let keys : key (toBits binary32 (rough m q (vec i .components))) < key (toBits binary32 (rough m q (vec j .components))) =
+        subst (λ (x : Float). key (toBits binary32 x) < key (toBits binary32 (rough m q (vec j .components)))) (filled i hi)
+        (subst (λ (x : Float). keyAt xs i < key (toBits binary32 x)) (filled j k) l) in
+        subst (λ (x : Neighbor). T (not (nearer x (neighborAt (kindOf m) (s .keys) xs i)))) (sym (at-neighbor j k))
+        (subst (λ (x : Neighbor). T (not (nearer (neighbor m q (vec j)) x))) (sym (at-neighbor i hi))
+        (not-nearer m q (vec i) (vec j) asked (bounded i) (bounded j) keys (omega (arith, keys-rise i j h k))))
 
-    pub kept-all : i ≡ 0 → (length items ≡ 1025) × (n ≤ k) × (take n items ≡ hits m q (vectorsOf l (rowsOf keys places stored)) k)
-    kept-all e =
-        (kept .long, kept .most, kept .found ∙ ap (λ (a : ℕ). hits m q (drop a (vectorsOf l (rowsOf keys places stored))) k) e)
+    pub selectable : Selectable (kindOf m) (s .keys) xs (s .stored)
+    selectable = record {
+      ids-long = keys-fit s f z;
+      xs-long = long;
+      ready = λ i h. subst (Ready (kindOf m)) (sym (filled i h)) (rough-ready m q (lookup (storeLog s) (getD (s .places) i 0)) asked (bounded i));
+      differ = λ i j h k e. omega (arith, keys-rise i j h k);
+      passing = passes;
+    }
+
+    abbrev nil : Neighbor
+    nil = neighbor m q (vectorOf (storeLog s) no-row)
+
+    vector-at : (i : ℕ) → i < s .stored → getD (map (neighbor m q) (map (vectorOf (storeLog s)) (storeRows s))) i nil ≡ neighbor m q (vec i)
+    unfolding vectorOf
+    vector-at i h =
+        List·getD-map (neighbor m q) (map (vectorOf (storeLog s)) (storeRows s)) i (vectorOf (storeLog s) no-row)
+        ∙ ap (neighbor m q) (List·getD-map (vectorOf (storeLog s)) (storeRows s) i no-row ∙ ap (vectorOf (storeLog s)) (row-at i h))
+
+    all-is : firsts (neighborAt (kindOf m) (s .keys) xs) (s .stored) ≡ map (neighbor m q) (map (vectorOf (storeLog s)) (storeRows s))
+    all-is =
+        let n : length (firsts (neighborAt (kindOf m) (s .keys) xs) (s .stored)) ≡ s .stored = firsts-length (neighborAt (kindOf m) (s .keys) xs) (s .stored) in
+        ext-getD nil _ _
+        (n ∙ sym (length-map (map (vectorOf (storeLog s)) (storeRows s)) (neighbor m q) ∙ length-map (storeRows s) (vectorOf (storeLog s)) ∙ all-rows))
+        (λ i h. let hi : i < s .stored = subst (λ (x : ℕ). i < x) n h in
+        firsts-at (neighborAt (kindOf m) (s .keys) xs) (s .stored) i nil hi ∙ at-neighbor i hi ∙ sym (vector-at i hi))
+
+    pub hits-are : (k : ℕ) → take k (ordered (firsts (neighborAt (kindOf m) (s .keys) xs) (s .stored))) ≡ hits m q (vectorsOf (storeLog s) (storeRows s)) k
+    unfolding hits vectorsOf
+    hits-are k = ap (λ (l : List Neighbor). take k (ordered l)) all-is

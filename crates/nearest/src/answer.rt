@@ -1,6 +1,6 @@
 // What a search answers (paper 01, 'Nearest objects', 'Who is turned down'), and its hits in two lent columns.
 
-use super::first::Hits;
+use super::select::Hits;
 use model::Metric;
 ghost use mathlib.Core.Path.{_≡_};
 ghost use mathlib.Core.Bool.{true};

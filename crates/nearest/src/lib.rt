@@ -2,5 +2,7 @@
 // query, over one replica's lent store.
 
 pub mod answer;
+pub mod column;
 pub mod first;
 pub mod query;
+pub mod select;

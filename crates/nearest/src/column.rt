@@ -1,0 +1,182 @@
+// The column that a search works over (paper 01, 'Nearest objects'): for each stored vector its distance, or the sum whose
+// root that is. Vectors as long as the query are taken four at a time.
+
+use ieee::four::Four;
+use model::Metric;
+use model::Offset;
+ghost use mathlib.Core.Path.{_≡_};
+ghost use mathlib.Core.Bool.{not, true};
+ghost use Prim.Native.Nat.{ℕ, _-_, _*_, _≤_, _<_};
+ghost use lib.Dec.{T};
+ghost use lib.Ieee.{isNan, nan};
+ghost use lib.ListN.{length, getD};
+ghost use Rattle.model.specs.Nearest.Distance.{Bounded, norm};
+ghost use Rattle.ieee.specs.Lanes.{Measurable};
+ghost use Rattle.nearest.specs.Column.{settled, Ready, kindOf, rough, FourRough, Whole, FourWhole, Walkable, Filled, Settled};
+
+// What the elements of a column are. Of sums only those that can be among the answer need their roots.
+pub enum Kind {
+    Sums,
+    Distances,
+}
+
+// Internal: what the column of a metric holds.
+pub fn kind_of(metric: Metric) -> Kind
+    ensures { λ r. ⌜ r ≡ kindOf metric ⌝ }
+{
+    match metric {
+        Metric::Euclidean => Kind::Sums,
+        Metric::Angular => Kind::Distances,
+    }
+}
+
+// Internal: the distance that an element stands for.
+pub fn settle(kind: Kind, x: f32) -> f32
+    requires { ⌜ Ready kind x ⌝ }
+    ensures { λ r. ⌜ (r ≡ settled kind x) × T (not (isNan r)) ⌝ }
+{
+    match kind {
+        Kind::Sums => ieee::root::sqrt_f32(x),
+        Kind::Distances => x,
+    }
+}
+
+// Internal: the first n elements become the distances that they stand for.
+pub fn settle_all(xs: &mut [f32], n: usize, kind: Kind)
+    requires { ⌜ (n ≤ length (now xs)) × ((i : ℕ) → i < n → Ready kind (getD (now xs) i nan)) ⌝ }
+    ensures { λ _. ⌜ (length (now (xs .exit)) ≡ length (now (xs .entry))) × Settled kind (now (xs .entry)) (now (xs .exit)) n ⌝ }
+{
+    let mut i: usize = 0;
+    while i < n {
+        let x = xs[i];
+        xs[i] = settle(kind, x);
+        i += 1;
+    }
+}
+
+// Internal: the element of one vector, of any length.
+pub fn rough_one(metric: Metric, query: &[f32], qnorm: f32, vector: &[f32]) -> f32
+    requires { ⌜ Bounded (now query) × Bounded (now vector) × (qnorm ≡ norm (now query)) ⌝ }
+    ensures { λ r. ⌜ r ≡ rough metric (now (query .entry)) (now (vector .entry)) ⌝ }
+{
+    match metric {
+        Metric::Euclidean => ieee::sums::squares(query, vector),
+        Metric::Angular => ieee::sums::measure(Metric::Angular, query, qnorm, vector),
+    }
+}
+
+// Internal: the elements of four vectors of n floats, in step.
+pub fn rough_four(
+    metric: Metric,
+    query: &[f32],
+    qnorm: f32,
+    floats: &[f32],
+    p: usize,
+    q: usize,
+    r: usize,
+    s: usize,
+    n: usize,
+) -> Four
+    requires { ⌜ Measurable (now query) qnorm (now floats) p q r s n ⌝ }
+    ensures { λ f. ⌜ FourRough metric (now (query .entry)) (now (floats .entry)) p q r s n f ⌝ }
+{
+    match metric {
+        Metric::Euclidean => ieee::four::squares_four(query, floats, p, q, r, s, n),
+        Metric::Angular => {
+            ieee::four::distances_four(Metric::Angular, query, qnorm, floats, p, q, r, s, n)
+        }
+    }
+}
+
+// Internal: whether the entry at an offset is an Upsert of n floats.
+pub fn is_whole(codes: &[u8], lengths: &[u8], count: usize, offset: u64, n: usize) -> bool
+    requires { ⌜ (count ≤ length (now codes)) × (count ≤ length (now lengths)) ⌝ }
+    ensures { λ r. ⌜ (r ≡ true → Whole (now (codes .entry)) (now (lengths .entry)) count offset n) ⌝ }
+{
+    if offset == 0 {
+        return false;
+    }
+    let at = (offset - 1) as usize;
+    if count <= at {
+        return false;
+    }
+    if codes[at] != 1 {
+        return false;
+    }
+    lengths[at] as usize == n
+}
+
+// Internal: whether the entries of the four rows from i on are. None are if fewer rows are left.
+pub fn four_whole(
+    codes: &[u8],
+    lengths: &[u8],
+    places: &[u64],
+    count: usize,
+    stored: usize,
+    i: usize,
+    n: usize,
+) -> bool
+    requires { ⌜ (count ≤ length (now codes)) × (count ≤ length (now lengths)) × (stored ≤ length (now places)) × (i < 1024) ⌝ }
+    ensures { λ r. ⌜ (r ≡ true → FourWhole (now (codes .entry)) (now (lengths .entry)) (now (places .entry)) count stored i n) ⌝ }
+{
+    if stored < i + 4 {
+        return false;
+    }
+    if !is_whole(codes, lengths, count, places[i], n) {
+        return false;
+    }
+    if !is_whole(codes, lengths, count, places[i + 1], n) {
+        return false;
+    }
+    if !is_whole(codes, lengths, count, places[i + 2], n) {
+        return false;
+    }
+    is_whole(codes, lengths, count, places[i + 3], n)
+}
+
+// Internal: where the floats of an entry begin.
+pub fn start_of(offset: u64) -> usize
+    requires { ⌜ (0 < offset) × (offset ≤ 1024) ⌝ }
+    ensures { λ r. ⌜ r ≡ (offset - 1) * 32 ⌝ }
+{
+    (offset - 1) as usize * 32
+}
+
+// Internal: the elements of the vectors that the rows of the table name.
+pub fn fill(
+    codes: &[u8],
+    lengths: &[u8],
+    floats: &[f32],
+    places: &[u64],
+    count: usize,
+    stored: usize,
+    metric: Metric,
+    query: &[f32],
+    qnorm: f32,
+    xs: &mut [f32],
+)
+    requires { ⌜ Walkable (now codes) (now lengths) (now floats) (now places) count stored (now query) qnorm × (stored ≤ length (now xs)) ⌝ }
+    ensures { λ _. ⌜ (length (now (xs .exit)) ≡ length (now (xs .entry)))
+        × Filled (now (codes .entry)) (now (lengths .entry)) (now (floats .entry)) count (now (places .entry)) metric (now (query .entry)) (now (xs .exit)) stored ⌝ }
+{
+    let n = query.len();
+    let mut i: usize = 0;
+    while i < stored {
+        if four_whole(codes, lengths, places, count, stored, i, n) {
+            let p = start_of(places[i]);
+            let q = start_of(places[i + 1]);
+            let r = start_of(places[i + 2]);
+            let s = start_of(places[i + 3]);
+            let f = rough_four(metric, query, qnorm, floats, p, q, r, s, n);
+            xs[i] = f.a;
+            xs[i + 1] = f.b;
+            xs[i + 2] = f.c;
+            xs[i + 3] = f.d;
+            i += 4;
+        } else {
+            let vector = shard::components(codes, lengths, floats, count, Offset(places[i]));
+            xs[i] = rough_one(metric, query, qnorm, vector);
+            i += 1;
+        }
+    }
+}
