@@ -2,3 +2,4 @@ pub mod OfLists
 pub mod OfFormed
 pub mod OfShards
 pub mod OfCalls
+pub mod OfGrow

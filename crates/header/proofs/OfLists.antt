@@ -9,6 +9,11 @@ use Rattle.model.proofs.Lists.{not-both}
 use Rattle.model.proofs.Map.Rows.{every-tail, every-cons}
 use Rattle.node.proofs.Loops.{used-next, used-over}
 
+-- a test that holds or does not
+pub by-case : {P : Type 0} (b : Bool) → (b ≡ true → P) → (b ≡ false → P) → P
+by-case true f g = f refl
+by-case false f g = g refl
+
 -- two tests, each of which follows from the other
 pub agree : (a b : Bool) → (a ≡ true → b ≡ true) → (b ≡ true → a ≡ true) → a ≡ b
 agree true b f g = sym (f refl)

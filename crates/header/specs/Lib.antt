@@ -1,3 +1,4 @@
 pub mod View
 pub mod Formed
 pub mod Answers
+pub mod Grow

@@ -13,6 +13,7 @@ use state::ShardKey;
 pub mod ack;
 pub mod formed;
 pub mod grant;
+pub mod grow;
 pub mod outcome;
 pub mod shards;
 pub mod step;

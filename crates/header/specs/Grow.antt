@@ -1,0 +1,38 @@
+-- What a shard that begins is given: its slot, and its place. Definitions only.
+use Prim.Native.Nat.{ℕ, zero, suc, _+_}
+use mathlib.Core.Bool.{Bool, true, cond}
+use mathlib.Core.Path.{_≡_}
+use mathlib.Core.List.{List, [], map}
+use mathlib.Core.Option.{none}
+use Rattle.model.specs.Lists.{any, put}
+use Rattle.model.specs.Limits.{maxHeld}
+use Rattle.model.specs.Keys.{Key, keyBelow}
+use Rattle.model.specs.Node.Shards.{heldBelow, shardOf, withHeld}
+use Rattle.node.specs.declared.Held.{Held}
+use Rattle.node.specs.View.{viewHeld}
+use Rattle.state.specs.declared.ShardKey.{ShardKey}
+use Rattle.state.specs.Names.{viewKey}
+use Rattle.header.specs.declared.Kept.{Kept}
+use Rattle.header.specs.declared.Node.{Node}
+use Rattle.header.specs.View.{Stores, viewKept, viewNode, used}
+use Rattle.header.specs.Formed.{onSlot, slotsFit}
+
+-- the first of `k` slots from `s` on that no shard has, or the next
+unfoldable pub freeFrom : (k s : ℕ) → List Kept → ℕ
+freeFrom zero s l = s
+freeFrom (suc k) s l = cond (any (onSlot s) l) (freeFrom k (s + 1) l) s
+
+-- the lowest slot that no shard has; one of the eight unless eight shards have them
+abbrev pub lowestFree : List Kept → ℕ
+lowestFree l = freeFrom maxHeld 0 l
+
+-- the shards below a key
+abbrev pub belowKey : Key → Kept → Bool
+belowKey k x = keyBelow (viewKey (x .key)) k
+
+-- a shard whose log is empty, put in by its key
+pub record Inserts (n : Node) (key : ShardKey) (h : Held) (r : Node) : Type 0 where
+  pub count : r .count ≡ n .count + 1
+  pub slots : slotsFit (used n) ≡ true → slotsFit (used r) ≡ true
+  pub same : (s : Stores) → h .last ≡ 0 → shardOf (viewNode s n) (viewKey key) ≡ none
+      → viewNode s r ≡ withHeld (viewNode s n) (put heldBelow (viewHeld (viewKey key) [] [] h) (map (viewKept s) (used n)))
