@@ -1,1 +1,2 @@
 pub mod OfApply
+pub mod OfDecoded
