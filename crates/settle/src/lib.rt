@@ -1,8 +1,6 @@
 // A request applied to the shard map (paper 01, 'The shard map', and 'Who is turned down', Apply; the source's StateMachine::apply): the sessions
 // around deciding and committing a command. On a map that passed the 24 test.
 ghost use mathlib.Core.Path.{_≡_};
-ghost use mathlib.Core.List.{[]};
-ghost use Prim.Native.Nat.{_≤_};
 ghost use Rattle.settle.specs.Applied.{Settleable, DecidedNow, SettledAs};
 ghost use Rattle.state.specs.View.{answerOf, outcomeOf};
 ghost use Rattle.state.specs.Names.{viewKey};
