@@ -26,10 +26,10 @@ fits : (c : tie.Start Inv-loop μ-loop) → c .args .t1 .count ≤ 64 → c .arg
 fits c le = let h : length (c .args .t1 .items) ≡ 64 = search (needs, of-field) in omega arith
 
 returns : tie.Need-returns Inv-loop μ-loop
-returns c = sym (table-over viewSession 64 sessionBelow sessionCounted sessionFits (c .before .args .t1 .items) (c .before .args .t1 .count) (c .if1 .taken))
+returns c = sym (table-over viewSession 64 sessionBelow sessionCounted sessionFits (c .before .args .t1 .items) (c .before .args .t1 .count) (search needs))
 
 loop-holds : tie.Need-loop-holds Inv-loop μ-loop
-loop-holds c = (search needs, c .if1 .left, refl, refl, table-start viewSession 64 sessionBelow sessionCounted sessionFits (c .before .args .t1 .items) (c .before .args .t1 .count) (c .if1 .left) (fits (c .before) (c .if1 .left)))
+loop-holds c = (search needs, search needs, refl, refl, table-start viewSession 64 sessionBelow sessionCounted sessionFits (c .before .args .t1 .items) (c .before .args .t1 .count) (search needs) (fits (c .before) (search needs)))
 
 mul-before : tie.Need-mul-before Inv-loop μ-loop
 mul-before c = search needs

@@ -1,0 +1,115 @@
+-- Laws of the answers: 24 first, then the order in which place decides. Assumes nothing.
+use mathlib.Core.Path.{_≡_, refl, sym, ap, _∙_}
+use mathlib.Core.Bool.{Bool, true, false, cond, not}
+use mathlib.Core.List.{List, [], _∷_, map}
+use mathlib.Core.Option.{Option, none, some}
+use Prim.Native.Nat.{ℕ, _≤_, _<_}
+use native.Mathlib.Omega.{arith}
+use lib.ListN.{length, take}
+use lib.Dec.{eqb, ltb}
+use borrow.Author.Tests.{lt-ltb, le-ltb}
+use Rattle.model.specs.Lists.{_and_, _or_, any, filter}
+use Rattle.model.specs.Refusals.{malformed, noRoom}
+use Rattle.model.specs.Map.Tables.{NodeInfo, Spec, ShardInfo}
+use Rattle.model.specs.Map.Change.{holds}
+use Rattle.model.specs.Map.Apply.{shardAt}
+use Rattle.model.specs.Map.Place as place
+use Rattle.model.specs.Map.Place.{Load, Placed, nowhere, placedOn, notPlaced, placeOn, placeShards, loadsOf, Replaced, notReplaced, replacedWith, replaceIn, lightest}
+use Rattle.model.specs.Map.Calls.{placeCall, replacementCall}
+use Rattle.model.specs.Map.WellFormed.{wellFormedMap}
+use Rattle.model.specs.declared.Replica.{Replica}
+use Rattle.state.specs.Names.{viewKey}
+use Rattle.state.specs.View.{viewMap, viewSpec, viewNodes, viewShards}
+use Rattle.state.specs.declared.ShardKey.{ShardKey}
+use Rattle.state.specs.declared.ShardMap.{ShardMap}
+use Rattle.state.specs.declared.Spec as spec
+use Rattle.mapcheck.specs.Lent.{counted, wellFormedLent}
+use Rattle.placement.specs.Answers.{placeLent, replacementLent}
+use Rattle.placement.specs.Read.{mayTake, freeLoads, unlisted}
+use Rattle.placement.proofs.Collecting.{collect-same, filter-all}
+
+-- ---- 24
+
+module _ {ℓ} {A : Type ℓ} (x y : A) where
+  pub refused-first : (a b : Bool) → a and b ≡ false → cond a (cond b x y) y ≡ y
+  unfolding _and_
+  refused-first true b e = rw e
+  refused-first false b e = refl
+
+  pub taken-first : (a b : Bool) → a and b ≡ true → cond a (cond b x y) y ≡ x
+  unfolding _and_
+  taken-first true b e = rw e
+  taken-first false b e = absurd (let z : _≡_ {A = ℕ} 0 1 = cc in omega arith)
+
+module _ (m : ShardMap) (s : spec.Spec) where
+  pub place-24 : wellFormedLent m ≡ false → placeLent m s ≡ notPlaced malformed
+  unfolding placeLent placeCall wellFormedLent
+  place-24 e = refused-first _ _ (counted m) (wellFormedMap (viewMap m)) e
+
+  -- on the live nodes with their loads
+  pub place-on : wellFormedLent m ≡ true → placeLent m s ≡ placeOn (viewSpec s) (freeLoads [] (viewShards (m .shards)) (viewNodes (m .nodes)))
+  unfolding placeLent placeCall wellFormedLent place.place loadsOf _and_ holds any
+  place-on e =
+      taken-first _ _ (counted m) (wellFormedMap (viewMap m)) e
+      ∙ ap (placeOn (viewSpec s)) (sym (collect-same (mayTake []) (λ (i : NodeInfo). i .alive) _ _ (λ i. nobody-holds i) (λ i. refl) (viewNodes (m .nodes))))
+    where
+      and-on : (t : Bool) → t and true ≡ t
+      and-on true = refl
+      and-on false = refl
+
+      nobody-holds : (i : NodeInfo) → mayTake [] i ≡ i .alive
+      nobody-holds i = and-on (i .alive)
+
+  pub place-loads : (l : List Load) → wellFormedLent m ≡ true → (rs : List Replica) → rs ≡ []
+      → l ≡ freeLoads rs (viewShards (m .shards)) (viewNodes (m .nodes)) → placeLent m s ≡ placeOn (viewSpec s) l
+  place-loads l e rs n q =
+      place-on e ∙ ap (placeOn (viewSpec s)) (sym (q ∙ ap (λ (h : List Replica). freeLoads h (viewShards (m .shards)) (viewNodes (m .nodes))) n))
+
+module _ (m : ShardMap) (k : ShardKey) where
+  pub replace-24 : wellFormedLent m ≡ false → replacementLent m k ≡ notReplaced malformed
+  unfolding replacementLent replacementCall wellFormedLent
+  replace-24 e = refused-first _ _ (counted m) (wellFormedMap (viewMap m)) e
+
+  pub replace-on : wellFormedLent m ≡ true → (o : Option ShardInfo) → shardAt (viewShards (m .shards)) (viewKey k) ≡ o
+      → replacementLent m k ≡ replaceIn (viewMap m) o
+  unfolding replacementLent replacementCall wellFormedLent place.replacement
+  replace-on e o q = taken-first _ _ (counted m) (wellFormedMap (viewMap m)) e ∙ ap (replaceIn (viewMap m)) q
+
+-- ---- none, then 23, then a placement
+
+module _ (s : Spec) (l : List Load) where
+  pub too-few : length l < s .replication → placeOn s l ≡ nowhere
+  unfolding placeOn
+  too-few h = rw (lt-ltb (length l) (s .replication) h)
+
+  module _ (enough : s .replication ≤ length l) where
+    pub many-lists : 16 < s .shards → placeOn s l ≡ notPlaced noRoom
+    unfolding placeOn _or_
+    many-lists h = rw (le-ltb (length l) (s .replication) enough, lt-ltb 16 (s .shards) h)
+
+    module _ (fits : s .shards ≤ 16) where
+      pub long-lists : 8 < s .replication → placeOn s l ≡ notPlaced noRoom
+      unfolding placeOn _or_
+      long-lists h = rw (le-ltb (length l) (s .replication) enough, le-ltb 16 (s .shards) fits, lt-ltb 8 (s .replication) h)
+
+      pub placed-on : s .replication ≤ 8 → placeOn s l ≡ placedOn (placeShards (s .shards) (s .replication) l)
+      unfolding placeOn _or_
+      placed-on h = rw (le-ltb (length l) (s .replication) enough, le-ltb 16 (s .shards) fits, le-ltb 8 (s .replication) h)
+
+-- ---- a replacement
+
+-- no node is listed yet
+pub none-listed : (l : List Load) → filter (unlisted []) l ≡ l
+unfolding any
+none-listed l = filter-all (unlisted []) (λ x. refl) l
+
+replaced-from : (m : ShardMap) (s : ShardInfo) → replaceIn (viewMap m) (some s) ≡ replacedWith (lightest (freeLoads (s .replicas) (viewShards (m .shards)) (viewNodes (m .nodes))))
+unfolding replaceIn loadsOf
+replaced-from m s = refl
+
+pub replace-as : (m : ShardMap) (k : ShardKey) (s : ShardInfo) (l : List Load) (ns : List ℕ) (o : Option Load) → wellFormedLent m ≡ true
+    → shardAt (viewShards (m .shards)) (viewKey k) ≡ some s → l ≡ freeLoads (s .replicas) (viewShards (m .shards)) (viewNodes (m .nodes)) → ns ≡ []
+    → o ≡ lightest (filter (unlisted ns) l) → replacementLent m k ≡ replacedWith o
+replace-as m k s l ns o e q f n p =
+    replace-on m k e (some s) q ∙ replaced-from m s
+    ∙ ap replacedWith (ap lightest (sym f ∙ sym (none-listed l) ∙ ap (λ (z : List ℕ). filter (unlisted z) l) (sym n)) ∙ sym p)

@@ -1,0 +1,4 @@
+pub mod Collecting
+pub mod Weighing
+pub mod Choosing
+pub mod Answered
