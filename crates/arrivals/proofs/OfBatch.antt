@@ -3,29 +3,25 @@ use Prim.Native.Nat.{ℕ, zero, suc, _+_, _-_, _≤_, _<_}
 use mathlib.Core.Path.{_≡_, refl, sym, ap, _∙_, subst}
 use mathlib.Core.Bool.{Bool, true, false, cond}
 use mathlib.Core.List.{List, [], _∷_, map}
-use lib.Dec.{eqb, ltb}
-use lib.ListN.{length}
+use lib.Dec.{eqb}
 use native.Mathlib.Omega.{arith}
 use borrow.Author.Tests.{eq-eqb, ne-eqb, le-ltb, lt-ltb}
-use Rattle.model.specs.Lists.{every}
 use Rattle.model.specs.Refusals.{noRoom}
-use Rattle.model.specs.Log.{Entry, ShardReplica, StoreResult, lastOffset, push, store, storeAll}
+use Rattle.model.specs.Log.{Entry, ShardReplica, lastOffset, store, storeAll}
 use Rattle.model.specs.Layout.Message.{replyStored, replyStale}
 use Rattle.model.specs.Layout.Parts.{WireEntry}
-use Rattle.model.specs.Node.Wire.{entryInDomain, storedEntry}
+use Rattle.model.specs.Node.Wire.{storedEntry}
 use Rattle.model.specs.Node.Client.{overfull}
 use Rattle.model.specs.Node.Held.{Held}
-use Rattle.model.specs.Node.Shards.{Result, gives, withReplica}
-use Rattle.model.specs.Node.Backup.{BackupAnswer, replied, backupRefused, isEmpty, copyHeld}
+use Rattle.model.specs.Node.Shards.{gives, withReplica}
+use Rattle.model.specs.Node.Backup.{replied, backupRefused, isEmpty, copyHeld}
 use Rattle.model.specs.declared.Metric.{Metric}
 use Rattle.model.specs.declared.Epoch.{Epoch}
 use Rattle.model.specs.declared.Offset.{Offset}
 use Rattle.model.proofs.Log.Store.{push-length, store-cases, store-epoch, store-all-longer}
-use Rattle.model.proofs.Lists.{and-left}
 use Rattle.shard.specs.Store.{Store, Sized, replicaOf, wellFormedStore}
 use Rattle.shard.specs.declared.replica.Outcome.{Outcome}
 use Rattle.shard.specs.declared.replica.Outcome.the-variants.{Through, Stale, Full}
-use Rattle.shard.proofs.Arrived.{count-most}
 use Rattle.model.specs.Layout.Format.{next, value, valueN}
 use Rattle.model.specs.Layout.Parts.{entryF, entryOf}
 use Rattle.rpc.specs.Shown.{part, entryShown}
@@ -33,7 +29,7 @@ use Rattle.rpc.specs.declared.Part.{Part}
 use Rattle.rpc.specs.declared.EntryPart.{EntryPart}
 use Rattle.arrivals.specs.Parts.{entriesIn, EntriesThere}
 use Rattle.arrivals.proofs.InMessage.{entryIn, entries-all, entries-none, entries-split}
-use Rattle.arrivals.specs.Arrivals.{Arrives, GrowsTo, StoresAll, Copies}
+use Rattle.arrivals.specs.Arrivals.{Arrives, GrowsTo, HasRoom, StoresAll, Copies}
 use Rattle.arrivals.proofs.OfStores.{last-is, own-epoch}
 
 -- ---- by the offsets
@@ -94,10 +90,6 @@ pub record OnWay (own : ℕ) (es : List Entry) (s₀ s : Store) (rest : List Ent
   pub well : wellFormedStore s ≡ true
   pub sized : Sized s
 
--- the batch has room
-pub Fitting : (own : ℕ) → List Entry → Store → Type 0
-Fitting own es s = (m : Metric) → lastOffset (storeAll (replicaOf own m s) own es) ≤ 1024
-
 -- a batch's growth, of the replica in a store
 pub grows-last : (own : ℕ) (es : List WireEntry) (s : Store) (n : ℕ) → GrowsTo es (s .count) n → (m : Metric)
     → n ≡ lastOffset (storeAll (replicaOf own m s) own (map storedEntry es))
@@ -105,8 +97,7 @@ grows-last own es s n g m =
     g (replicaOf own m s) (last-is own m s)
     ∙ ap (λ (e : ℕ). lastOffset (storeAll (replicaOf own m s) e (map storedEntry es))) (own-epoch own m s)
 
-pub fitting : (own : ℕ) (es : List WireEntry) (s : Store) (n : ℕ) → GrowsTo es (s .count) n → n ≤ 1024 → Fitting own (map storedEntry es) s
-unfolding Fitting
+pub fitting : (own : ℕ) (es : List WireEntry) (s : Store) (n : ℕ) → GrowsTo es (s .count) n → n ≤ 1024 → HasRoom own (map storedEntry es) s
 fitting own es s n g h m = let q = grows-last own es s n g m in omega arith
 
 pub overflowing : (own : ℕ) (es : List WireEntry) (s : Store) (n : ℕ) → GrowsTo es (s .count) n → 1024 < n → (m : Metric)
@@ -116,10 +107,10 @@ overflowing own es s n g h m = let q = grows-last own es s n g m in omega arith
 pub on-start : (own : ℕ) (es : List Entry) (s : Store) → Sized s → wellFormedStore s ≡ true → OnWay own es s s es
 on-start own es s z w = record { same = λ m. refl; well = w; sized = z }
 
-module _ (own : ℕ) (es : List Entry) (s₀ : Store) (fit : Fitting own es s₀) where
+module _ (own : ℕ) (es : List Entry) (s₀ : Store) (fit : HasRoom own es s₀) where
   pub on-next : (s t : Store) (e : Entry) (rest : List Entry) (a : Outcome) → OnWay own es s₀ s (e ∷ rest) → Arrives own own e s t a
       → OnWay own es s₀ t rest
-  unfolding Fitting storeAll
+  unfolding storeAll
   on-next s t e rest a w d = record {
     same = λ m. ap (λ (r : ShardReplica). storeAll r own rest) (taken m) ∙ w .same m;
     well = d .arrived .well;
@@ -152,7 +143,7 @@ module _ (own : ℕ) (b : List ℕ) where
     on-done s h w =
         on-end own es s₀ s (subst (λ (l : List WireEntry). OnWay own es s₀ s (map storedEntry l)) (entries-none b n at i h) w)
 
-    pub on-turn : Fitting own es s₀ → (l : i < n) (h : EntriesThere b (part at (n - i))) (e : EntryPart)
+    pub on-turn : HasRoom own es s₀ → (l : i < n) (h : EntriesThere b (part at (n - i))) (e : EntryPart)
         → e ≡ entryShown at (entryOf (value entryF b at)) (next entryF b at) → (s t : Store) (a : Outcome)
         → OnWay own es s₀ s (map storedEntry (entriesIn b (part at (n - i)))) → Arrives own own (storedEntry (entryIn b e)) s t a
         → OnWay own es s₀ t (map storedEntry (entriesIn b (part (e .next) (n - (i + 1)))))

@@ -1,27 +1,24 @@
 -- For the crates above: where `rpc` answered a kind of message, its parts stand in the bytes (the tests of the functions here), and what
 -- is read there is what model's decoder reads. Assumes nothing.
 use Prim.Native.Nat.{ℕ, zero, suc, _+_, _-_, _*_, _≤_}
-use mathlib.Core.Path.{_≡_, refl, sym, ap, subst, _∙_}
+use mathlib.Core.Path.{_≡_, sym, ap, subst, _∙_}
 use mathlib.Core.Bool.{true}
 use mathlib.Core.List.{List, map}
 use mathlib.Core.Option.{some}
 use lib.ListN.{length}
 use native.Mathlib.Omega.{arith}
 use borrow.Author.Tests.{leb-true}
-use Rattle.model.specs.Log.{End}
-use Rattle.model.specs.Layout.Format.{Format, _▸_, many, fits, fitsN, next, value, valueN, numberAt, whole}
-use Rattle.model.specs.Layout.Parts.{u32, u64, vectorF, tableF, entriesF, entryF, entryOf, endOf, WireEntry}
+use Rattle.model.specs.Layout.Format.{_▸_, fits, fitsN, next, value, valueN, numberAt, whole}
+use Rattle.model.specs.Layout.Parts.{u32, u64, vectorF, tableF, entriesF, entryF, entryOf, endOf}
 use Rattle.model.specs.Layout.Message as message
 use Rattle.model.proofs.LayoutLaws.Tests.{and-left, and-right}
 use Rattle.model.proofs.LayoutLaws.Data.{length-mapped, whenever-some}
 use Rattle.rpc.specs.Shown.{part, opShown, messageOf, replicatePart, copyPart, newEpochPart, writePart, searchPart}
-use Rattle.rpc.specs.declared.Part.{Part}
 use Rattle.rpc.specs.declared.ReplicatePart.{ReplicatePart}
 use Rattle.rpc.specs.declared.CopyPart.{CopyPart}
 use Rattle.rpc.specs.declared.NewEpochPart.{NewEpochPart}
 use Rattle.rpc.specs.declared.WritePart.{WritePart}
 use Rattle.rpc.specs.declared.SearchPart.{SearchPart}
-use Rattle.rpc.specs.declared.Message.{Message}
 use Rattle.rpc.specs.declared.Message.the-variants.{Replicate, NewEpoch, CopyShard, Write, Search}
 use Rattle.rpc.proofs.Places.{length-valueN}
 use Rattle.rpc.proofs.Items.{word-room}

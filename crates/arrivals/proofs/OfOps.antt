@@ -1,26 +1,23 @@
 -- Components read one after the other, tested and as a store takes them. Assumes nothing.
-use Prim.Native.Nat.{ℕ, zero, suc, _+_, _*_, _≤_, _<_}
+use Prim.Native.Nat.{ℕ, _+_, _*_, _≤_, _<_}
 use mathlib.Core.Path.{_≡_, refl, sym, ap, _∙_}
-use mathlib.Core.Bool.{Bool, true, false, cond}
+use mathlib.Core.Bool.{Bool, true, false}
 use mathlib.Core.List.{List, [], _∷_, _++_}
 use lib.ListN.{length, getD, take, drop, set}
-use lib.Seq.{take-suc, take-suc-set, take-all, take-length}
-use lib.Dec.{leb}
+use lib.Seq.{take-suc, take-suc-set, take-all}
 use native.Mathlib.Omega.{arith}
 use native.Mathlib.Numerals.{add-one}
 use borrow.Author.Tests.{le-leb}
 use Rattle.model.specs.Lists.{_and_, every}
 use Rattle.model.specs.Nearest.Order.{bitsInDomain}
 use Rattle.model.specs.Layout.Format.{numberAt}
-use Rattle.model.specs.Layout.Parts.{WireOp, wireUpsert, wireDelete}
-use Rattle.model.specs.Node.Wire.{vectorInDomain, opInDomain, storedOp}
+use Rattle.model.specs.Layout.Parts.{wireUpsert, wireDelete}
+use Rattle.model.specs.Node.Wire.{vectorInDomain, storedOp}
 use Rattle.shard.specs.View.{opFrom}
-use Rattle.shard.specs.Store.{Storable}
 use Rattle.shard.proofs.Checking.{every-on, every-stop, every-end}
 use Rattle.rpc.specs.declared.Part.{Part}
 use Rattle.arrivals.specs.Parts.{bitsIn, VectorThere}
 use Rattle.arrivals.specs.Arrivals.{Reads}
-use Rattle.arrivals.specs.declared.ops.OpRead.{OpRead}
 use Rattle.arrivals.proofs.InMessage.{bits-length, bits-item}
 
 -- ---- a column of which the first i places are those of a list

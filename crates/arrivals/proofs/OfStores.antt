@@ -2,20 +2,19 @@
 use Prim.Native.Nat.{ℕ, _+_, _≤_, _<_}
 use mathlib.Core.Path.{_≡_, refl, sym, ap, _∙_, subst}
 use mathlib.Core.Bool.{Bool, true, false, cond}
-use mathlib.Core.Option.{Option, none, some}
-use lib.Dec.{eqb, ltb}
+use mathlib.Core.Option.{none, some}
+use lib.Dec.{eqb}
 use native.Mathlib.Omega.{arith}
 use borrow.Author.Tests.{eqb-true, eqb-false, eq-eqb, ne-eqb, le-ltb}
 use Rattle.model.specs.Lists.{_and_}
-use Rattle.model.specs.Log.{Op, Entry, ShardReplica, Stored, through, gap, stale, StoreResult, lastOffset, push, store}
+use Rattle.model.specs.Log.{Op, Entry, ShardReplica, through, gap, stale, lastOffset, push, store}
 use Rattle.model.specs.Node.Client.{overfull}
 use Rattle.model.specs.declared.Metric.{Metric}
 use Rattle.model.specs.declared.Metric.the-variants.{Euclidean}
-use Rattle.model.proofs.Lists.{by-test, not-both, and-left, and-right}
+use Rattle.model.proofs.Lists.{not-both, and-left, and-right}
 use Rattle.model.proofs.LayoutLaws.Tests.{and-true, and-false}
 use Rattle.model.proofs.Log.Store.{push-length, store-cases}
-use Rattle.shard.specs.Store.{Store, Sized, Arrived, answerOf, replicaOf, wellFormedStore}
-use Rattle.shard.specs.View.{logOf}
+use Rattle.shard.specs.Store.{Store, Sized, Arrived, replicaOf, wellFormedStore}
 use Rattle.shard.specs.declared.replica.Outcome.{Outcome}
 use Rattle.shard.specs.declared.replica.Outcome.the-variants.{Through, Gap, Stale, Full}
 use Rattle.shard.proofs.Columns.{log-length}

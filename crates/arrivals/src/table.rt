@@ -1,7 +1,7 @@
-// 21: an epoch table of a message, and the alignment by it (paper 01, 'The log'; shard.rs, adopt).
+// 21: an epoch table of a message, and the alignment by it (paper 01, 'The log'; shard.rs, adopt). Internal: the message was
+// read, and the store has been tested.
 ghost use mathlib.Core.Path.{_≡_};
 ghost use mathlib.Core.Bool.{true};
-ghost use Prim.Native.Nat.{_≤_};
 ghost use lib.ListN.{length};
 ghost use Rattle.shard.specs.View.{columns};
 ghost use Rattle.shard.specs.Store.{lent, Sized, wellFormedStore};

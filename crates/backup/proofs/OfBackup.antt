@@ -1,16 +1,15 @@
 -- Laws of a primary's messages at one shard with its store. Assumes nothing.
-use Prim.Native.Nat.{ℕ, _+_, _≤_, _<_}
+use Prim.Native.Nat.{ℕ}
 use mathlib.Core.Path.{_≡_, refl, ap, sym, _∙_, subst}
 use mathlib.Core.Bool.{Bool, true, false, cond}
 use mathlib.Core.List.{List, [], map}
-use mathlib.Core.Option.{Option, none, some}
+use mathlib.Core.Option.{none, some}
 use native.Mathlib.Omega.{arith}
 use lib.Dec.{ltb}
-use lib.ListN.{length}
 use Rattle.model.specs.Keys.{Key}
 use Rattle.model.specs.Refusals.{noRoom}
-use Rattle.model.specs.Log.{Op, Entry, End, ShardReplica, Stored, through, gap, stale, StoreResult, lastOffset, store, adopted}
-use Rattle.model.specs.Layout.Message.{Reply, replyStored, replyGap, replyStale, replyAdopted}
+use Rattle.model.specs.Log.{Op, Entry, End, ShardReplica, Stored, StoreResult, lastOffset, store, adopted}
+use Rattle.model.specs.Layout.Message.{replyStale, replyAdopted}
 use Rattle.model.specs.Layout.Parts.{WireOp, WireEntry}
 use Rattle.model.specs.Node.Wire.{storedOp, storedEntry}
 use Rattle.model.specs.Node.Held as held
@@ -18,13 +17,12 @@ use Rattle.model.specs.Node.Shards.{Result, gives, withReplica, demoted}
 use Rattle.model.specs.Node.Client.{overfull}
 use Rattle.model.specs.Node.Backup.{BackupAnswer, replied, backupRefused, replyOf, leadsFrom, replicateHeld, copyHeld, newEpochHeld}
 use Rattle.model.specs.declared.Metric.{Metric}
-use Rattle.model.specs.declared.Epoch.{Epoch}
 use Rattle.model.specs.declared.Offset.{Offset}
 use Rattle.model.proofs.Lists.{by-test, not-both, some-same}
 use Rattle.node.specs.declared.Held.{Held}
 use Rattle.node.specs.View.{viewHeld}
 use Rattle.serve.specs.declared.Epochs.the-variants as E
-use Rattle.serve.specs.Admits.{epochAs, TakesEpoch}
+use Rattle.serve.specs.Admits.{TakesEpoch}
 use Rattle.serve.specs.Headers.{Realigns}
 use Rattle.rpc.specs.declared.ReplicatePart.{ReplicatePart}
 use Rattle.rpc.specs.declared.CopyPart.{CopyPart}

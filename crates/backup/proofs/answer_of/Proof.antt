@@ -1,6 +1,6 @@
 -- By what became of the entries. Assumes nothing.
 use borrow.Author.Needs.{needs}
-use mathlib.Core.Path.{_≡_, refl, sym, ap, _∙_, subst}
+use mathlib.Core.Path.{sym, ap}
 use Rattle.arrivals.specs.Arrivals.{answerAs}
 use Rattle.backup.proofs.answer_of.Statement.{statement}
 use Rattle.backup.proofs.answer_of.Tie as tie

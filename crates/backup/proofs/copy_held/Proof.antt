@@ -1,6 +1,6 @@
 -- The batch is stored as `arrivals` stores it, and the shard has the log's new length. Assumes nothing.
 use borrow.Author.Needs.{needs}
-use mathlib.Core.Path.{_≡_, refl, sym, ap, _∙_, subst}
+use mathlib.Core.Path.{refl}
 use Rattle.arrivals.proofs.OfMessages.{copy-there}
 use Rattle.backup.proofs.OfBackup.{copies}
 use Rattle.backup.proofs.copy_held.Statement.{statement}

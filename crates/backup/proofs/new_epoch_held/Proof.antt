@@ -1,6 +1,6 @@
 -- The header decides; a taken epoch aligns the log and leaves the role. Assumes nothing.
 use borrow.Author.Needs.{needs}
-use mathlib.Core.Path.{_≡_, refl, sym, ap, _∙_, subst}
+use mathlib.Core.Path.{subst}
 use Rattle.serve.specs.Admits.{TakesEpoch}
 use Rattle.arrivals.proofs.OfMessages.{new-epoch-there}
 use Rattle.backup.proofs.OfBackup.{announces-older, announces-taken}

@@ -1,6 +1,6 @@
 -- The entry is stored as `arrivals` stores it, and the shard has the log's new length. Assumes nothing.
 use borrow.Author.Needs.{needs}
-use mathlib.Core.Path.{_≡_, refl, sym, ap, _∙_, subst}
+use mathlib.Core.Path.{refl}
 use Rattle.arrivals.proofs.OfMessages.{replicate-there}
 use Rattle.backup.proofs.OfBackup.{replicates}
 use Rattle.backup.proofs.replicate_held.Statement.{statement}

@@ -1,9 +1,9 @@
 -- Nothing to store, another epoch, no room, or all of it stored. Assumes nothing.
 use borrow.Author.Needs.{needs}
-use mathlib.Core.Path.{_≡_, refl, sym, ap, _∙_, subst}
+use mathlib.Core.Path.{refl}
 use Rattle.shard.proofs.Arrived.{count-most}
 use Rattle.arrivals.specs.Parts.{entriesIn}
-use Rattle.arrivals.proofs.OfBatch.{grows-last, overflowing, batch-none, batch-some, copies-none, copies-stale, copies-full, copies-all}
+use Rattle.arrivals.proofs.OfBatch.{grows-last, fitting, overflowing, batch-none, batch-some, copies-none, copies-stale, copies-full, copies-all}
 use Rattle.arrivals.proofs.copy.copy.Statement.{statement}
 use Rattle.arrivals.proofs.copy.copy.Tie as tie
 
@@ -20,7 +20,10 @@ returns-3 : tie.Need-returns-3
 returns-3 c = let p = c .before .before .before .before .before .before .before .before .before .before .before .before .before .before .before .before .pre in let b = c .before .before .before .before .before .before .before .before .before .before .before .before .before .before .before .before .args .s .now in let r = c .before .before .before .before .before .before .before .before .before .before .before .before .before .before .before .before .args .p in copies-full _ _ _ _ (p .0) (p .1) (batch-some b r (c .before .before .before .before .before .if1 .left)) (c .before .before .if2 .left) (overflowing _ (entriesIn b r) _ _ (c .before .grows-to .ensures) (c .if3 .taken))
 
 store-all-requires : tie.Need-store-all-requires
-store-all-requires c κs = let p = c .before .before .before .before .before .before .before .before .before .before .before .before .before .before .before .before .before .before .before .before .before .before .before .before .pre in (p .0, p .1, p .2, p .3, c .before .before .before .before .before .before .before .before .before .grows-to .ensures, c .before .before .before .before .before .before .before .before .if3 .left)
+store-all-requires c κs =
+    let p = c .before .before .before .before .before .before .before .before .before .before .before .before .before .before .before .before .before .before .before .before .before .before .before .before .pre in
+    let a = c .before .before .before .before .before .before .before .before .before .before .before .before .before .before .before .before .before .before .before .before .before .before .before .before .args in
+    (p .0, p .1, p .2, p .3, fitting (a .own .0) (entriesIn (a .s .now) (a .p)) _ _ (c .before .before .before .before .before .before .before .before .before .grows-to .ensures) (c .before .before .before .before .before .before .before .before .if3 .left))
 
 same-length : tie.Need-same-length
 same-length c = search needs

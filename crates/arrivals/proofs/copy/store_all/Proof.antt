@@ -1,7 +1,7 @@
 -- A store on the way, with what is left of the batch. Assumes nothing.
 use borrow.Author.Needs.{needs}
-use mathlib.Core.Path.{_≡_, refl, sym, ap, _∙_, subst}
-use Prim.Native.Nat.{ℕ, _+_, _-_, _*_, _≤_, _<_}
+use mathlib.Core.Path.{_≡_, refl, sym, ap, _∙_}
+use Prim.Native.Nat.{_-_, _≤_}
 use native.Mathlib.Omega.{arith}
 use mathlib.Core.Bool.{true}
 use mathlib.Core.List.{map}
@@ -13,19 +13,19 @@ use Rattle.shard.specs.View.{columns}
 use Rattle.shard.specs.Store.{lent}
 use Rattle.arrivals.specs.Parts.{entriesIn, EntriesThere}
 use Rattle.arrivals.proofs.InMessage.{entries-start, entries-all, entries-first, entry-op, entries-rest, domain-first, domain-rest}
-use Rattle.arrivals.proofs.OfBatch.{OnWay, fitting, on-begin, on-turn, on-done}
+use Rattle.arrivals.proofs.OfBatch.{OnWay, on-begin, on-turn, on-done}
 use Rattle.arrivals.proofs.copy.store_all.Statement.{statement}
 use Rattle.arrivals.proofs.copy.store_all.Tie as tie
 
 abbrev Inv-loop : tie.InvT-loop
-Inv-loop epochs₀ offsets₀ ids₀ codes₀ lengths₀ floats₀ keys₀ places₀ count stored own s last n at₀ c₀ k₀ i₀ epochs offsets ids codes lengths floats keys places at c k i =
+Inv-loop epochs₀ offsets₀ ids₀ codes₀ lengths₀ floats₀ keys₀ places₀ count stored own s n at₀ c₀ k₀ i₀ epochs offsets ids codes lengths floats keys places at c k i =
     (i ≤ n) × EntriesThere s (part at (n - i)) × (every entryInDomain (entriesIn s (part at (n - i))) ≡ true) × (length floats ≡ length floats₀)
     × OnWay (own .0) (map storedEntry (entriesIn s (part at₀ n)))
     (lent (columns epochs₀ offsets₀ ids₀ codes₀ lengths₀ floats₀) keys₀ places₀ count stored)
     (lent (columns epochs offsets ids codes lengths floats) keys places c k) (map storedEntry (entriesIn s (part at (n - i))))
 
 abbrev μ-loop : tie.MeasureT-loop
-μ-loop epochs₀ offsets₀ ids₀ codes₀ lengths₀ floats₀ keys₀ places₀ count stored own s last n at₀ c₀ k₀ i₀ epochs offsets ids codes lengths floats keys places at c k i = n - i
+μ-loop epochs₀ offsets₀ ids₀ codes₀ lengths₀ floats₀ keys₀ places₀ count stored own s n at₀ c₀ k₀ i₀ epochs offsets ids codes lengths floats keys places at c k i = n - i
 
 loop-holds : tie.Need-loop-holds Inv-loop μ-loop
 loop-holds c = let a = c .before .before .before .before .before .before .before .before .before .args in let p = c .before .before .before .before .before .before .before .before .before .pre in (omega arith, entries-start (a .s .now) (a .p) (p .2), ap (every entryInDomain) (entries-all (a .s .now) (a .p)) ∙ p .3, refl, on-begin (a .own .0) (a .s .now) (a .p) _ (p .0) (p .1))
@@ -60,7 +60,7 @@ loop-again c =
       entries-rest b n (l .at) (l .i) t (l .inv .1) _ e,
       domain-rest b n (l .at) (l .i) t (l .inv .1) _ e (l .inv .2),
       c .before .before .before .before .before .before .before .before .before .before .before .before .before .before .before .before .store-under .kept .1 .1 .1 .1 .1 .0 ∙ l .inv .3,
-      on-turn (a .own .0) b _ _ n (l .at) (l .i) (fitting (a .own .0) (entriesIn b (a .p)) _ (a .last) (p .4) (p .5)) t (l .inv .1) _ e _ _ _ (l .inv .4) (c .before .before .before .before .before .before .before .before .before .before .before .before .before .before .before .before .store-under .ensures),
+      on-turn (a .own .0) b _ _ n (l .at) (l .i) (p .4) t (l .inv .1) _ e _ _ _ (l .inv .4) (c .before .before .before .before .before .before .before .before .before .before .before .before .before .before .before .before .store-under .ensures),
     )
 
 same-length : tie.Need-same-length Inv-loop μ-loop

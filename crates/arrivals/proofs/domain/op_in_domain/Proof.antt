@@ -1,6 +1,6 @@
 -- By the kind of the operation. Assumes nothing.
 use borrow.Author.Needs.{needs}
-use mathlib.Core.Path.{_≡_, refl, sym, ap, _∙_, subst}
+use mathlib.Core.Path.{sym, ap, _∙_, subst}
 use Rattle.model.specs.Node.Wire.{opInDomain}
 use Rattle.rpc.specs.declared.OpPart.{OpPart}
 use Rattle.arrivals.specs.Parts.{opIn, OpThere}

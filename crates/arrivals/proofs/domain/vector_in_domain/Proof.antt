@@ -1,9 +1,8 @@
 -- What was tested so far passed or not, and the rest is still to be tested. Assumes nothing.
 use borrow.Author.Needs.{needs}
-use mathlib.Core.Path.{_≡_, refl, sym, ap, _∙_, subst}
-use Prim.Native.Nat.{ℕ, _+_, _-_, _*_, _≤_, _<_}
+use mathlib.Core.Path.{_≡_, refl, _∙_}
+use Prim.Native.Nat.{_-_, _≤_, _<_}
 use native.Mathlib.Omega.{arith}
-use mathlib.Core.Bool.{true}
 use lib.ListN.{drop}
 use Rattle.model.specs.Lists.{_and_, every}
 use Rattle.model.specs.Nearest.Order.{bitsInDomain}

@@ -1,5 +1,4 @@
 -- Both tests hold, or the first one fails. Assumes nothing.
-use borrow.Author.Needs.{needs}
 use Rattle.arrivals.proofs.OfStores.{over-and, over-not}
 use Rattle.arrivals.proofs.store.is_over.Statement.{statement}
 use Rattle.arrivals.proofs.store.is_over.Tie as tie

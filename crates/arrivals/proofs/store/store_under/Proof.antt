@@ -1,9 +1,7 @@
 -- Turned down by its epoch or by its number, or stored as `shard` stores it. Assumes nothing.
 use borrow.Author.Needs.{needs}
-use mathlib.Core.Path.{_≡_, refl, sym, ap, _∙_, subst}
-use Prim.Native.Nat.{ℕ, _+_, _-_, _*_, _≤_, _<_}
+use mathlib.Core.Path.{refl, sym, _∙_}
 use native.Mathlib.Omega.{arith}
-use lib.ListN.{length}
 use lib.Seq.{length-take-le}
 use Rattle.arrivals.proofs.OfStores.{arrives-stale, arrives-full, arrives-read}
 use Rattle.arrivals.proofs.store.store_under.Statement.{statement}

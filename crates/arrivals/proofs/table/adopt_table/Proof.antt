@@ -1,9 +1,7 @@
 -- The alignment is by the table that was read. Assumes nothing.
 use borrow.Author.Needs.{needs}
-use mathlib.Core.Path.{_≡_, refl, sym, ap, _∙_, subst}
-use Prim.Native.Nat.{ℕ, _+_, _-_, _*_, _≤_, _<_}
+use mathlib.Core.Path.{refl}
 use native.Mathlib.Omega.{arith}
-use lib.ListN.{length}
 use Rattle.arrivals.proofs.OfTables.{aligned-by}
 use Rattle.arrivals.proofs.table.adopt_table.Statement.{statement}
 use Rattle.arrivals.proofs.table.adopt_table.Tie as tie
