@@ -1,0 +1,21 @@
+// What a primary's worker sends (paper 01, 'The node', the worker's step; 'Rules of a run', Messages; node.rs, replicate_to): the request of
+// a step, written from the lent store of one held shard into a lent output, whole or not at all. The store has passed the test (24).
+pub mod align;
+pub mod entries;
+pub mod entry;
+pub mod lone;
+pub mod worker;
+
+// Nothing to send (Stop, Wait), how many bytes were written from the output's start, or the number of a refusal: 23 where the output is short
+// of the request, which then stays as it was.
+pub enum Request {
+    Unsent,
+    Written(usize),
+    Refused(u8),
+}
+
+// How a lone entry goes: as Replicate ('The node'), or as CopyShard where its epoch is below the primary's ('Rules of a run').
+pub enum Form {
+    Replicate,
+    OlderAsCopy,
+}
