@@ -1,0 +1,33 @@
+// Apply (paper 01, 'The shard map', and 'Who is turned down'; the source's StateMachine::apply): a request in bytes, on any map. 21 for
+// what does not decode, 24 for a malformed map, then the command.
+ghost use Rattle.apply.specs.Calls.{AppliesBytes};
+use mapcheck::well_formed;
+use requests::decode;
+use settle::Settled;
+use settle::settle;
+use state::Refusal;
+use state::ShardMap;
+use state::answers::refused;
+
+// The answer, and the map afterwards; a refusal leaves the map as it was, the places that are not in use too.
+pub fn apply(m: ShardMap, s: &[u8]) -> Settled
+    ensures { λ r. ⌜ AppliesBytes m (now (s .entry)) r ⌝ }
+{
+    let read = decode(s);
+    if !read.found {
+        let verdict = refused(Refusal::Undecodable);
+        return Settled {
+            verdict: verdict,
+            map: m,
+        };
+    }
+    if !well_formed(m) {
+        let verdict = refused(Refusal::Malformed);
+        return Settled {
+            verdict: verdict,
+            map: m,
+        };
+    }
+    let request = read.request;
+    settle(m, request)
+}
