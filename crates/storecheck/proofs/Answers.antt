@@ -5,6 +5,7 @@ use mathlib.Core.Bool.{Bool, true, false, not}
 use lib.Dec.{eqb, ltb}
 use borrow.Author.Tests.{ltb-true, ltb-false, eqb-true, eqb-false}
 use native.Mathlib.Omega.{arith}
+use Rattle.model.specs.Lists.{_and_}
 use Rattle.model.proofs.Lists.{not-both}
 use Rattle.storecheck.specs.Conditions.{Decides}
 
@@ -17,6 +18,17 @@ true-if true true f g = refl
 true-if true false f g = sym (f refl)
 true-if false true f g = g refl
 true-if false false f g = refl
+
+-- `and` with what is known of its right side
+pub and-none : (b : Bool) → b and false ≡ false
+unfolding _and_
+and-none true = refl
+and-none false = refl
+
+pub and-all : (b : Bool) → b and true ≡ b
+unfolding _and_
+and-all true = refl
+and-all false = refl
 
 module _ {P : Type 0} where
   pub grant : P → Decides true P

@@ -3,6 +3,7 @@ use Prim.Native.Nat.{ℕ, zero, suc, _+_, _*_, _≤_, _<_}
 use mathlib.Core.Path.{_≡_, refl, sym, ap, _∙_}
 use mathlib.Core.Bool.{Bool, true, false}
 use mathlib.Core.List.{List, [], _∷_}
+use native.Mathlib.Numerals.{add-one}
 use native.Mathlib.Omega.{arith}
 use lib.Ieee.{Float}
 use lib.ListN.{length, take, drop, getD}
@@ -10,6 +11,8 @@ use lib.Seq.{take-nil}
 use Rattle.model.specs.Lists.{_and_, every}
 use Rattle.model.specs.Node.WellFormed.{component}
 use Rattle.model.proofs.Map.Rows.{every-tail, every-cons}
+use Rattle.shard.specs.Store.{everyBelow}
+use Rattle.storecheck.proofs.Answers.{and-none, and-all}
 use Rattle.shard.proofs.Checking.{every-on, every-stop, every-end}
 use Rattle.storecheck.specs.Entries.{StretchFits}
 
@@ -38,19 +41,20 @@ module _ {ℓ} {A : Type ℓ} (p : A → Bool) where
 
     pub pass-out : (ok : Bool) → p (getD l i d) ≡ false → i < length l → false and every p (drop (i + 1) l) ≡ ok and every p (drop i l)
     unfolding _and_
-    pass-out ok q h = sym (none-left ok) ∙ ap (λ (v : Bool). ok and v) (sym (every-stop p l i d q h))
-      where
-        none-left : (b : Bool) → b and false ≡ false
-        none-left true = refl
-        none-left false = refl
+    pass-out ok q h = sym (and-none ok) ∙ ap (λ (v : Bool). ok and v) (sym (every-stop p l i d q h))
 
   pub pass-end : (ok : Bool) (l : List A) (i : ℕ) → length l ≤ i → ok ≡ ok and every p (drop i l)
-  unfolding _and_
-  pass-end ok l i h = sym (ap (λ (v : Bool). ok and v) (every-end p l i h) ∙ all-left ok)
-    where
-      all-left : (b : Bool) → b and true ≡ b
-      all-left true = refl
-      all-left false = refl
+  pass-end ok l i h = sym (ap (λ (v : Bool). ok and v) (every-end p l i h) ∙ and-all ok)
+
+-- the same of the places of a column
+module _ (p : ℕ → Bool) (i : ℕ) where
+  pub column-on : (ok : Bool) → p i ≡ true → ok ≡ everyBelow p i → ok ≡ everyBelow p (i + 1)
+  unfolding everyBelow
+  column-on ok q e = e ∙ sym (ap (everyBelow p) (add-one i) ∙ ap (λ (v : Bool). everyBelow p i and v) q ∙ and-all (everyBelow p i))
+
+  pub column-out : p i ≡ false → false ≡ everyBelow p (i + 1)
+  unfolding everyBelow
+  column-out q = sym (ap (everyBelow p) (add-one i) ∙ ap (λ (v : Bool). everyBelow p i and v) q ∙ and-none (everyBelow p i))
 
 -- the stretches of n entries, if all floats up to the last of them lie in the domain
 pub stretches : (fs : List Float) (n i e : ℕ) → i < n → e ≡ n * 32 → every component (take e fs) ≡ true → StretchFits fs i

@@ -6,7 +6,7 @@ use mathlib.Core.Logic.{⊎-elim}
 use native.Mathlib.Nat.{eq-or-lt-of-le}
 use native.Mathlib.Omega.{arith}
 use lib.Dec.{eqb, leb}
-use borrow.Author.Tests.{eqb-true, eq-eqb, ne-eqb, le-leb, leb-true}
+use borrow.Author.Tests.{eqb-true, eqb-false, eq-eqb, ne-eqb, le-leb, lt-leb, leb-true, leb-false}
 use lib.ListN.{length, take, drop, getD, length-drop}
 use lib.Seq.{length-take-le}
 use Rattle.model.specs.Lists.{_and_, every}
@@ -22,9 +22,9 @@ use Rattle.shard.proofs.Columns.{log-length, log-at}
 use Rattle.shard.proofs.Bits.{every-at}
 use Rattle.shard.proofs.Rebuilt.{played-log}
 use Rattle.shard.proofs.Push.{every-snoc}
-use Rattle.storecheck.specs.Entries.{entryFits, StretchFits}
+use Rattle.storecheck.specs.Entries.{entryFits, numberFits, shapeFits, shapeAt, StretchFits}
 use Rattle.storecheck.proofs.Answers.{false-if, true-if}
-use Rattle.storecheck.proofs.Domain.{every-front}
+use Rattle.storecheck.proofs.Domain.{every-front, stretches}
 use Rattle.shard.proofs.Facts.{Facts, facts, well-formed, below-fact, fact-below, rows-same, same-rows}
 
 op-of-set : (c : Columns) (i : ℕ) → getD (c .codes) i 0 ≡ 1 → opOf c i ≡ upsert (getD (c .ids) i 0) (stretch c i)
@@ -133,7 +133,68 @@ module _ (c : Columns) (i : ℕ) where
         by-domain w true hi hf p e nz h
         (sym (every-front component 32 (i * 32 + w - i * 32) (drop (i * 32) (c .floats)) (omega arith) q))
 
+  -- .. and the offset is right: the entry's shape decides
+  pub by-shape : i < 1024 → 32768 ≤ length (c .floats) → o ≡ i + 1 → StretchFits (c .floats) i → shapeFits code len ≡ entryFits c i
+  unfolding shapeFits _and_
+  by-shape hi hf p q = go (eqb code 1) refl (eqb code 2) refl (leb 1 len) refl (leb len 32) refl
+    where
+      go : (s : Bool) → eqb code 1 ≡ s → (d : Bool) → eqb code 2 ≡ d → (a : Bool) → leb 1 len ≡ a → (b : Bool) → leb len 32 ≡ b
+          → cond s (a and b) d ≡ entryFits c i
+      go true s d e false a b f = let l = leb-false 1 len a in too-short (eqb-true code 1 s) (omega arith)
+      go true s d e true a false b = too-long (eqb-true code 1 s) (leb-false len 32 b)
+      go true s d e true a true b =
+          let l = leb-true 1 len a in
+          by-stretch (eqb-true code 1 s) len hi hf p refl (λ z. omega arith) (leb-true len 32 b) q
+      go false s true d a e b f = a-delete p (eqb-true code 2 d)
+      go false s false d a e b f = no-code (eqb-false code 2 d) (eqb-false code 1 s)
+
+-- the test of a shape, way by way
+module _ (code len : ℕ) where
+  pub shape-other : (code ≡ 1 → ⊥) → eqb code 2 ≡ shapeFits code len
+  unfolding shapeFits
+  shape-other n = rw (ne-eqb code 1 n)
+
+  module _ (set : code ≡ 1) where
+    pub shape-none : len ≡ 0 → false ≡ shapeFits code len
+    unfolding shapeFits _and_
+    shape-none z = rw (eq-eqb code 1 set, lt-leb 1 len (omega arith))
+
+    pub shape-some : (len ≡ 0 → ⊥) → leb len 32 ≡ shapeFits code len
+    unfolding shapeFits _and_
+    shape-some n = rw (eq-eqb code 1 set, le-leb 1 len (positive len n))
+      where
+        positive : (w : ℕ) → (w ≡ 0 → ⊥) → 1 ≤ w
+        positive zero n = absurd (n refl)
+        positive (suc w) n = omega arith
+
 -- ---- all entries
+
+below-same : (p q : ℕ → Bool) (n : ℕ) → ((i : ℕ) → i < n → p i ≡ q i) → everyBelow p n ≡ everyBelow q n
+unfolding everyBelow
+below-same p q zero f = refl
+below-same p q (suc n) f =
+    ap (λ (v : Bool). v and p n) (below-same p q n (λ i h. f i (omega arith))) ∙ ap (λ (v : Bool). everyBelow q n and v) (f n (omega arith))
+
+module _ (c : Columns) (n : ℕ) where
+  -- an offset is wrong
+  pub not-numbered : (b : Bool) → b ≡ everyBelow (numberFits (c .offsets)) n → b ≡ false → false ≡ everyBelow (entryFits c) n
+  not-numbered b e q =
+      false-if (everyBelow (entryFits c) n)
+      (λ t.
+      not-both b
+      (e ∙ fact-below (numberFits (c .offsets)) n
+      (λ i h. eq-eqb (getD (c .offsets) i 0) (i + 1) (fits-of c i (below-fact (entryFits c) n t i h) .0)))
+      q)
+
+  -- the offsets are right, and all floats lie in the domain
+  pub by-shapes : n ≤ 1024 → 32768 ≤ length (c .floats) → (e : ℕ) → e ≡ n * 32 → every component (take e (c .floats)) ≡ true
+      → everyBelow (numberFits (c .offsets)) n ≡ true → (b : Bool) → b ≡ everyBelow (shapeAt (c .codes) (c .lengths)) n
+      → b ≡ everyBelow (entryFits c) n
+  by-shapes hn hf e is q w b u =
+      u ∙ below-same (shapeAt (c .codes) (c .lengths)) (entryFits c) n
+      (λ i h.
+      by-shape c i (omega arith) hf (eqb-true (getD (c .offsets) i 0) (i + 1) (below-fact (numberFits (c .offsets)) n w i h))
+      (stretches (c .floats) n i e h is q))
 
 pub entries-on : (p : ℕ → Bool) (i : ℕ) → ((j : ℕ) → j < i → p j ≡ true) → p i ≡ true → (j : ℕ) → j < i + 1 → p j ≡ true
 entries-on p i f q j h =

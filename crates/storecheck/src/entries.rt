@@ -1,13 +1,14 @@
-// The clauses of 24 that speak of the entries: offsets 1, 2, 3 and so on, listed codes, 1 to 32 floats in the domain. The floats of all
-// stretches are tested first, at once and without early exit; only if one of them, used or free, lies outside is each Upsert's own part tested.
+// The clauses of 24 that speak of the entries: offsets 1, 2, 3 and so on, listed codes, 1 to 32 floats in the domain. Each column is tested
+// in one pass without early exit, so that several places are tested at once, and so are the floats of all stretches; only if one of those,
+// used or free, lies outside the domain is each Upsert's own part tested.
 
 ghost use mathlib.Core.Path.{_≡_};
-ghost use mathlib.Core.Bool.{true};
 ghost use Prim.Native.Nat.{_≤_, _<_};
 ghost use lib.ListN.{length};
 ghost use Rattle.model.specs.Lists.{every};
 ghost use Rattle.model.specs.Node.WellFormed.{component};
-ghost use Rattle.storecheck.specs.Entries.{EntryFits, EntriesFit, StretchFits};
+ghost use Rattle.shard.specs.Store.{everyBelow};
+ghost use Rattle.storecheck.specs.Entries.{EntryFits, EntriesFit, numberFits, shapeFits, shapeAt};
 
 // Internal: whether every component lies in the domain.
 pub fn all_in_domain(vector: &[f32]) -> bool
@@ -30,17 +31,9 @@ fn wide(x: u8) -> usize
     x as usize
 }
 
-// Internal: the clauses of the entry at place i, of which it may be known that its stretch lies in the domain.
-pub fn entry_fits(
-    offsets: &[u64],
-    codes: &[u8],
-    lengths: &[u8],
-    floats: &[f32],
-    i: usize,
-    tame: bool,
-) -> bool
-    requires { ⌜ (i < 1024) × (length (now offsets) ≡ 1024) × (length (now codes) ≡ 1024) × (length (now lengths) ≡ 1024)
-        × (32768 ≤ length (now floats)) × (tame ≡ true → StretchFits (now floats) i) ⌝ }
+// Internal: the clauses of the entry at place i.
+pub fn entry_fits(offsets: &[u64], codes: &[u8], lengths: &[u8], floats: &[f32], i: usize) -> bool
+    requires { ⌜ (i < 1024) × (length (now offsets) ≡ 1024) × (length (now codes) ≡ 1024) × (length (now lengths) ≡ 1024) × (32768 ≤ length (now floats)) ⌝ }
     ensures { λ r. ⌜ EntryFits (now (offsets .entry)) (now (codes .entry)) (now (lengths .entry)) (now (floats .entry)) i r ⌝ }
 {
     if offsets[i] != (i + 1) as u64 {
@@ -59,11 +52,74 @@ pub fn entry_fits(
     if 32 < n {
         return false;
     }
-    if tame {
-        return true;
-    }
     let start = i * 32;
     all_in_domain(&floats[start..start + n])
+}
+
+// Internal: the clauses of each of the first `count` entries, one by one.
+pub fn each_fits(
+    offsets: &[u64],
+    codes: &[u8],
+    lengths: &[u8],
+    floats: &[f32],
+    count: usize,
+) -> bool
+    requires { ⌜ (count ≤ 1024) × (length (now offsets) ≡ 1024) × (length (now codes) ≡ 1024) × (length (now lengths) ≡ 1024) × (32768 ≤ length (now floats)) ⌝ }
+    ensures { λ r. ⌜ EntriesFit (now (offsets .entry)) (now (codes .entry)) (now (lengths .entry)) (now (floats .entry)) count r ⌝ }
+{
+    let mut i: usize = 0;
+    while i < count {
+        if !entry_fits(offsets, codes, lengths, floats, i) {
+            return false;
+        }
+        i += 1;
+    }
+    true
+}
+
+// Internal: whether the offsets of the first `count` entries are 1, 2, 3 and so on.
+pub fn numbered(offsets: &[u64], count: usize) -> bool
+    requires { ⌜ count ≤ length (now offsets) ⌝ }
+    ensures { λ r. ⌜ r ≡ everyBelow (numberFits (now (offsets .entry))) count ⌝ }
+{
+    let mut ok = true;
+    let mut i: usize = 0;
+    while i < count {
+        if offsets[i] != (i + 1) as u64 {
+            ok = false;
+        }
+        i += 1;
+    }
+    ok
+}
+
+// Internal: a Delete, or an Upsert of 1 to 32 floats.
+pub fn is_listed(code: u8, len: u8) -> bool
+    ensures { λ r. ⌜ r ≡ shapeFits code len ⌝ }
+{
+    if code != 1 {
+        return code == 2;
+    }
+    if len == 0 {
+        return false;
+    }
+    len <= 32
+}
+
+// Internal: whether each of the first `count` entries is one of these.
+pub fn listed(codes: &[u8], lengths: &[u8], count: usize) -> bool
+    requires { ⌜ (count ≤ length (now codes)) × (count ≤ length (now lengths)) ⌝ }
+    ensures { λ r. ⌜ r ≡ everyBelow (shapeAt (now (codes .entry)) (now (lengths .entry))) count ⌝ }
+{
+    let mut ok = true;
+    let mut i: usize = 0;
+    while i < count {
+        if !is_listed(codes[i], lengths[i]) {
+            ok = false;
+        }
+        i += 1;
+    }
+    ok
 }
 
 // Internal: the clauses of each of the first `count` entries.
@@ -78,13 +134,11 @@ pub fn entries_fit(
     ensures { λ r. ⌜ EntriesFit (now (offsets .entry)) (now (codes .entry)) (now (lengths .entry)) (now (floats .entry)) count r ⌝ }
 {
     let end = count * 32;
-    let tame = all_in_domain(&floats[0..end]);
-    let mut i: usize = 0;
-    while i < count {
-        if !entry_fits(offsets, codes, lengths, floats, i, tame) {
-            return false;
-        }
-        i += 1;
+    if !all_in_domain(&floats[0..end]) {
+        return each_fits(offsets, codes, lengths, floats, count);
     }
-    true
+    if !numbered(offsets, count) {
+        return false;
+    }
+    listed(codes, lengths, count)
 }

@@ -56,25 +56,46 @@ fn slot(id: u64) -> usize
     (id % 2039) as usize
 }
 
-// Whether the hint for the id of entry i is the place of an entry behind it with that id. Hints may hold anything: an answer of false says
-// nothing.
-pub fn hinted(ids: &[u64], hints: &[u16], count: usize, i: usize) -> bool
-    requires { ⌜ (i < count) × (count ≤ length (now ids)) × (length (now hints) ≡ 2039) ⌝ }
+fn place_of(hint: u16) -> usize {
+    hint as usize
+}
+
+// Whether an entry behind place i with its id is found by a few steps along the places that share the id's slot. The two columns are
+// hints and may hold anything: each place is tested, and an answer of false says nothing.
+pub fn hinted(ids: &[u64], heads: &[u16], nexts: &[u16], count: usize, i: usize) -> bool
+    requires { ⌜ (i < count) × (count ≤ length (now ids)) × (count ≤ length (now nexts)) × (length (now heads) ≡ 2039) ⌝ }
     ensures { λ r. ⌜ (r ≡ true → Again (now (ids .entry)) count i) ⌝ }
 {
     let at = slot(ids[i]);
-    let k = place_of(hints[at]);
-    if k <= i {
-        return false;
+    let mut k = place_of(heads[at]);
+    let mut steps: usize = 0;
+    while steps < 8 {
+        if k <= i {
+            return false;
+        }
+        if count <= k {
+            return false;
+        }
+        if ids[k] == ids[i] {
+            return true;
+        }
+        k = place_of(nexts[k]);
+        steps += 1;
     }
-    if count <= k {
-        return false;
-    }
-    ids[k] == ids[i]
+    false
 }
 
-fn place_of(hint: u16) -> usize {
-    hint as usize
+// Puts place i at the head of its slot, if hints are kept. What they hold then is free.
+pub fn remember(heads: &mut [u16], nexts: &mut [u16], kept: bool, id: u64, i: usize)
+    requires { ⌜ (i < 1024) × (length (now heads) ≡ 2039) × (length (now nexts) ≡ 1024) ⌝ }
+    ensures { λ _. ⌜ (length (now (heads .exit)) ≡ 2039) × (length (now (nexts .exit)) ≡ 1024) ⌝ }
+{
+    if !kept {
+        return;
+    }
+    let at = slot(id);
+    nexts[i] = heads[at];
+    heads[at] = i as u16;
 }
 
 // Whether entry i is settled.
@@ -84,18 +105,20 @@ pub fn is_settled(
     keys: &[u64],
     places: &[u64],
     marks: &[u8],
-    hints: &[u16],
+    heads: &[u16],
+    nexts: &[u16],
     count: usize,
     stored: usize,
     i: usize,
 ) -> bool
-    requires { ⌜ (i < count) × Walk (now ids) (now codes) (now keys) (now places) (now marks) count stored × (length (now hints) ≡ 2039) ⌝ }
+    requires { ⌜ (i < count) × Walk (now ids) (now codes) (now keys) (now places) (now marks) count stored × (length (now heads) ≡ 2039)
+        × (length (now nexts) ≡ 1024) ⌝ }
     ensures { λ r. ⌜ Decides r (Settled (now (ids .entry)) (now (codes .entry)) (now (keys .entry)) (now (places .entry)) count stored i) ⌝ }
 {
     if marks[i] != 0 {
         return true;
     }
-    if hinted(ids, hints, count, i) {
+    if hinted(ids, heads, nexts, count, i) {
         return true;
     }
     if agrees(ids, codes, keys, places, stored, i) {
@@ -104,29 +127,41 @@ pub fn is_settled(
     comes_again(ids, count, i)
 }
 
-// Whether every entry is, from the last to the first, so that a hint is the place of the entry met last. What the hints hold at the end
-// is free.
+// Whether every entry is, from the last to the first, so that hints are places of later entries. What they hold at the end is free. Where
+// there are as many rows as entries, each entry is marked, and no hint is kept.
 pub fn all_settled(
     ids: &[u64],
     codes: &[u8],
     keys: &[u64],
     places: &[u64],
     marks: &[u8],
-    hints: &mut [u16],
+    heads: &mut [u16],
+    nexts: &mut [u16],
     count: usize,
     stored: usize,
 ) -> bool
-    requires { ⌜ Walk (now ids) (now codes) (now keys) (now places) (now marks) count stored × (length (now hints) ≡ 2039) ⌝ }
+    requires { ⌜ Walk (now ids) (now codes) (now keys) (now places) (now marks) count stored × (length (now heads) ≡ 2039) × (length (now nexts) ≡ 1024) ⌝ }
     ensures { λ r. ⌜ Decides r (AllSettled (now (ids .entry)) (now (codes .entry)) (now (keys .entry)) (now (places .entry)) count stored) ⌝ }
 {
+    let kept = stored < count;
     let mut i = count;
     while 0 < i {
         i -= 1;
-        if !is_settled(ids, codes, keys, places, marks, hints, count, stored, i) {
+        if !is_settled(
+            ids,
+            codes,
+            keys,
+            places,
+            marks,
+            heads,
+            nexts,
+            count,
+            stored,
+            i,
+        ) {
             return false;
         }
-        let at = slot(ids[i]);
-        hints[at] = i as u16;
+        remember(heads, nexts, kept, ids[i], i);
     }
     true
 }
@@ -150,6 +185,17 @@ pub fn table_played(
     if !super::rows::mark_rows(ids, codes, keys, places, &mut marks, count, stored) {
         return false;
     }
-    let mut hints = [0u16; 2039];
-    all_settled(ids, codes, keys, places, &marks, &mut hints, count, stored)
+    let mut heads = [0u16; 2039];
+    let mut nexts = [0u16; 1024];
+    all_settled(
+        ids,
+        codes,
+        keys,
+        places,
+        &marks,
+        &mut heads,
+        &mut nexts,
+        count,
+        stored,
+    )
 }

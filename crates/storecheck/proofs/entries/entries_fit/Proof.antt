@@ -1,88 +1,68 @@
 -- `storecheck::entries::entries_fit` meets its contract. Assumes nothing.
 use borrow.Author.Needs.{needs}
 use native.Mathlib.Omega.{arith}
-use mathlib.Core.Path.{_≡_, sym, _∙_}
-use mathlib.Core.List.{List}
-use Prim.Native.Nat.{ℕ, _-_, _*_, _≤_, _<_}
-use mathlib.Core.Bool.{true}
+use mathlib.Core.Path.{sym, _∙_}
+use Prim.Native.Nat.{_-_, _*_}
 use borrow.Author.Tests.{not-true, not-false}
 use Rattle.shard.specs.View.{columns}
-use Rattle.storecheck.specs.Entries.{entryFits}
-use Rattle.storecheck.proofs.Domain.{stretches}
-use Rattle.storecheck.proofs.Fitting.{entries-on, entries-stop, entries-end}
+use Rattle.storecheck.proofs.Fitting.{not-numbered, by-shapes}
 use Rattle.storecheck.proofs.entries.entries_fit.Statement.{statement}
 use Rattle.storecheck.proofs.entries.entries_fit.Tie as tie
 
-abbrev Inv-loop : tie.InvT-loop
-Inv-loop offsets codes lengths floats count end tame i₀ i =
-    (i ≤ count) × ((es is : List ℕ) (j : ℕ) → j < i → entryFits (columns es offsets is codes lengths floats) j ≡ true)
-
-abbrev μ-loop : tie.MeasureT-loop
-μ-loop offsets codes lengths floats count end tame i₀ i = count - i
-
-mul-end : tie.Need-mul-end Inv-loop μ-loop
+mul-end : tie.Need-mul-end
 mul-end c = search needs
 
-sub-all-in-domain : tie.Need-sub-all-in-domain Inv-loop μ-loop
+sub-all-in-domain : tie.Need-sub-all-in-domain
 sub-all-in-domain c = search needs
 
-part-all-in-domain-start : tie.Need-part-all-in-domain-start Inv-loop μ-loop
+part-all-in-domain-start : tie.Need-part-all-in-domain-start
 part-all-in-domain-start c = search needs
 
-part-all-in-domain-end : tie.Need-part-all-in-domain-end Inv-loop μ-loop
+part-all-in-domain-end : tie.Need-part-all-in-domain-end
 part-all-in-domain-end c = search needs
 
-all-in-domain-requires : tie.Need-all-in-domain-requires Inv-loop μ-loop
+all-in-domain-requires : tie.Need-all-in-domain-requires
 all-in-domain-requires c κs = search needs
 
-loop-holds : tie.Need-loop-holds Inv-loop μ-loop
-loop-holds c = (omega arith, λ es is j h. absurd (omega arith))
+each-fits-requires : tie.Need-each-fits-requires
+each-fits-requires c κs = search needs
 
-entry-fits-requires : tie.Need-entry-fits-requires Inv-loop μ-loop
-entry-fits-requires c κs =
-    let p = c .before .before .before .before .before .before .before .before .pre in
-    let a = c .before .before .before .before .before .before .before .before .args in (
-      omega arith,
-      p .1,
-      p .2,
-      p .3,
-      p .4,
-      λ e. stretches (a .floats .now) (a .count) (c .before .loop .i) (a .count * 32 - 0) (c .loop-test .taken) (omega arith) (sym (c .before .before .all-in-domain .ensures) ∙ e),
-    )
+returns : tie.Need-returns
+returns c = search needs
 
-returns : tie.Need-returns Inv-loop μ-loop
-returns c = λ es is. entries-stop _ _ (c .before .before .before .loop .i) (c .before .before .loop-test .taken) (sym (c .before .entry-fits .ensures es is) ∙ not-true _ (c .if1 .taken))
+numbered-requires : tie.Need-numbered-requires
+numbered-requires c κs = search needs
 
-add-i : tie.Need-add-i Inv-loop μ-loop
-add-i c = search needs
+returns-2 : tie.Need-returns-2
+returns-2 c =
+    let a = c .before .before .before .before .before .before .before .before .before .args in
+    λ es is. not-numbered (columns es (a .offsets .now) is (a .codes .now) (a .lengths .now) (a .floats .now)) (a .count) (c .before .numbered .result) (c .before .numbered .ensures) (not-true _ (c .if2 .taken))
 
-loop-less : tie.Need-loop-less Inv-loop μ-loop
-loop-less c = search needs
+listed-requires : tie.Need-listed-requires
+listed-requires c κs = search needs
 
-loop-again : tie.Need-loop-again Inv-loop μ-loop
-loop-again c = (
-  omega arith,
-  λ es is. entries-on (entryFits _) (c .before .before .before .loop .i) (c .before .before .before .loop .inv .1 es is) (sym (c .before .entry-fits .ensures es is) ∙ not-false _ (c .if1 .left)),
-)
-
-returns-2 : tie.Need-returns-2 Inv-loop μ-loop
-returns-2 c = λ es is. entries-end _ (c .before .loop .i) _ (omega arith) (c .before .loop .inv .1 es is)
+returns-3 : tie.Need-returns-3
+returns-3 c =
+    let a = c .before .before .before .before .before .before .before .before .before .before .args in
+    let p = c .before .before .before .before .before .before .before .before .before .before .pre in
+    λ es is.
+    by-shapes (columns es (a .offsets .now) is (a .codes .now) (a .lengths .now) (a .floats .now)) (a .count) (p .0) (p .4) (a .count * 32 - 0) (omega arith)
+    (sym (c .before .before .before .before .all-in-domain .ensures) ∙ not-false _ (c .before .before .before .if1 .left))
+    (sym (c .before .before .numbered .ensures) ∙ not-false _ (c .before .if2 .left))
+    (c .listed .result) (c .listed .ensures)
 
 pub entries-fit-spec : {M : Type 1} → statement M
 entries-fit-spec =
     tie.close
     (tie.spec
-    Inv-loop
-    μ-loop
     mul-end
     sub-all-in-domain
     part-all-in-domain-start
     part-all-in-domain-end
     all-in-domain-requires
-    loop-holds
-    entry-fits-requires
+    each-fits-requires
     returns
-    add-i
-    loop-less
-    loop-again
-    returns-2)
+    numbered-requires
+    returns-2
+    listed-requires
+    returns-3)

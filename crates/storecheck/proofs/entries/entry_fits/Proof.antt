@@ -2,7 +2,7 @@
 use borrow.Author.Needs.{needs}
 use native.Mathlib.Omega.{arith}
 use mathlib.Core.Path.{sym, _∙_}
-use Rattle.storecheck.proofs.Fitting.{no-offset, a-delete, no-code, too-short, too-long, by-domain, by-stretch}
+use Rattle.storecheck.proofs.Fitting.{no-offset, a-delete, no-code, too-short, too-long, by-domain}
 use Rattle.storecheck.proofs.entries.entry_fits.Statement.{statement}
 use Rattle.storecheck.proofs.entries.entry_fits.Tie as tie
 
@@ -42,11 +42,6 @@ returns-4 c = λ es is. too-short _ _ (c .before .before .before .if3 .left) (sy
 returns-5 : tie.Need-returns-5
 returns-5 c = λ es is. too-long _ _ (c .before .before .before .before .if3 .left) (omega (arith, c .before .before .wide .ensures .0, c .if5 .taken))
 
-returns-6 : tie.Need-returns-6
-returns-6 c =
-    let p = c .before .before .before .before .before .before .before .before .before .before .before .before .before .before .before .pre in
-    λ es is. by-stretch _ _ (c .before .before .before .before .before .if3 .left) (c .before .before .before .wide .result) (p .0) (p .4) (c .before .before .before .before .before .before .before .before .before .if1 .left) (c .before .before .before .wide .ensures .0) (c .before .before .if4 .left) (c .before .if5 .left) (p .5 (c .if6 .taken))
-
 mul-start : tie.Need-mul-start
 mul-start c = search needs
 
@@ -68,10 +63,10 @@ part-all-in-domain-end c = search needs
 all-in-domain-requires : tie.Need-all-in-domain-requires
 all-in-domain-requires c κs = search needs
 
-returns-7 : tie.Need-returns-7
-returns-7 c =
-    let p = c .before .before .before .before .before .before .before .before .before .before .before .before .before .before .before .before .before .pre in
-    λ es is. by-domain _ _ (c .before .before .before .before .before .before .before .if3 .left) (c .before .before .before .before .before .wide .result) _ (p .0) (p .4) (c .before .before .before .before .before .before .before .before .before .before .before .if1 .left) (c .before .before .before .before .before .wide .ensures .0) (c .before .before .before .before .if4 .left) (c .before .before .before .if5 .left) (c .all-in-domain .ensures)
+returns-6 : tie.Need-returns-6
+returns-6 c =
+    let p = c .before .before .before .before .before .before .before .before .before .before .before .before .before .before .before .before .pre in
+    λ es is. by-domain _ _ (c .before .before .before .before .before .before .if3 .left) (c .before .before .before .before .wide .result) _ (p .0) (p .4) (c .before .before .before .before .before .before .before .before .before .before .if1 .left) (c .before .before .before .before .wide .ensures .0) (c .before .before .before .if4 .left) (c .before .before .if5 .left) (c .all-in-domain .ensures)
 
 pub entry-fits-spec : {M : Type 1} → statement M
 entry-fits-spec =
@@ -89,7 +84,6 @@ entry-fits-spec =
     wide-requires
     returns-4
     returns-5
-    returns-6
     mul-start
     add-all-in-domain
     mul-all-in-domain
@@ -97,4 +91,4 @@ entry-fits-spec =
     part-all-in-domain-start
     part-all-in-domain-end
     all-in-domain-requires
-    returns-7)
+    returns-6)

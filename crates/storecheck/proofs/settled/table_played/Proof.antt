@@ -25,10 +25,13 @@ slice-aggregate-all-settled c = search needs
 slice-aggregate-all-settled-2 : tie.Need-slice-aggregate-all-settled-2
 slice-aggregate-all-settled-2 c = search needs
 
+slice-aggregate-all-settled-3 : tie.Need-slice-aggregate-all-settled-3
+slice-aggregate-all-settled-3 c = search needs
+
 all-settled-requires : tie.Need-all-settled-requires
 all-settled-requires c κs =
-    let p = c .before .before .before .before .before .before .before .before .before .before .before .pre in
-    let t = c .before .before .before .before .mark-rows .ensures in (
+    let p = c .before .before .before .before .before .before .before .before .before .before .before .before .pre in
+    let t = c .before .before .before .before .before .mark-rows .ensures in (
       record {
         count = p .0;
         stored = p .1;
@@ -37,17 +40,18 @@ all-settled-requires c κs =
         keys = p .4;
         places = p .5;
         size = t .size;
-        rows = t .answer .yes (not-false _ (c .before .before .if1 .left));
+        rows = t .answer .yes (not-false _ (c .before .before .before .if1 .left));
         marked = t .marked;
       },
+      refl,
       refl,
     )
 
 returns-2 : tie.Need-returns-2
 returns-2 c =
-    let a = c .before .before .before .before .before .before .before .before .before .before .before .before .before .args in
-    let p = c .before .before .before .before .before .before .before .before .before .before .before .before .before .pre in
-    all-answered (a .offsets .now) (a .ids .now) (a .codes .now) (a .keys .now) (a .places .now) (a .count) (a .stored) (omega (arith, p .1, p .4)) (omega (arith, p .1, p .5)) (p .6) (c .before .all-settled .result) (c .before .before .before .before .before .before .mark-rows .ensures .answer .yes (not-false _ (c .before .before .before .before .if1 .left))) (c .before .all-settled .ensures)
+    let a = c .before .before .before .before .before .before .before .before .before .before .before .before .before .before .before .args in
+    let p = c .before .before .before .before .before .before .before .before .before .before .before .before .before .before .before .pre in
+    all-answered (a .offsets .now) (a .ids .now) (a .codes .now) (a .keys .now) (a .places .now) (a .count) (a .stored) (omega (arith, p .1, p .4)) (omega (arith, p .1, p .5)) (p .6) (c .before .before .all-settled .result) (c .before .before .before .before .before .before .before .before .mark-rows .ensures .answer .yes (not-false _ (c .before .before .before .before .before .before .if1 .left))) (c .before .before .all-settled .ensures)
 
 pub table-played-spec : {M : Type 1} → statement M
 table-played-spec =
@@ -58,5 +62,6 @@ table-played-spec =
     returns
     slice-aggregate-all-settled
     slice-aggregate-all-settled-2
+    slice-aggregate-all-settled-3
     all-settled-requires
     returns-2)
