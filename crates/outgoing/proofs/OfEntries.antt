@@ -1,5 +1,5 @@
 -- Laws of stored entries that are sent one after another, by their places and by their offsets. Assumes nothing.
-use Prim.Native.Nat.{ℕ, zero, suc, _+_, _-_, _*_, _≤_, _<_, min, max}
+use Prim.Native.Nat.{ℕ, zero, suc, _+_, _-_, _≤_, _<_, min, max}
 use mathlib.Core.Path.{_≡_, refl, sym, ap, _∙_}
 use mathlib.Core.Bool.{Bool, true, false}
 use mathlib.Core.List.{List, [], _∷_, _++_, map}
@@ -10,8 +10,8 @@ use lib.Dec.{eqb, leb}
 use lib.ListN.{length, getD, take, drop, length-map, length-append, length-drop, drop-of-length-le}
 use lib.Seq.{sets, drop-cons, take-all}
 use Rattle.model.specs.Log.{Entry, Log, entriesFrom}
-use Rattle.model.specs.Layout.Format.{bytesOf, concatMap, encode}
-use Rattle.model.specs.Layout.Parts.{entriesF, entryF, entryValue}
+use Rattle.model.specs.Layout.Format.{bytesOf}
+use Rattle.model.specs.Layout.Parts.{entriesF, entryValue}
 use Rattle.model.specs.Layout.Message.{encodeCopyShard}
 use Rattle.model.specs.Node.Wire.{wireEntry}
 use Rattle.model.specs.Node.Worker.{messageBytes, copyOf}

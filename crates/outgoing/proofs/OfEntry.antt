@@ -8,10 +8,10 @@ use native.Mathlib.Omega.{arith}
 use borrow.Author.Tests.{eqb-true, eqb-false}
 use lib.Dec.{T, eqb, leb}
 use lib.Ieee.{Float, nan, inf, fin, isNan, binary32, fits}
-use lib.ListN.{length, getD, take, drop, length-map, length-drop, List·getD-map}
+use lib.ListN.{length, getD, drop, length-map, length-drop, List·getD-map}
 use lib.Seq.{sets, drop-cons, length-take-le}
 use Rattle.model.specs.Lists.{_and_, every}
-use Rattle.model.specs.Log.{Op, upsert, delete, components, lookup}
+use Rattle.model.specs.Log.{upsert, delete, lookup}
 use Rattle.model.specs.Layout.Format.{bytesOf, concatMap, encode, _▸_}
 use Rattle.model.specs.Layout.Parts.{opF, opValue, WireOp, u64}
 use Rattle.model.specs.Layout.Message.{encodeReplicate}

@@ -1,8 +1,8 @@
 -- Laws of the request of a step: what each step asks for. Assumes nothing.
-use Prim.Native.Nat.{ℕ, zero, suc, _+_, _-_, _≤_, _<_, min, max}
+use Prim.Native.Nat.{ℕ, _+_, _-_, _≤_, _<_, max}
 use mathlib.Core.Path.{_≡_, refl, sym, ap, _∙_, subst}
-use mathlib.Core.Bool.{Bool, true, false, cond, not}
-use mathlib.Core.List.{List, [], _∷_}
+use mathlib.Core.Bool.{true, false, not}
+use mathlib.Core.List.{[], _∷_}
 use mathlib.Core.Option.{Option, none, some}
 use native.Mathlib.Omega.{arith}
 use lib.ListN.{length, take, drop, length-take, length-drop}
@@ -22,7 +22,7 @@ use Rattle.serve.specs.declared.Step.the-variants as S
 use Rattle.serve.specs.Steps.{stepWord}
 use Rattle.outgoing.specs.Requested.{requestOn}
 
-abbrev Word : Type 0
+abbrev pub Word : Type 0
 Word = words.Step
 
 -- of a node that holds the shard, the request is the shard's

@@ -2,12 +2,11 @@
 use Prim.Native.Nat.{ℕ, _+_, _*_, _≤_, _<_, min}
 use mathlib.Core.Path.{_≡_, refl, sym, ap, _∙_}
 use mathlib.Core.Bool.{Bool, true, false}
-use mathlib.Core.List.{List, [], _∷_, _++_, map}
+use mathlib.Core.List.{List, [], _∷_, map}
 use mathlib.Core.Option.{some}
 use native.Mathlib.Omega.{arith}
 use borrow.Author.Tests.{leb-true, leb-false}
 use lib.Dec.{leb}
-use lib.Ieee.{Float}
 use lib.ListN.{length, take, set}
 use lib.Seq.{sets, take-all}
 use Rattle.model.specs.Log.{End, epochEnds}
@@ -26,7 +25,7 @@ use Rattle.shard.specs.View.{Columns, columns, entryOf, logOf}
 use Rattle.shard.proofs.Columns.{log-length}
 use Rattle.shard.proofs.Firsts.{firsts-take}
 use Rattle.outgoing.specs.Aligning.{Aligns}
-use Rattle.outgoing.specs.Requested.{keyNamed, Requested}
+use Rattle.outgoing.specs.Requested.{Requested}
 use Rattle.outgoing.specs.declared.Request.{Request}
 
 -- the first `end` entries of a log, of which it may have fewer

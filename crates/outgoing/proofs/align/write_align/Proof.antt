@@ -1,7 +1,5 @@
 -- `align::write_align` meets its contract. Assumes nothing.
 use borrow.Author.Needs.{needs}
-use native.Mathlib.Omega.{arith}
-use mathlib.Core.Path.{_≡_, refl, sym, _∙_, ap, subst}
 use native.Mathlib.Nat.{sub-zero}
 use Rattle.outgoing.proofs.OfTable.{aligns}
 use Rattle.outgoing.proofs.align.write_align.Statement.{statement}

@@ -1,8 +1,7 @@
 -- `align::write_table` meets its contract. Assumes nothing.
 use borrow.Author.Needs.{needs}
 use native.Mathlib.Omega.{arith}
-use mathlib.Core.Path.{_≡_, refl, sym, _∙_, ap}
-use lib.ListN.{length}
+use mathlib.Core.Path.{sym, _∙_}
 use Rattle.model.specs.Node.Worker.{newEpochMessage}
 use Rattle.rpcw.specs.Tables.{newEpochGiven}
 use Rattle.outgoing.proofs.OfAnswer.{short, wrote}

@@ -1,7 +1,7 @@
 -- `entries::entries_from` meets its contract. Assumes nothing.
 use borrow.Author.Needs.{needs}
 use native.Mathlib.Omega.{arith}
-use mathlib.Core.Path.{_≡_, refl, sym, _∙_, ap, subst}
+use mathlib.Core.Path.{sym, subst}
 use mathlib.Core.Option.{some}
 use Rattle.model.specs.Log.{Log}
 use Rattle.model.specs.Node.Worker.{copyOf}

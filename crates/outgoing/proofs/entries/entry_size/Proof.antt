@@ -1,9 +1,7 @@
 -- `entries::entry_size` meets its contract. Assumes nothing.
 use borrow.Author.Needs.{needs}
 use native.Mathlib.Omega.{arith}
-use mathlib.Core.Path.{_≡_, refl, sym, _∙_, ap}
 use borrow.Author.Tests.{eq-eqb, ne-eqb}
-use lib.Dec.{eqb}
 use Rattle.outgoing.proofs.entries.entry_size.Statement.{statement}
 use Rattle.outgoing.proofs.entries.entry_size.Tie as tie
 

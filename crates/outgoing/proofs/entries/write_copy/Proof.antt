@@ -1,7 +1,7 @@
 -- `entries::write_copy` meets its contract. Assumes nothing.
 use borrow.Author.Needs.{needs}
 use native.Mathlib.Omega.{arith}
-use mathlib.Core.Path.{_≡_, refl, sym, _∙_, ap, subst}
+use mathlib.Core.Path.{_∙_}
 use Prim.Native.Nat.{_-_}
 use Rattle.model.specs.Node.Worker.{copyOf}
 use Rattle.shard.specs.View.{columns}

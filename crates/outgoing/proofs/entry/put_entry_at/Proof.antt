@@ -1,13 +1,12 @@
 -- `entry::put_entry_at` meets its contract. Assumes nothing.
 use borrow.Author.Needs.{needs}
 use native.Mathlib.Omega.{arith}
-use mathlib.Core.Path.{_≡_, refl, sym, _∙_, ap}
-use Prim.Native.Nat.{ℕ, _+_, _*_}
+use mathlib.Core.Path.{_≡_, _∙_, ap}
+use Prim.Native.Nat.{ℕ}
 use mathlib.Core.List.{List, map}
-use lib.ListN.{length, getD}
+use lib.ListN.{getD}
 use lib.Seq.{sets}
 use Rattle.model.specs.Node.Wire.{bitsOf}
-use Rattle.rpcw.specs.Written.{opSize}
 use Rattle.rpcw.proofs.Entries.{entry-put}
 use Rattle.shard.specs.View.{columns}
 use Rattle.outgoing.proofs.OfEntry.{upserts, vector, op-length, op-fits, op-domain, entry-bytes}
@@ -30,7 +29,7 @@ mul-put8 c =
 shared-slice-read-put8 : tie.Need-shared-slice-read-put8
 shared-slice-read-put8 c =
     let r = c .before .before .before .before .before .before .before .before .before .before .pre .0 .room in
-    omega (arith, r .count, r .epochs)
+    omega (arith, r .count, r .epochs, r .offsets)
 
 put8-requires : tie.Need-put8-requires
 put8-requires c κs = omega arith

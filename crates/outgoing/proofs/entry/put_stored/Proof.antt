@@ -1,8 +1,8 @@
 -- `entry::put_stored` meets its contract. Assumes nothing.
 use borrow.Author.Needs.{needs}
 use native.Mathlib.Omega.{arith}
-use mathlib.Core.Path.{_≡_, refl, sym, _∙_, ap}
-use Prim.Native.Nat.{ℕ, _+_, _*_}
+use mathlib.Core.Path.{_≡_, sym, _∙_}
+use Prim.Native.Nat.{_+_, _*_}
 use mathlib.Core.List.{map}
 use lib.ListN.{length, length-map}
 use Rattle.model.specs.Node.Wire.{bitsOf}

@@ -1,7 +1,5 @@
 -- `lone::goes_as_copy` meets its contract. Assumes nothing.
 use borrow.Author.Needs.{needs}
-use native.Mathlib.Omega.{arith}
-use mathlib.Core.Path.{_≡_, refl, sym, _∙_, ap, subst}
 use Rattle.outgoing.proofs.lone.goes_as_copy.Statement.{statement}
 use Rattle.outgoing.proofs.lone.goes_as_copy.Tie as tie
 

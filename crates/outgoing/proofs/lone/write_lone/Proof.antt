@@ -1,12 +1,8 @@
 -- `lone::write_lone` meets its contract. Assumes nothing.
 use borrow.Author.Needs.{needs}
 use native.Mathlib.Omega.{arith}
-use mathlib.Core.Path.{_≡_, refl, sym, _∙_, ap}
-use Prim.Native.Nat.{ℕ, _+_, _*_}
-use mathlib.Core.List.{List, map}
-use lib.ListN.{length, getD}
-use lib.Seq.{sets}
-use Rattle.model.specs.Node.Wire.{bitsOf}
+use mathlib.Core.Path.{_≡_, _∙_, ap}
+use lib.ListN.{length}
 use Rattle.model.specs.Node.Worker.{loneOf}
 use Rattle.rpcw.specs.Written.{opSize}
 use Rattle.rpcw.proofs.Writes.{op-small}

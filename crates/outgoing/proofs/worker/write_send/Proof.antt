@@ -1,9 +1,8 @@
 -- `worker::write_send` meets its contract. Assumes nothing.
 use borrow.Author.Needs.{needs}
 use native.Mathlib.Omega.{arith}
-use mathlib.Core.Path.{_≡_, refl, sym, _∙_, ap, subst}
+use mathlib.Core.Path.{_≡_, sym, _∙_, ap, subst}
 use Prim.Native.Nat.{_-_}
-use mathlib.Core.Bool.{true, false}
 use mathlib.Core.Option.{Option, some}
 use borrow.Author.Tests.{not-true, not-false}
 use lib.ListN.{length}
