@@ -3,6 +3,7 @@
 // table is compared with the log without playing it.
 
 pub mod entries;
+pub mod hints;
 pub mod rows;
 pub mod settled;
 

@@ -1,8 +1,7 @@
 // The clause of 24 that the table is the log played: the rows fit, and each entry is settled. Nearly every entry of a log is one that a row
-// names, which a mark tells; the others are looked up. Internal.
+// names, which a mark tells, or has a later one of its id, which a hint finds; the others are looked up. Internal.
 
 ghost use mathlib.Core.Path.{_≡_};
-ghost use mathlib.Core.Bool.{true};
 ghost use Prim.Native.Nat.{ℕ, _+_, _≤_, _<_};
 ghost use lib.ListN.{length, getD};
 ghost use Rattle.shard.specs.Table.{rowsOf, rowsPlayed};
@@ -49,55 +48,6 @@ pub fn agrees(
     (i as u64) < places[at]
 }
 
-// Where the hint for an id is kept.
-fn slot(id: u64) -> usize
-    ensures { λ r. ⌜ r < 2039 ⌝ }
-{
-    (id % 2039) as usize
-}
-
-fn place_of(hint: u16) -> usize {
-    hint as usize
-}
-
-// Whether an entry behind place i with its id is found by a few steps along the places that share the id's slot. The two columns are
-// hints and may hold anything: each place is tested, and an answer of false says nothing.
-pub fn hinted(ids: &[u64], heads: &[u16], nexts: &[u16], count: usize, i: usize) -> bool
-    requires { ⌜ (i < count) × (count ≤ length (now ids)) × (count ≤ length (now nexts)) × (length (now heads) ≡ 2039) ⌝ }
-    ensures { λ r. ⌜ (r ≡ true → Again (now (ids .entry)) count i) ⌝ }
-{
-    let at = slot(ids[i]);
-    let mut k = place_of(heads[at]);
-    let mut steps: usize = 0;
-    while steps < 8 {
-        if k <= i {
-            return false;
-        }
-        if count <= k {
-            return false;
-        }
-        if ids[k] == ids[i] {
-            return true;
-        }
-        k = place_of(nexts[k]);
-        steps += 1;
-    }
-    false
-}
-
-// Puts place i at the head of its slot, if hints are kept. What they hold then is free.
-pub fn remember(heads: &mut [u16], nexts: &mut [u16], kept: bool, id: u64, i: usize)
-    requires { ⌜ (i < 1024) × (length (now heads) ≡ 2039) × (length (now nexts) ≡ 1024) ⌝ }
-    ensures { λ _. ⌜ (length (now (heads .exit)) ≡ 2039) × (length (now (nexts .exit)) ≡ 1024) ⌝ }
-{
-    if !kept {
-        return;
-    }
-    let at = slot(id);
-    nexts[i] = heads[at];
-    heads[at] = i as u16;
-}
-
 // Whether entry i is settled.
 pub fn is_settled(
     ids: &[u64],
@@ -118,7 +68,7 @@ pub fn is_settled(
     if marks[i] != 0 {
         return true;
     }
-    if hinted(ids, heads, nexts, count, i) {
+    if super::hints::hinted(ids, heads, nexts, count, i) {
         return true;
     }
     if agrees(ids, codes, keys, places, stored, i) {
@@ -161,7 +111,7 @@ pub fn all_settled(
         ) {
             return false;
         }
-        remember(heads, nexts, kept, ids[i], i);
+        super::hints::remember(heads, nexts, kept, ids[i], i);
     }
     true
 }

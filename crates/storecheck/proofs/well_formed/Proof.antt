@@ -20,7 +20,7 @@ entries-fit-requires : tie.Need-entries-fit-requires
 entries-fit-requires c κs = let z = c .before .before .before .before .before .before .before .before .before .before .before .pre in (c .before .before .if1 .left, z .offsets, z .codes, z .lengths, c .if3 .left)
 
 returns-4 : tie.Need-returns-4
-returns-4 c = let a = c .before .before .before .before .before .before .before .before .before .before .before .before .before .args in entries-fail _ _ (c .before .entries-fit .ensures (a .epochs .now) (a .ids .now)) (not-true _ (c .if4 .taken))
+returns-4 c = let a = c .before .before .before .before .before .before .before .before .before .before .before .before .before .args in entries-fail (lent (columns (a .epochs .now) (a .offsets .now) (a .ids .now) (a .codes .now) (a .lengths .now) (a .floats .now)) (a .keys .now) (a .places .now) (a .count) (a .stored)) _ (c .before .entries-fit .ensures (a .epochs .now) (a .ids .now)) (not-true _ (c .if4 .taken))
 
 table-played-requires : tie.Need-table-played-requires
 table-played-requires c κs =
@@ -40,7 +40,7 @@ table-played-requires c κs =
 returns-5 : tie.Need-returns-5
 returns-5 c =
     let a = c .before .before .before .before .before .before .before .before .before .before .before .before .before .before .args in
-    table-decides _ (c .before .before .before .before .before .if1 .left) (c .before .before .before .before .if2 .left) (c .before .before .before .if3 .left) _ (c .before .before .entries-fit .ensures (a .epochs .now) (a .ids .now))
+    table-decides (lent (columns (a .epochs .now) (a .offsets .now) (a .ids .now) (a .codes .now) (a .lengths .now) (a .floats .now)) (a .keys .now) (a .places .now) (a .count) (a .stored)) (c .before .before .before .before .before .if1 .left) (c .before .before .before .before .if2 .left) (c .before .before .before .if3 .left) _ (c .before .before .entries-fit .ensures (a .epochs .now) (a .ids .now))
     (not-false _ (c .before .if4 .left)) _ (c .table-played .ensures)
 
 pub well-formed-spec : {M : Type 1} → statement M

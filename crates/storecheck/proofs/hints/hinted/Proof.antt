@@ -1,9 +1,9 @@
--- `storecheck::settled::hinted` meets its contract. Assumes nothing.
+-- `storecheck::hints::hinted` meets its contract. Assumes nothing.
 use borrow.Author.Needs.{needs}
 use Prim.Native.Nat.{_-_, _≤_}
 use Rattle.storecheck.proofs.Walking.{no-hint}
-use Rattle.storecheck.proofs.settled.hinted.Statement.{statement}
-use Rattle.storecheck.proofs.settled.hinted.Tie as tie
+use Rattle.storecheck.proofs.hints.hinted.Statement.{statement}
+use Rattle.storecheck.proofs.hints.hinted.Tie as tie
 
 abbrev Inv-loop : tie.InvT-loop
 Inv-loop ids heads nexts count i at k₀ steps₀ k steps = steps ≤ 8
