@@ -1,1 +1,2 @@
 pub mod OfBackup
+pub mod OfBegun
