@@ -3,13 +3,16 @@ use mathlib.Core.Path.{_≡_, refl, sym, ap, _∙_}
 use mathlib.Core.Bool.{Bool, true, false, cond}
 use mathlib.Core.List.{List, [], _∷_}
 use Prim.Native.Nat.{ℕ, zero, suc, _+_, _-_, _≤_, _<_}
+use native.Mathlib.Numerals.{add-one}
 use native.Mathlib.Omega.{arith}
 use lib.ListN.{length, take, drop, getD, length-take, length-drop}
+use lib.Seq.{take-suc, take-all}
 use lib.Dec.{eqb, leb, ltb}
 use borrow.Author.Tests.{le-leb, lt-leb, leb-true, eq-eqb, ne-eqb}
 use Rattle.model.specs.Lists.{_and_, _or_, every, rising}
 use Rattle.model.specs.Keys.{Name, Key, nameBelow, sameName, keyBelow}
 use Rattle.model.specs.Map.WellFormed.{shardFits}
+use Rattle.model.proofs.Map.Orders.{name-not-below, name-same}
 use Rattle.state.specs.declared.ShardRow.{ShardRow}
 use Rattle.state.proofs.OfNames.{other-length, same-on, same-stop, same-end, below-yes, below-not, below-on, below-past, below-end}
 use Rattle.mapcheck.specs.Rows.{follows, belowOr, shardOk, inSyncFits}
@@ -125,3 +128,18 @@ module _ (a b : Name) (i : ℕ) (level : Bool) where
 pub key-or : (a b : Key) → keyBelow a b ≡ belowOr (a .collection) (b .collection) (ltb (a .shard) (b .shard))
 unfolding keyBelow belowOr
 key-or a b = refl
+
+-- ---- bytes that agree
+
+pub agree-on : (xs ys : List ℕ) (i : ℕ) → i < length xs → i < length ys → take i xs ≡ take i ys → getD xs i 0 ≡ getD ys i 0 → take (i + 1) xs ≡ take (i + 1) ys
+agree-on xs ys i h k e q = rw (add-one, take-suc xs i 0 h, take-suc ys i 0 k, e, q)
+
+-- whole arrays, so any part of them
+pub agree-end : (xs ys : List ℕ) (i n m : ℕ) → length xs ≤ i → length ys ≤ i → take i xs ≡ take i ys → n ≡ m → take n xs ≡ take m ys
+agree-end xs ys i n m h k e q =
+    ap (take n) (sym (take-all i xs h) ∙ e ∙ take-all i ys k) ∙ ap (λ (j : ℕ). take j ys) q
+
+-- of equal names the numbers decide
+pub same-or : (a b : Name) (level : Bool) → a ≡ b → belowOr a b level ≡ level
+unfolding belowOr _or_ _and_
+same-or a b level e = rw (e, name-not-below b, name-same b)
