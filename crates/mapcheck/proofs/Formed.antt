@@ -1,20 +1,18 @@
 -- What a lent map that is not refused with 24 gives its caller: the counts beside its arrays, and the map that they are read as. Assumes
 -- nothing.
-use mathlib.Core.Path.{_≡_, refl, sym, ap, _∙_}
-use mathlib.Core.Bool.{Bool, true, false}
+use mathlib.Core.Path.{_≡_, ap, _∙_}
+use mathlib.Core.Bool.{Bool, true}
 use mathlib.Core.List.{List}
 use Prim.Native.Nat.{ℕ, _≤_}
 use lib.ListN.{take}
 use lib.Dec.{leb}
 use borrow.Author.Tests.{leb-true}
 use Rattle.model.specs.Lists.{_and_, every}
-use Rattle.model.specs.Map.Create.{collectionBelow, shardBelow}
-use Rattle.model.specs.Map.Apply.{nodeBelow, sessionBelow}
-use Rattle.model.specs.Map.WellFormed.{nodeFits, collectionFits, shardFits, sessionFits, tableFits, wellFormedMap}
+use Rattle.model.specs.Map.WellFormed.{wellFormedMap}
 use Rattle.model.proofs.Lists.{and-left, and-right}
 use Rattle.model.proofs.Map.Rows.{every-to}
-use Rattle.state.specs.View.{viewMap, viewNodes, viewCollections, viewShards, viewSessions}
-use Rattle.state.specs.Counted.{rowCounted, ShardsCounted, TablesCounted}
+use Rattle.state.specs.View.{viewMap}
+use Rattle.state.specs.Counted.{rowCounted, TablesCounted}
 use Rattle.state.specs.declared.ShardMap.{ShardMap}
 use Rattle.mapcheck.specs.Rows.{nameCounted, shardCounted}
 use Rattle.mapcheck.specs.Lent.{tableCounted, nodesCounted, collectionsCounted, shardsCounted, sessionsCounted, counted, wellFormedLent, nodesFit, collectionsFit, shardsFit, sessionsFit}

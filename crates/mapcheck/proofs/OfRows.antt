@@ -1,15 +1,15 @@
 -- Laws of one row: what its tests come to. Assumes nothing.
 use mathlib.Core.Path.{_≡_, refl, sym, ap, _∙_}
 use mathlib.Core.Bool.{Bool, true, false, cond}
-use mathlib.Core.List.{List, [], _∷_}
-use Prim.Native.Nat.{ℕ, zero, suc, _+_, _-_, _≤_, _<_}
+use mathlib.Core.List.{List}
+use Prim.Native.Nat.{ℕ, suc, _+_, _-_, _≤_, _<_}
 use native.Mathlib.Numerals.{add-one}
 use native.Mathlib.Omega.{arith}
 use lib.ListN.{length, take, drop, getD, length-take, length-drop}
 use lib.Seq.{take-suc, take-all}
 use lib.Dec.{eqb, leb, ltb}
 use borrow.Author.Tests.{le-leb, lt-leb, leb-true, eq-eqb, ne-eqb}
-use Rattle.model.specs.Lists.{_and_, _or_, every, rising}
+use Rattle.model.specs.Lists.{_and_, _or_}
 use Rattle.model.specs.Keys.{Name, Key, nameBelow, sameName, keyBelow}
 use Rattle.model.specs.Map.WellFormed.{shardFits}
 use Rattle.model.proofs.Map.Orders.{name-not-below, name-same}

@@ -1,7 +1,7 @@
 -- Paper 01, 'Who is turned down', 24, of one row: the counts beside its arrays are within them, and the row that it is read as is well
 -- formed. Definitions only.
 use Prim.Native.Nat.{ℕ}
-use mathlib.Core.Bool.{Bool, true, false}
+use mathlib.Core.Bool.{Bool, true}
 use lib.Dec.{eqb, leb}
 use Rattle.model.specs.Lists.{_and_, _or_, every, rising}
 use Rattle.model.specs.Limits.{maxName, maxAddress}

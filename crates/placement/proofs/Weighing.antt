@@ -1,18 +1,18 @@
 -- Laws of counting replicas: shard by shard, and how many there can be. Assumes nothing.
 use mathlib.Core.Path.{_≡_, refl, sym, ap, _∙_}
 use mathlib.Core.Bool.{Bool, true, false, cond, not}
-use mathlib.Core.List.{List, [], _∷_, _++_, map}
+use mathlib.Core.List.{List, [], _∷_, map}
 use mathlib.Core.Option.{Option, none, some}
 use Prim.Native.Nat.{ℕ, zero, suc, _+_, _≤_, _<_}
 use native.Mathlib.Numerals.{add-one}
 use native.Mathlib.Omega.{arith}
-use lib.ListN.{length, take, drop, getD, set, length-take, drop-of-length-le}
+use lib.ListN.{length, take, drop, getD, length-take, drop-of-length-le}
 use lib.Seq.{drop-cons, getD-take, length-take-le}
 use lib.Dec.{leb}
 use borrow.Author.Tests.{le-leb, leb-true}
 use Rattle.model.specs.Lists.{_and_, every, filter, collect}
 use Rattle.model.specs.Map.Tables.{NodeInfo, ShardInfo}
-use Rattle.model.specs.Map.Change.{isOn, holds}
+use Rattle.model.specs.Map.Change.{isOn}
 use Rattle.model.specs.Map.Apply.{update}
 use Rattle.model.specs.Map.Place.{Load, onNode, replicasOf, isLoad, isListed, raised, Round, chosenOf, chooseNode, chooseNodes, lightest}
 use Rattle.model.specs.declared.Replica.{Replica}
