@@ -1,7 +1,6 @@
 // One replica of one shard (paper 01, 'The log', 'Nearest objects'; shard.rs), over lent columns and lent floats.
 
 pub mod align;
-mod check;
 mod log;
 pub mod replica;
 mod table;
