@@ -1,0 +1,67 @@
+// Program `applymap` of paper 01: starts from an empty map and applies the 01 requests that follow one another on
+// standard input, each taken by its own length, until one does not decode or the input ends. Of each it prints the
+// index, the word, the reason and the map's version. An input of any length is read as it goes: what is left of the
+// bytes at hand moves to the front of the buffer, and more is read behind it.
+ghost use Prim.Native.Nat.{_≤_};
+ghost use lib.ListN.{length};
+use drain::drain;
+use input::refill;
+use requests::start::empty_map;
+use state::ShardMap;
+
+mod answer;
+mod drain;
+mod input;
+mod lines;
+mod step;
+
+// The word of a line.
+pub enum Word {
+    Applied,
+    Rejected,
+    Refused,
+}
+
+// What a line says of an answer.
+pub struct Said {
+    pub word: Word,
+    pub reason: u64,
+}
+
+// The map after the requests that stood in the bytes at hand, and the place after the last of them.
+pub struct Drained {
+    pub map: ShardMap,
+    pub at: usize,
+}
+
+// No request is longer: a Create with 16 lists of 8 nodes (proved in crate requests, proofs/Streams.antt). Where as many
+// bytes are left and none was found, the next one does not decode.
+const LONGEST: usize = 1113;
+
+// Nothing says that an input ends, so the turns are counted down, from a number that no run uses up.
+fn run(buf: &mut [u8]) {
+    let mut map = empty_map();
+    let mut n: usize = 0;
+    let mut turns = u64::MAX;
+    while 0 < turns {
+        let done = drain(map, &buf[..n]);
+        let at = done.at;
+        let rest = n - at;
+        if LONGEST <= rest {
+            return;
+        }
+        let more = refill(buf, at, n);
+        if more <= rest {
+            return;
+        }
+        let next = done.map;
+        map = next;
+        n = more;
+        turns -= 1;
+    }
+}
+
+fn main() {
+    let mut buf = [0u8; 8192];
+    run(&mut buf);
+}
