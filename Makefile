@@ -16,6 +16,7 @@ export ENGINE_ROOTS ?= target/bin/roots
 export ENGINE_ORDER ?= target/bin/orders
 export ENGINE_SHARDOF ?= target/bin/shards
 export ENGINE_APPLYMAP ?= target/bin/applymap
+export ENGINE_STREAMS ?= target/bin/streams
 export ENGINE_SEARCH ?= target/bin/searches
 export ENGINE_HISTORY ?= target/bin/histories
 

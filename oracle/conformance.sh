@@ -9,7 +9,7 @@ cd "$root" || exit 1
 printed=target/conformance.out
 mkdir -p target
 failed=0
-for program in applymap decode history order replay roots search shardof; do
+for program in applymap decode history order replay roots search shardof streams; do
     variable=ENGINE_$(echo "$program" | tr '[:lower:]' '[:upper:]')
     eval "command=\${$variable:-target/host/$program}"
     if ! command -v "${command%% *}" >/dev/null; then

@@ -6,8 +6,12 @@ use wire::Message;
 
 use crate::map::{Answer, Map};
 
-pub fn run(mut input: &[u8]) -> String {
-    let mut map = Map::default();
+pub fn run(input: &[u8]) -> String {
+    lines(&mut Map::default(), input)
+}
+
+/// The lines of the requests that a stream begins with, applied to a map.
+pub fn lines(map: &mut Map, mut input: &[u8]) -> String {
     let mut out = String::new();
     while let Some((Message::Request(request), length)) = wire::read_first(input) {
         input = &input[length..];

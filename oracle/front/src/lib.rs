@@ -14,6 +14,7 @@ pub mod replay;
 pub mod search;
 pub mod shardof;
 pub mod show;
+pub mod streams;
 
 /// Times and acknowledged offsets go up to here.
 pub const TIME: u64 = 1 << 62;

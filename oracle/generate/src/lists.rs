@@ -16,6 +16,7 @@ pub struct List {
 /// Every stored list.
 pub fn all() -> Vec<List> {
     let mut all = applymap();
+    all.push(streams(&all));
     all.extend(search());
     all.extend(history());
     all.extend(decode());
@@ -107,6 +108,13 @@ fn applymap() -> Vec<List> {
         all.push(list("applymap", name, input, run));
     }
     all
+}
+
+/// The lists of `applymap` one after another, with the map that each leads to.
+fn streams(lists: &[List]) -> List {
+    let record = |list: &List| front::streams::record(&list.input);
+    let input: Vec<u8> = lists.iter().flat_map(record).collect();
+    list("streams", "all", input, front::streams::run)
 }
 
 fn search() -> Vec<List> {

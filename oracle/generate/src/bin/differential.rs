@@ -23,7 +23,7 @@ struct Program {
     describe: fn(&[u8]) -> String,
 }
 
-const PROGRAMS: [Program; 8] = [
+const PROGRAMS: [Program; 9] = [
     Program {
         name: "replay",
         variable: "ENGINE_REPLAY",
@@ -39,6 +39,14 @@ const PROGRAMS: [Program; 8] = [
         oracle: front::applymap::run,
         fresh: fresh_applymap,
         describe: describe_message,
+    },
+    Program {
+        name: "streams",
+        variable: "ENGINE_STREAMS",
+        default: "target/host/streams",
+        oracle: front::streams::run,
+        fresh: |rng| vec![front::streams::record(&fresh_applymap(rng).concat())],
+        describe: |_| String::new(),
     },
     Program {
         name: "search",

@@ -8,8 +8,8 @@ use std::fs;
 use std::path::{Path, PathBuf};
 use std::process::{Command, ExitCode, Stdio};
 
-const PROGRAMS: [&str; 8] = [
-    "applymap", "decode", "history", "order", "replay", "roots", "search", "shardof",
+const PROGRAMS: [&str; 9] = [
+    "applymap", "decode", "history", "order", "replay", "roots", "search", "shardof", "streams",
 ];
 
 struct Edit {
