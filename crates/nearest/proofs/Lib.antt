@@ -3,6 +3,7 @@ pub mod Placing
 pub mod Filling
 pub mod Settled
 pub mod Chosen
+pub mod Rearranged
 pub mod Searching
 pub mod Writing
 pub mod Asked

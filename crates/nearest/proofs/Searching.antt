@@ -33,6 +33,7 @@ use Rattle.shard.proofs.Columns.{look-zero, look-past, look-at, op-set, op-dele
 use Rattle.shard.proofs.Facts.{Facts, keys-fit, places-fit, rows-rising}
 use Rattle.shard.proofs.Firsts.{firsts-length, firsts-at}
 use Rattle.shard.proofs.Rows.{rows-length, rows-at, no-row}
+use Rattle.nearest.specs.declared.column.Kind.{Kind}
 use Rattle.nearest.specs.Column.{settled, Ready, neighborAt, keyAt, Selectable, kindOf, rough, Walkable}
 use Rattle.nearest.proofs.Settled.{rough-settled, rough-ready}
 
@@ -206,7 +207,7 @@ module _ (s : Store) (f : Facts s) (z : Sized s) (m : Metric) (q : List Float) (
         (subst (λ (x : Neighbor). T (not (nearer (neighbor m q (vec j)) x))) (sym (at-neighbor i hi))
         (not-nearer m q (vec i) (vec j) asked (bounded i) (bounded j) keys (omega (arith, keys-rise i j h k))))
 
-    pub selectable : Selectable (kindOf m) (s .keys) xs (s .stored)
+    selectable : Selectable (kindOf m) (s .keys) xs (s .stored)
     selectable = record {
       ids-long = keys-fit s f z;
       xs-long = long;
@@ -232,6 +233,14 @@ module _ (s : Store) (f : Facts s) (z : Sized s) (m : Metric) (q : List Float) (
         (λ i h. let hi : i < s .stored = subst (λ (x : ℕ). i < x) n h in
         firsts-at (neighborAt (kindOf m) (s .keys) xs) (s .stored) i nil hi ∙ at-neighbor i hi ∙ sym (vector-at i hi))
 
-    pub hits-are : (k : ℕ) → take k (ordered (firsts (neighborAt (kindOf m) (s .keys) xs) (s .stored))) ≡ hits m q (vectorsOf (storeLog s) (storeRows s)) k
+    hits-are : (k : ℕ) → take k (ordered (firsts (neighborAt (kindOf m) (s .keys) xs) (s .stored))) ≡ hits m q (vectorsOf (storeLog s) (storeRows s)) k
     unfolding hits vectorsOf
     hits-are k = ap (λ (l : List Neighbor). take k (ordered l)) all-is
+
+    -- .. whatever the kind of the column is called
+    module _ (kind : Kind) (isKind : kind ≡ kindOf m) where
+      pub column-selectable : Selectable kind (s .keys) xs (s .stored)
+      column-selectable = subst (λ (k : Kind). Selectable k (s .keys) xs (s .stored)) (sym isKind) selectable
+
+      pub column-hits : (k : ℕ) → take k (ordered (firsts (neighborAt kind (s .keys) xs) (s .stored))) ≡ hits m q (vectorsOf (storeLog s) (storeRows s)) k
+      column-hits k = ap (λ (z : Kind). take k (ordered (firsts (neighborAt z (s .keys) xs) (s .stored)))) isKind ∙ hits-are k

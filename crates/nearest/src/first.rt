@@ -37,6 +37,7 @@ pub fn nearest(
         (rowsOf (now (keys .entry)) (now (places .entry)) stored)) k) ⌝ }
 {
     let qnorm = ieee::sums::norm(query);
+    let kind = super::column::kind_of(metric);
     let mut xs = [0.0f32; 1024];
     super::column::fill(
         codes,
@@ -50,5 +51,8 @@ pub fn nearest(
         qnorm,
         &mut xs,
     );
-    super::select::select(keys, &xs, stored, super::column::kind_of(metric), k)
+    if k <= 128 {
+        return super::select::select(keys, &xs, stored, kind, k);
+    }
+    super::select::select_many(keys, &mut xs, stored, kind, k)
 }

@@ -2,6 +2,7 @@
 // query, over one replica's lent store.
 
 pub mod answer;
+pub mod arrange;
 pub mod column;
 pub mod first;
 pub mod query;
