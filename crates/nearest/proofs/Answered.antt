@@ -10,18 +10,17 @@ use lib.Ieee.{Float}
 use borrow.Author.Tests.{ltb-true, ltb-false, lt-ltb, le-ltb}
 use lib.ListN.{length, take, drop, length-map}
 use lib.Seq.{take-all, length-take-le}
-use Rattle.model.specs.Refusals.{numberOf, outsideDomain, malformed, noRoom}
+use Rattle.model.specs.Refusals.{outsideDomain, malformed, noRoom}
 use Rattle.model.specs.Nearest.Search.{Vector, neighbor, ordered, hits}
 use Rattle.model.specs.Node.WellFormed.{wellFormedVector}
 use Rattle.model.specs.Node.Client.{SearchAnswer, found, searchRefused}
 use Rattle.model.specs.declared.Metric.{Metric}
 use Rattle.model.specs.declared.Neighbor.{Neighbor}
 use Rattle.model.proofs.Nearest.Search.{ordered-length}
-use Rattle.shard.specs.Table.{rowsOf, vectorOf, vectorsOf}
+use Rattle.shard.specs.Table.{vectorOf, vectorsOf}
 use Rattle.shard.specs.Store.{Store, storeLog, storeRows, wellFormedStore, Sized}
-use Rattle.shard.proofs.Facts.{Facts, facts, keys-fit, places-fit}
+use Rattle.shard.proofs.Facts.{facts, keys-fit, places-fit}
 use Rattle.shard.proofs.Rows.{rows-length}
-use Rattle.nearest.specs.declared.answer.Found.{Found}
 use Rattle.nearest.specs.declared.answer.Found.the-variants.{Hits, Refused}
 use Rattle.nearest.specs.Search.{idOf, distanceOf, searchStore, Searched}
 

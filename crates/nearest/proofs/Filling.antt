@@ -1,6 +1,6 @@
 -- A column filled from its start, and the vectors that rows name. Assumes nothing.
-use Prim.Native.Nat.{ℕ, zero, suc, _+_, _-_, _*_, _≤_, _<_}
-use mathlib.Core.Path.{_≡_, refl, sym, ap, _∙_, subst}
+use Prim.Native.Nat.{ℕ, _+_, _-_, _*_, _≤_, _<_}
+use mathlib.Core.Path.{_≡_, sym, ap, _∙_, subst}
 use mathlib.Core.Bool.{true, false}
 use mathlib.Core.List.{List, []}
 use mathlib.Core.Logic.{⊎-elim}
@@ -11,12 +11,12 @@ use lib.Ieee.{Float}
 use lib.ListN.{length, take, drop, getD, set, length-set}
 use lib.Seq.{getD-set-same, getD-set-other}
 use Rattle.model.specs.declared.Metric.{Metric}
-use Rattle.model.specs.Log.{lookup, components}
+use Rattle.model.specs.Log.{lookup}
 use Rattle.model.specs.Nearest.Distance.{Bounded}
-use Rattle.shard.specs.View.{columns, logOf, stretch, opOf}
+use Rattle.shard.specs.View.{columns, logOf, stretch}
 use Rattle.shard.proofs.Columns.{look-at, op-set}
 use Rattle.ieee.specs.Lanes.{stored}
-use Rattle.nearest.specs.Column.{rough, named, Whole, Walkable, Filled}
+use Rattle.nearest.specs.Column.{rough, Whole, Walkable}
 
 pub never {ℓ} : {A : Type ℓ} → false ≡ true → A
 never e = absurd (subst T (sym e) tt)

@@ -15,19 +15,18 @@ use Rattle.model.specs.declared.Metric.{Metric}
 use Rattle.model.specs.declared.Metric.the-variants.{Euclidean, Angular}
 use Rattle.model.specs.declared.Neighbor.{Neighbor}
 use Rattle.model.specs.Nearest.Order.{key, inDomain}
-use Rattle.model.specs.Nearest.Root.{rootable}
 use Rattle.model.specs.Nearest.Distance.{Bounded, allInDomain, norm, squares, distance}
 use Rattle.model.specs.Nearest.Search.{Vector, neighbor, nearer, ordered, hits}
 use Rattle.model.specs.Node.WellFormed.{component, wellFormedVector, wellFormedOp, wellFormedEntry}
-use Rattle.model.specs.Log.{Op, upsert, delete, Entry, Log, entryAt, components, componentsAt, lookup}
+use Rattle.model.specs.Log.{Op, upsert, delete, Log, entryAt, components, componentsAt, lookup}
 use Rattle.model.proofs.Lists.{and-left, and-right}
 use Rattle.model.proofs.Map.Rows.{every-tail}
 use Rattle.model.proofs.Nearest.Exact.{sqrt-nearest, plus-float}
 use Rattle.model.proofs.Nearest.NoNan.{squares-rootable}
-use Rattle.model.proofs.Nearest.Rank.{keyOf, nearer-says}
+use Rattle.model.proofs.Nearest.Rank.{nearer-says}
 use Rattle.model.proofs.Nearest.Skip.{squares-fits, passed-over}
 use Rattle.shard.specs.View.{columns, logOf, firsts, stretch, opOf}
-use Rattle.shard.specs.Table.{Row, rowBelow, rowsOf, vectorOf, vectorsOf}
+use Rattle.shard.specs.Table.{Row, rowBelow, vectorOf, vectorsOf}
 use Rattle.shard.specs.Store.{Store, storeLog, storeRows, Sized}
 use Rattle.shard.proofs.Columns.{look-zero, look-past, look-at, op-set, op-deleted}
 use Rattle.shard.proofs.Facts.{Facts, keys-fit, places-fit, rows-rising}

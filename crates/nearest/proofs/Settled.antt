@@ -1,6 +1,6 @@
 -- The elements of a column, by what it holds: their distances, and that they can be compared. Assumes nothing.
 use mathlib.Core.Path.{_≡_, refl, sym, ap, _∙_, subst}
-use mathlib.Core.Bool.{Bool, true, false, not}
+use mathlib.Core.Bool.{not}
 use mathlib.Core.List.{List}
 use lib.Dec.{T}
 use lib.Ieee.{Float, nan, inf, fin, isNan, binary32}

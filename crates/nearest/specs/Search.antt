@@ -2,12 +2,12 @@
 -- Definitions only.
 use Prim.Native.Nat.{ℕ}
 use mathlib.Core.Path.{_≡_}
-use mathlib.Core.Bool.{Bool, not, cond}
+use mathlib.Core.Bool.{not, cond}
 use mathlib.Core.List.{List, _++_, map}
 use lib.Dec.{ltb}
 use lib.Ieee.{Float}
 use lib.ListN.{length, drop}
-use Rattle.model.specs.Refusals.{Refusal, numberOf, outsideDomain, malformed, noRoom}
+use Rattle.model.specs.Refusals.{numberOf, outsideDomain, malformed, noRoom}
 use Rattle.model.specs.Nearest.Search.{hits}
 use Rattle.model.specs.Node.WellFormed.{wellFormedVector}
 use Rattle.model.specs.Node.Client.{SearchAnswer, found, searchRefused}

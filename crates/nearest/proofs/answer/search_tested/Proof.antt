@@ -1,7 +1,7 @@
 -- `nearest::answer::search_tested` meets its contract. Assumes nothing.
 use borrow.Author.Needs.{needs}
 use native.Mathlib.Omega.{arith}
-use mathlib.Core.Path.{_≡_, _∙_, ap, subst}
+use mathlib.Core.Path.{_∙_, ap, subst}
 use Prim.Native.Nat.{ℕ, _≤_, _<_}
 use Rattle.model.specs.Nearest.Search.{hits}
 use Rattle.shard.specs.Table.{vectorsOf}

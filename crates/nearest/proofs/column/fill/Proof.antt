@@ -2,10 +2,10 @@
 use borrow.Author.Needs.{needs}
 use native.Mathlib.Omega.{arith}
 use mathlib.Core.Path.{_≡_, refl, sym, _∙_, ap, subst}
-use mathlib.Core.List.{List, []}
-use Prim.Native.Nat.{ℕ, _+_, _-_, _≤_, _<_}
-use lib.Ieee.{Float, nan}
-use lib.ListN.{length, getD, length-set}
+use mathlib.Core.List.{[]}
+use Prim.Native.Nat.{ℕ, _-_, _≤_}
+use lib.Ieee.{nan}
+use lib.ListN.{length, length-set}
 use Rattle.model.specs.Nearest.Distance.{Bounded}
 use Rattle.nearest.specs.Column.{rough, named, Filled}
 use Rattle.nearest.proofs.Filling.{one-more, four-more, whole-fits, lane-within, lane-bounded, lane-rough}

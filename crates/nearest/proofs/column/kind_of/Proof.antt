@@ -1,6 +1,5 @@
 -- `nearest::column::kind_of` meets its contract. Assumes nothing.
 use borrow.Author.Needs.{needs}
-use mathlib.Core.Path.{_≡_}
 use Rattle.nearest.proofs.Settled.{kind-made, kind-euclid, kind-angular}
 use Rattle.nearest.proofs.column.kind_of.Statement.{statement}
 use Rattle.nearest.proofs.column.kind_of.Tie as tie
