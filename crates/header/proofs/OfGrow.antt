@@ -156,7 +156,7 @@ slot-free l h = stops 8 0 l (slot-left l h)
 -- ---- slots that fit, with one more
 
 module _ {A : Type 0} (p : A → Bool) where
-  none-tail : (y : A) (ys : List A) → any p (y ∷ ys) ≡ false → (p y ≡ false) × (any p ys ≡ false)
+  pub none-tail : (y : A) (ys : List A) → any p (y ∷ ys) ≡ false → (p y ≡ false) × (any p ys ≡ false)
   unfolding any
   none-tail y ys = go (p y) refl
     where
@@ -164,7 +164,7 @@ module _ {A : Type 0} (p : A → Bool) where
       go true q e = not-both true refl e
       go false q e = (q, e)
 
-  none-cons : (y : A) (ys : List A) → p y ≡ false → any p ys ≡ false → any p (y ∷ ys) ≡ false
+  pub none-cons : (y : A) (ys : List A) → p y ≡ false → any p ys ≡ false → any p (y ∷ ys) ≡ false
   unfolding any
   none-cons y ys a b = rw a b
 
@@ -256,3 +256,17 @@ module _ (n : Node) (le : n .count ≤ length (n .held)) (key : ShardKey) (h : H
             (put-in n le new at is s out e none
             ∙ ap (λ (v : held.Held). put heldBelow v (map (viewKept s) (used n))) (view-bare s new last refl));
       }
+
+-- ---- the same where a shard has no slot yet
+
+pub slot-left-open : (l : List Kept) (t : ℕ) → 8 ≤ t → any (onSlot t) l ≡ true → length l ≤ 8 → lowestFree l < 8
+slot-left-open l t out e h =
+    by-case (ltb (lowestFree l) 8) (λ q. ltb-true (lowestFree l) 8 q)
+    (λ q.
+    let z = ltb-false (lowestFree l) 8 q in
+    let less = one-less t l e in
+    let c = crowd 8 (without t l) (λ u a. others-stay t u l (λ w. omega arith) (passed 8 0 l u (omega arith) (omega arith))) in
+    absurd (omega arith))
+
+pub slot-free-open : (l : List Kept) → lowestFree l < 8 → any (onSlot (lowestFree l)) l ≡ false
+slot-free-open l h = stops 8 0 l h

@@ -1,0 +1,5 @@
+pub mod OfRows
+pub mod OfSlots
+pub mod OfListed
+pub mod OfWalk
+pub mod OfShown

@@ -1,0 +1,127 @@
+-- What a map's rows promise: what is read of one row, and of a shard that lists this node. Definitions only.
+use Prim.Native.Nat.{ℕ, _<_}
+use mathlib.Core.Bool.{Bool, true, false, not}
+use mathlib.Core.Path.{_≡_}
+use mathlib.Core.List.{List, [], map}
+use mathlib.Core.Option.{Option, none, some}
+use lib.Dec.{eqb}
+use lib.ListN.{take, getD}
+use Rattle.model.specs.Lists.{_and_}
+use Rattle.model.specs.Limits.{maxHeld}
+use Rattle.model.specs.Keys as keys
+use Rattle.model.specs.Log.{Log, Vectors}
+use Rattle.model.specs.Map.Tables as tables
+use Rattle.model.specs.Node.Held as held
+use Rattle.model.specs.Node.Shards.{shardOf, begun}
+use Rattle.model.specs.Node.Shown as show
+use Rattle.model.specs.declared.Metric.{Metric}
+use Rattle.node.specs.declared.Held.{Held}
+use Rattle.node.specs.declared.Info.{Info}
+use Rattle.node.specs.declared.Nodes.{Nodes}
+use Rattle.node.specs.View.{viewHeld}
+use Rattle.node.specs.Shows.{viewInfo, recordEpoch, workerAt}
+use Rattle.state.specs.declared.ShardKey.{ShardKey}
+use Rattle.state.specs.declared.ShardRow.{ShardRow}
+use Rattle.state.specs.declared.NodeRow.{NodeRow}
+use Rattle.state.specs.declared.CollectionRow.{CollectionRow}
+use Rattle.state.specs.declared.Collections.{Collections}
+use Rattle.state.specs.Names.{viewName, viewKey}
+use Rattle.state.specs.View.{viewShard, viewCollections}
+use Rattle.header.specs.declared.Kept.{Kept}
+use Rattle.header.specs.declared.Node.{Node}
+use Rattle.header.specs.View.{Stores, viewKept, viewNode, noKept}
+use Rattle.shown.specs.declared.Start.{Start}
+use Rattle.shown.specs.declared.Taken.{Taken}
+use Rattle.shown.specs.declared.RowShown.{RowShown}
+
+-- ---- one row
+
+-- the collections before that of a name
+abbrev pub otherName : keys.Name → CollectionRow → Bool
+otherName k c = not (keys.sameName (viewName (c .name)) k)
+
+-- node.rs, on_map: this incarnation of this node, marked dead
+abbrev pub deadAt : (id incarnation : ℕ) → NodeRow → Bool
+deadAt id i r = eqb (r .node .0) id and eqb (r .incarnation) i and not (r .alive)
+
+-- what a row says of its shard
+pub record Reads (row : ShardRow) (r : Info) : Type 0 where
+  pub holders : r .holders ≡ row .replicas .count
+  pub synced : r .synced ≡ row .insync .count
+  pub same : viewInfo (viewKey (row .key)) r ≡ viewShard row
+
+-- the replicas that the map lists, and nothing else changed
+pub record Refreshes (h : Held) (row : ShardRow) (r : Held) : Type 0 where
+  pub last : r .last ≡ h .last
+  pub count : r .count ≡ h .count
+  pub same : (k : keys.Key) (l : Log) (v : Vectors) → viewHeld k l v r ≡ show.refreshed (viewShard row) (viewHeld k l v h)
+
+-- a shard that the map begins
+pub record Firsts (metric : Metric) (r : Held) : Type 0 where
+  pub last : r .last ≡ 0
+  pub count : r .count ≡ 0
+  pub same : (k : keys.Key) → viewHeld k [] [] r ≡ begun k metric
+
+-- ---- one shard after the map
+
+abbrev pub viewStart : Start → List show.Worker
+viewStart x = map (workerAt (viewKey (x .key)) (x .epoch .0) (x .metric)) (take (x .peers .count) (x .peers .items))
+
+abbrev pub viewTaken : Stores → Taken → show.Showing
+viewTaken s x = record { held = viewKept s (x .kept); start = viewStart (x .start) }
+
+abbrev pub keptOf : Taken → Kept
+keptOf x = x .kept
+
+abbrev pub startOf : Taken → Start
+startOf x = x .start
+
+abbrev pub takenOf : ShardKey → (slot stored : ℕ) → Held → Metric → Nodes → Taken
+takenOf key slot stored h metric peers = record {
+  kept = record { key = key; slot = slot; stored = stored; held = h };
+  start = record { key = key; epoch = record { 0 = recordEpoch (h .role) }; metric = metric; peers = peers };
+}
+
+-- the shard h in that slot, under the row's key
+abbrev pub asKept : ShardRow → (slot stored : ℕ) → Held → Kept
+asKept row slot stored h = record { key = row .key; slot = slot; stored = stored; held = h }
+
+-- a shard whose collection the map has
+pub record TakesAs (me slot stored : ℕ) (h : Held) (row : ShardRow) (metric : Metric) (r : RowShown) : Type 0 where
+  pub takes : r .skip ≡ false
+  pub full : (s : Stores) → r .full ≡ show.overworked (show.showHeld me (viewShard row) metric (viewKept s (asKept row slot stored h)))
+  pub same : (s : Stores) → r .full ≡ false → viewTaken s (r .taken) ≡ show.showHeld me (viewShard row) metric (viewKept s (asKept row slot stored h))
+  pub inSlot : r .taken .kept .slot ≡ slot
+  pub rows : r .taken .kept .stored ≡ stored
+  pub last : r .taken .kept .held .last ≡ h .last
+  pub key : r .taken .kept .key ≡ row .key
+
+-- the slot of a shard held after: that of the same shard before, or none yet for one that begins
+pub data SlotFrom (n : Node) (y : Kept) : Type 0 where
+  opens : y .slot ≡ maxHeld → y .held .last ≡ 0 → y .stored ≡ 0 → SlotFrom n y
+  stays : (q : ℕ) → q < n .count → getD (n .held) q noKept .slot ≡ y .slot → viewKey (getD (n .held) q noKept .key) ≡ viewKey (y .key) → SlotFrom n y
+
+-- the definition's answer for a shard that lists this node
+abbrev pub listedShown : Stores → Node → tables.Map → ShardRow → Option show.Showing
+listedShown s n m row =
+    show.showListed (n .id .0) (viewShard row) (show.collectionMetric m (viewName (row .key .collection))) (shardOf (viewNode s n) (viewKey (row .key)))
+
+-- a 33rd worker for that shard
+pub record Overworks (o : Option show.Showing) : Type 0 where
+  pub showing : show.Showing
+  pub is : o ≡ some showing
+  pub over : show.overworked showing ≡ true
+
+-- the shard is taken
+pub record TakesRow (s : Stores) (o : Option show.Showing) (x : Taken) : Type 0 where
+  pub is : o ≡ some (viewTaken s x)
+  pub fits : show.overworked (viewTaken s x) ≡ false
+
+-- of any map with these collections
+pub record ShowsListed (n : Node) (t : Collections) (row : ShardRow) (r : RowShown) : Type 0 where
+  pub skips : r .skip ≡ true → (s : Stores) (m : tables.Map) → m .collections ≡ viewCollections t → listedShown s n m row ≡ none
+  pub over : r .skip ≡ false → r .full ≡ true → (s : Stores) (m : tables.Map) → m .collections ≡ viewCollections t → Overworks (listedShown s n m row)
+  pub takes : r .skip ≡ false → r .full ≡ false → (s : Stores) (m : tables.Map) → m .collections ≡ viewCollections t
+      → TakesRow s (listedShown s n m row) (r .taken)
+  pub slot : r .skip ≡ false → SlotFrom n (r .taken .kept)
+  pub key : r .skip ≡ false → viewKey (r .taken .kept .key) ≡ viewKey (row .key)

@@ -1,0 +1,61 @@
+-- What a map shown promises: the answer, with paper 01's number, the workers to start, and the node after are those of the definition,
+-- whatever its stores hold; and every shard held after has a slot of its own. Definitions only.
+use Prim.Native.Nat.{ℕ}
+use mathlib.Core.Bool.{Bool, true}
+use mathlib.Core.Path.{_≡_}
+use mathlib.Core.List.{List, [], _∷_, _++_}
+use lib.ListN.{take}
+use Rattle.model.specs.Refusals.{numberOf}
+use Rattle.model.specs.Node.Held as held
+use Rattle.model.specs.Node.Shards.{Result}
+use Rattle.model.specs.Node.Shown as show
+use Rattle.model.specs.Node.Calls as calls
+use Rattle.state.specs.declared.ShardMap.{ShardMap}
+use Rattle.state.specs.View.{viewMap}
+use Rattle.header.specs.declared.Node.{Node}
+use Rattle.header.specs.View.{Stores, viewNode, used}
+use Rattle.header.specs.Formed.{lentNode, formedNode, slotsFit}
+use Rattle.shown.specs.declared.Start.{Start}
+use Rattle.shown.specs.declared.ShownAnswer.{ShownAnswer}
+use Rattle.shown.specs.declared.ShownAnswer.the-variants as A
+use Rattle.shown.specs.declared.NodeShown.{NodeShown}
+use Rattle.shown.specs.Rows.{viewStart}
+
+-- the workers to start, by shard and then by node
+unfoldable pub viewStarts : List Start → List show.Worker
+viewStarts [] = []
+viewStarts (x ∷ xs) = viewStart x ++ viewStarts xs
+
+abbrev pub shownWord : show.ShownAnswer → ShownAnswer
+shownWord (show.shown l) = A.Shown
+shownWord (show.shownRefused r) = A.Refused (numberOf r)
+
+abbrev pub workersOf : show.ShownAnswer → List show.Worker
+workersOf (show.shown l) = l
+workersOf (show.shownRefused r) = []
+
+-- what the caller of a shown map gets
+pub record ShownTold : Type 0 where
+  pub answer : ShownAnswer
+  pub workers : List show.Worker
+  pub node : held.Node
+
+abbrev pub shownTold : Result show.ShownAnswer held.Node → ShownTold
+shownTold r = record { answer = shownWord (r .answer); workers = workersOf (r .answer); node = r .after }
+
+abbrev pub viewShown : Stores → NodeShown → ShownTold
+viewShown s r = record { answer = r .answer; workers = viewStarts (take (r .count) (r .starts)); node = viewNode s (r .node) }
+
+-- internal: nothing is held, and no map known
+pub record StartsOver (n : Node) (fresh : ℕ) (r : Node) : Type 0 where
+  pub same : (s : Stores) → viewNode s r ≡ held.emptyNode (n .id .0) fresh
+  pub slots : slotsFit (used r) ≡ true
+
+-- internal: past the first checks
+pub record TakesMap (n : Node) (m : ShardMap) (r : NodeShown) : Type 0 where
+  pub same : (s : Stores) → viewShown s r ≡ shownTold (show.takeMap (viewNode s n) (viewMap m))
+  pub slots : slotsFit (used (r .node)) ≡ true
+
+pub record ShowsMap (n : Node) (m : ShardMap) (fresh : ℕ) (r : NodeShown) : Type 0 where
+  pub same : (s : Stores) → viewShown s r ≡ shownTold (calls.shownWith (lentNode s n) (viewNode s n) fresh (viewMap m))
+  pub slots : formedNode n ≡ true → slotsFit (used (r .node)) ≡ true

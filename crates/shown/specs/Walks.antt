@@ -1,0 +1,30 @@
+-- What a walk over a map's shards promises: the shards held after are the definition's, in its order. Definitions only.
+use Prim.Native.Nat.{ℕ, _≤_, _<_}
+use mathlib.Core.Bool.{Bool, true, false}
+use mathlib.Core.Path.{_≡_}
+use mathlib.Core.List.{List, map}
+use lib.ListN.{length, take, getD}
+use Rattle.model.specs.Lists.{any, rising}
+use Rattle.model.specs.Map.Create.{shardBelow}
+use Rattle.model.specs.Node.Shown as show
+use Rattle.state.specs.declared.ShardMap.{ShardMap}
+use Rattle.state.specs.View.{viewMap}
+use Rattle.header.specs.declared.Node.{Node}
+use Rattle.header.specs.View.{Stores, viewNode}
+use Rattle.header.specs.Formed.{keptBelow}
+use Rattle.shown.specs.declared.Taken.{Taken}
+use Rattle.shown.specs.declared.Walked.{Walked}
+use Rattle.shown.specs.Rows.{viewTaken, keptOf, SlotFrom}
+
+-- the definition's shards held after
+abbrev pub shardsAfter : Stores → Node → ShardMap → List show.Showing
+shardsAfter s n m = show.showings (viewNode s n) (viewMap m) (viewMap m .shards)
+
+pub record Walks (n : Node) (m : ShardMap) (r : Walked) : Type 0 where
+  pub few : r .count ≤ 8
+  pub long : r .count ≤ length (r .items)
+  pub over : r .full ≡ true → (s : Stores) → show.tooMany (shardsAfter s n m) ≡ true
+  pub same : r .full ≡ false → (s : Stores) → shardsAfter s n m ≡ map (viewTaken s) (take (r .count) (r .items))
+  pub fits : r .full ≡ false → (s : Stores) → any show.overworked (map (viewTaken s) (take (r .count) (r .items))) ≡ false
+  pub rise : r .full ≡ false → rising shardBelow (viewMap m .shards) ≡ true → rising keptBelow (map keptOf (take (r .count) (r .items))) ≡ true
+  pub slots : (i : ℕ) (d : Taken) → i < r .count → SlotFrom n (getD (r .items) i d .kept)

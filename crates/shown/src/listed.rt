@@ -1,0 +1,155 @@
+// Internal: a shard of the map that lists this node (node.rs, on_map).
+ghost use mathlib.Core.Path.{_≡_};
+ghost use mathlib.Core.Bool.{true};
+ghost use Prim.Native.Nat.{_≤_};
+ghost use Rattle.header.specs.Formed.{formedNode};
+ghost use Rattle.state.specs.Counted.{Sized};
+ghost use Rattle.shown.specs.Rows.{takenOf, Refreshes, Firsts, TakesAs, ShowsListed};
+use crate::RowShown;
+use crate::Start;
+use crate::Taken;
+use crate::rows::collection_of;
+use crate::rows::epoch_of;
+use crate::rows::info_of;
+use header::Kept;
+use header::Node;
+use header::shards::place_of;
+use model::DataNodeId;
+use model::Epoch;
+use model::Metric;
+use model::Replica;
+use node::Held;
+use node::Nodes;
+use node::on_map::show_held;
+use serve::header::begun;
+use state::Collections;
+use state::ShardKey;
+use state::ShardRow;
+
+// The replicas that the map lists.
+pub fn refreshed(h: Held, row: ShardRow) -> Held
+    ensures { λ r. ⌜ Refreshes h row r ⌝ }
+{
+    let list = row.replicas;
+    let replicas = list.items;
+    let mut out = h;
+    out.replicas = replicas;
+    out.holders = list.count;
+    out
+}
+
+// A shard with the peers to start workers for.
+pub fn taken_as(
+    key: ShardKey,
+    slot: usize,
+    stored: usize,
+    h: Held,
+    metric: Metric,
+    peers: Nodes,
+) -> Taken
+    ensures { λ r. ⌜ r ≡ takenOf key slot stored h metric peers ⌝ }
+{
+    let role = h.role;
+    let epoch = epoch_of(role);
+    let kept = Kept {
+        key: key,
+        slot: slot,
+        stored: stored,
+        held: h,
+    };
+    let start = Start {
+        key: key,
+        epoch: epoch,
+        metric: metric,
+        peers: peers,
+    };
+    Taken {
+        kept: kept,
+        start: start,
+    }
+}
+
+// A shard that the map begins.
+pub fn first_held(metric: Metric) -> Held
+    ensures { λ r. ⌜ Firsts metric r ⌝ }
+{
+    let mut h = begun(metric);
+    h.count = 0;
+    h
+}
+
+// A shard whose collection the map has.
+pub fn show_as(
+    me: DataNodeId,
+    slot: usize,
+    stored: usize,
+    h: Held,
+    row: ShardRow,
+    metric: Metric,
+) -> RowShown
+    requires { ⌜ (h .count ≤ 32) × (Sized row) ⌝ }
+    ensures { λ r. ⌜ TakesAs (me .0) slot stored h row metric r ⌝ }
+{
+    let info = info_of(row);
+    let a = show_held(h, me, info);
+    let shard = a.held;
+    let peers = a.start;
+    let mut g = shard;
+    g.last = h.last;
+    let key = row.key;
+    let taken = taken_as(key, slot, stored, g, metric, peers);
+    RowShown {
+        skip: false,
+        full: a.full,
+        taken: taken,
+    }
+}
+
+// Where the map lacks the collection, none begins and a held one only learns its replicas.
+pub fn show_listed(n: Node, t: Collections, row: ShardRow) -> RowShown
+    requires { ⌜ (formedNode n ≡ true) × (t .count ≤ 16) × (Sized row) ⌝ }
+    ensures { λ r. ⌜ ShowsListed n t row r ⌝ }
+{
+    let held = n.held;
+    let count = n.count;
+    let key = row.key;
+    let name = key.collection;
+    let me = n.id;
+    let at = place_of(held, count, key);
+    let c = collection_of(t, name);
+    let items = t.items;
+    if t.count <= c {
+        let none = Nodes {
+            items: [DataNodeId(0); 32],
+            count: 0,
+        };
+        if count <= at {
+            let h = first_held(Metric::Euclidean);
+            let free = taken_as(key, 8, 0, h, Metric::Euclidean, none);
+            return RowShown {
+                skip: true,
+                full: false,
+                taken: free,
+            };
+        }
+        let x = held[at];
+        let old = x.held;
+        let g = refreshed(old, row);
+        let taken = taken_as(key, x.slot, x.stored, g, Metric::Euclidean, none);
+        return RowShown {
+            skip: false,
+            full: false,
+            taken: taken,
+        };
+    }
+    let col = items[c];
+    let spec = col.spec;
+    let metric = spec.metric;
+    if count <= at {
+        let h = first_held(metric);
+        return show_as(me, 8, 0, h, row, metric);
+    }
+    let x = held[at];
+    let old = x.held;
+    show_as(me, x.slot, x.stored, old, row, metric)
+}

@@ -1,0 +1,113 @@
+// Map shown (paper 01, 'The node', 'Who is turned down'; node.rs, on_map).
+ghost use mathlib.Core.Path.{_≡_};
+ghost use mathlib.Core.Bool.{true};
+ghost use Rattle.model.specs.Map.WellFormed.{wellFormedMap};
+ghost use Rattle.header.specs.Formed.{formedNode};
+ghost use Rattle.state.specs.View.{viewMap};
+ghost use Rattle.state.specs.Counted.{TablesCounted};
+ghost use Rattle.shown.specs.Shows.{StartsOver, TakesMap, ShowsMap};
+use crate::NodeShown;
+use crate::ShownAnswer;
+use crate::Start;
+use crate::rows::dead_in;
+use crate::slots::assigned;
+use crate::slots::kepts_of;
+use crate::slots::starts_of;
+use crate::walk::no_taken;
+use crate::walk::walk;
+use header::Node;
+use header::formed::formed_node;
+use serve::Expiry;
+use state::ShardMap;
+
+// Internal: the node under a fresh incarnation, with nothing held and no map known.
+pub fn started_over(n: Node, fresh: u64) -> Node
+    ensures { λ r. ⌜ StartsOver n fresh r ⌝ }
+{
+    let id = n.id;
+    let held = n.held;
+    Node {
+        id: id,
+        incarnation: fresh,
+        expiry: Expiry::Never,
+        version: 0,
+        held: held,
+        count: 0,
+    }
+}
+
+// Internal: a map that is taken: 23 if a ninth shard would be held after removals, or a 33rd worker; nothing is changed then.
+pub fn take_map(n: Node, m: ShardMap) -> NodeShown
+    requires { ⌜ (formedNode n ≡ true) × (TablesCounted m) × (wellFormedMap (viewMap m) ≡ true) ⌝ }
+    ensures { λ r. ⌜ TakesMap n m r ⌝ }
+{
+    let w = walk(n, m);
+    let items = w.items;
+    let count = w.count;
+    let starts = starts_of(items, count);
+    if w.full {
+        return NodeShown {
+            answer: ShownAnswer::Refused(23),
+            starts: starts,
+            count: 0,
+            node: n,
+        };
+    }
+    let plain = kepts_of(items, count);
+    let held = assigned(plain, count);
+    let id = n.id;
+    let expiry = n.expiry;
+    let out = Node {
+        id: id,
+        incarnation: n.incarnation,
+        expiry: expiry,
+        version: m.version,
+        held: held,
+        count: count,
+    };
+    NodeShown {
+        answer: ShownAnswer::Shown,
+        starts: starts,
+        count: count,
+        node: out,
+    }
+}
+
+// Paper 01, 'Map shown', of a map that has been tested: 24 a malformed header; an older version is ignored; a node listed dead starts over;
+// 23; otherwise the node after, and the workers to start.
+pub fn show_map(n: Node, m: ShardMap, fresh: u64) -> NodeShown
+    requires { ⌜ (TablesCounted m) × (wellFormedMap (viewMap m) ≡ true) ⌝ }
+    ensures { λ r. ⌜ ShowsMap n m fresh r ⌝ }
+{
+    let x = no_taken();
+    let fill = x.start;
+    let none = [fill; 8];
+    if formed_node(n) {
+        if m.version < n.version {
+            return NodeShown {
+                answer: ShownAnswer::Shown,
+                starts: none,
+                count: 0,
+                node: n,
+            };
+        }
+        let nodes = m.nodes;
+        let me = n.id;
+        if dead_in(nodes, me.0, n.incarnation) {
+            let out = started_over(n, fresh);
+            return NodeShown {
+                answer: ShownAnswer::Shown,
+                starts: none,
+                count: 0,
+                node: out,
+            };
+        }
+        return take_map(n, m);
+    }
+    NodeShown {
+        answer: ShownAnswer::Refused(24),
+        starts: none,
+        count: 0,
+        node: n,
+    }
+}

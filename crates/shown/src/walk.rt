@@ -1,0 +1,92 @@
+// Internal: every shard that a map leaves the node with (node.rs, on_map).
+ghost use mathlib.Core.Path.{_≡_};
+ghost use mathlib.Core.Bool.{true};
+ghost use Rattle.header.specs.Formed.{formedNode};
+ghost use Rattle.state.specs.Counted.{TablesCounted};
+ghost use Rattle.shown.specs.Walks.{Walks};
+use crate::Start;
+use crate::Taken;
+use crate::Walked;
+use crate::listed::show_listed;
+use crate::listed::taken_as;
+use crate::rows::is_listed;
+use header::Kept;
+use header::Node;
+use model::DataNodeId;
+use model::Metric;
+use node::Nodes;
+use serve::header::begun;
+use state::Name;
+use state::ShardKey;
+use state::ShardMap;
+
+// A row that nothing is read of.
+pub fn no_taken() -> Taken {
+    let name = Name {
+        bytes: [0; 32],
+        len: 0,
+    };
+    let key = ShardKey {
+        collection: name,
+        shard: 0,
+    };
+    let h = begun(Metric::Euclidean);
+    let none = Nodes {
+        items: [DataNodeId(0); 32],
+        count: 0,
+    };
+    taken_as(key, 8, 0, h, Metric::Euclidean, none)
+}
+
+// One that does not list this node under its incarnation is not held (any more). 23 if a ninth shard would be held, or a 33rd worker.
+pub fn walk(n: Node, m: ShardMap) -> Walked
+    requires { ⌜ (formedNode n ≡ true) × (TablesCounted m) ⌝ }
+    ensures { λ r. ⌜ Walks n m r ⌝ }
+{
+    let shards = m.shards;
+    let rows = shards.items;
+    let total = shards.count;
+    let t = m.collections;
+    let me = n.id;
+    let own = n.incarnation;
+    let free = no_taken();
+    let mut out = [free; 8];
+    let mut count: usize = 0;
+    let mut i: usize = 0;
+    while i < total {
+        let row = rows[i];
+        let list = row.replicas;
+        if is_listed(list, me.0, own) {
+            let a = show_listed(n, t, row);
+            if a.skip {
+                i += 1;
+            } else {
+                if a.full {
+                    return Walked {
+                        full: true,
+                        items: out,
+                        count: count,
+                    };
+                }
+                if 8 <= count {
+                    return Walked {
+                        full: true,
+                        items: out,
+                        count: count,
+                    };
+                }
+                let x = a.taken;
+                out[count] = x;
+                count += 1;
+                i += 1;
+            }
+        } else {
+            i += 1;
+        }
+    }
+    Walked {
+        full: false,
+        items: out,
+        count: count,
+    }
+}
