@@ -1,0 +1,3 @@
+pub mod OfFits
+pub mod OfCalls
+pub mod OfAppends
