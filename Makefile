@@ -1,11 +1,12 @@
 # The catalogue engine. `make run` shows it at work, `make test` is the gate; both need the Rattle toolchain alone.
 .PHONY: run test
 
-run: ## the engine's reader on messages that the repository ships, one line a message
-	@rt check messages > target-run.log 2>&1 || { cat target-run.log; rm -f target-run.log; exit 1; }
-	@rm -f target-run.log
-	@echo "messages of crates/messages/stdin, as the engine reads them (code, then each field; the first twenty):"
-	@target/bin/messages < crates/messages/stdin | head -n 20
+run: ## requests that the repository ships, applied to a shard map: what each comes to
+	@mkdir -p target
+	@rt check applymap > target/run.log 2>&1 || { cat target/run.log; exit 1; }
+	@echo "requests of crates/applymap/stdin, applied to an empty shard map: index, what became of it, the reason (0 if"
+	@echo "applied), the map's version. The first twenty:"
+	@target/bin/applymap < crates/applymap/stdin | head -n 20
 
 test: ## every proof, every edit that must fail, every program against its stored answers
 	bash .ci/run
@@ -22,3 +23,6 @@ export ENGINE_HISTORY ?= target/bin/histories
 
 # The Rust this engine is a port of, as an oracle: needs cargo and the source files, never the gate.
 -include oracle/oracle.mk
+
+# The engine beside the Rust, timed.
+-include bench/rust/bench.mk

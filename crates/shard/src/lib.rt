@@ -1,4 +1,5 @@
-// One replica of one shard (paper 01, 'The log', 'Nearest objects'; shard.rs), over lent columns and lent floats.
+// One replica of one shard (paper 01, 'The log'; shard.rs): its log and the table of its vectors, over lent columns and
+// lent floats.
 
 pub mod align;
 mod log;
