@@ -1,0 +1,12 @@
+# The engine beside the unchanged Rust: one program links both and times them in turns on the same input. From the
+# repository's root: make bench [PARTS="search apply"]. It needs cargo and the published files (make oracle); no part of the gate.
+BENCH_RUST := target/bench/rust
+BENCH_LIBS := benchshard benchmap
+
+.PHONY: bench
+bench: oracle-ready ## the engine and the unchanged Rust on the same input, as ratios from one run
+	@for lib in $(BENCH_LIBS); do rt staticlib $$lib >$(BENCH_RUST).log 2>&1 || { cat $(BENCH_RUST).log; exit 1; }; done
+	@cd bench/rust && CARGO_TARGET_DIR=$(CURDIR)/$(BENCH_RUST) RUSTFLAGS="-C target-cpu=x86-64 -C link-arg=-Wl,--allow-multiple-definition \
+	    -L $(CURDIR)/target/staticlib $(BENCH_LIBS:%=-l static=%)" cargo build --release --offline --quiet
+	@echo "$$(nproc) cores, $$(sed -n 's/^model name.*: //p' /proc/cpuinfo | head -n 1)"
+	@$(BENCH_RUST)/release/beside $(PARTS)

@@ -1,0 +1,20 @@
+//! The engine beside the unchanged Rust, on the same input in one run. Ratios are the Rust's time over
+//! the engine's: above 1 the engine is faster. `beside` runs all; `beside search` and so on, one part.
+
+mod map;
+mod measure;
+mod shard;
+
+fn main() {
+    let parts: [(&str, fn()); 3] = [
+        ("search", shard::search),
+        ("append", shard::append),
+        ("apply", map::apply),
+    ];
+    let asked: Vec<String> = std::env::args().skip(1).collect();
+    for (name, run) in parts {
+        if asked.is_empty() || asked.iter().any(|a| a == name) {
+            run();
+        }
+    }
+}
