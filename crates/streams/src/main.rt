@@ -1,0 +1,92 @@
+// Replays the oracle's stored streams of requests: records of a length u32 and as many bytes on standard input. Each
+// starts from an empty map; its requests are applied as program `applymap` applies them (paper 01), with a line for each,
+// and then the whole map is printed, which tells more than its version. stdin is oracle/stored/streams/all.in, stdout
+// all.out: what the oracle printed of the Rust's map. The map is crate settle's; this program shows it.
+ghost use Rattle.state.specs.Counted.{TablesCounted};
+use drain::drain;
+use nodes::collections;
+use nodes::nodes;
+use requests::start::empty_map;
+use sessions::sessions;
+use shards::shards;
+use state::ShardMap;
+use words::number;
+
+mod drain;
+mod lines;
+mod nodes;
+mod sessions;
+mod shards;
+mod words;
+
+// Each table by rising key, as it stands in the map.
+fn show(m: ShardMap)
+    requires { ⌜ TablesCounted m ⌝ }
+{
+    io::write_all(1, b"version");
+    number(m.version);
+    io::write_all(1, b"\n");
+    let a = m.nodes;
+    nodes(a);
+    let b = m.collections;
+    collections(b);
+    let c = m.shards;
+    shards(c);
+    let d = m.sessions;
+    sessions(d);
+    io::write_all(1, b"end\n");
+}
+
+fn stream(s: &[u8]) {
+    let m = drain(empty_map(), s);
+    show(m);
+}
+
+// The length that the first four bytes spell.
+fn length_of(head: &[u8]) -> usize {
+    if head.len() < 4 {
+        return 0;
+    }
+    num::get4(head, 0) as usize
+}
+
+// The bytes of a record, as many as the buffer takes, and what comes of them. False where the input ends before.
+fn body(buf: &mut [u8]) -> bool {
+    let n = io::read_full(0, buf);
+    if n < buf.len() {
+        return false;
+    }
+    stream(&buf[..n]);
+    true
+}
+
+// The same of the first bytes of a larger buffer.
+fn first(buf: &mut [u8], len: usize) -> bool {
+    if buf.len() < len {
+        return false;
+    }
+    body(&mut buf[..len])
+}
+
+// One record. False where no whole one is left, which ends the program.
+fn one() -> bool {
+    let mut head = [0u8; 4];
+    let n = io::read_full(0, &mut head);
+    if n < 4 {
+        return false;
+    }
+    let len = length_of(&head);
+    let mut buf = io::large_buffer();
+    first(&mut buf, len)
+}
+
+// Nothing says that an input ends, so the records are counted down.
+fn main() {
+    let mut left = 1000000u64;
+    while 0 < left {
+        if !one() {
+            return;
+        }
+        left -= 1;
+    }
+}

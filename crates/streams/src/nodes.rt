@@ -1,0 +1,98 @@
+// The nodes and the collections of a map, a line for each.
+ghost use Prim.Native.Nat.{_≤_};
+use crate::words::byte;
+use crate::words::name;
+use crate::words::number;
+use model::Metric;
+use state::Address;
+use state::CollectionRow;
+use state::Collections;
+use state::NodeRow;
+use state::Nodes;
+
+fn address_bytes(a: Address, n: usize)
+    requires { ⌜ n ≤ 64 ⌝ }
+{
+    let mut i: usize = 0;
+    while i < n {
+        let b = a.bytes[i];
+        byte(b);
+        i += 1;
+    }
+}
+
+// `-` where it is empty. None is longer than 64 bytes in a map that passes the 24 test.
+fn address(a: Address) {
+    let n = a.len;
+    if n == 0 {
+        io::write_all(1, b" -");
+        return;
+    }
+    if 64 < n {
+        return;
+    }
+    io::write_all(1, b" ");
+    address_bytes(a, n);
+}
+
+fn status(alive: bool) {
+    if alive {
+        io::write_all(1, b" alive");
+        return;
+    }
+    io::write_all(1, b" dead");
+}
+
+fn node(row: NodeRow) {
+    io::write_all(1, b"node");
+    number(row.node.0);
+    number(row.incarnation);
+    status(row.alive);
+    let a = row.address;
+    address(a);
+    io::write_all(1, b"\n");
+}
+
+pub fn nodes(t: Nodes)
+    requires { ⌜ t .count ≤ 32 ⌝ }
+{
+    let count = t.count;
+    let mut i: usize = 0;
+    while i < count {
+        let row = t.items[i];
+        node(row);
+        i += 1;
+    }
+}
+
+fn metric(m: Metric) {
+    match m {
+        Metric::Euclidean => number(0),
+        Metric::Angular => number(1),
+    }
+}
+
+fn collection(row: CollectionRow) {
+    io::write_all(1, b"collection");
+    let x = row.name;
+    name(x);
+    let spec = row.spec;
+    number(spec.dimension as u64);
+    let m = spec.metric;
+    metric(m);
+    number(spec.shards as u64);
+    number(spec.replication as u64);
+    io::write_all(1, b"\n");
+}
+
+pub fn collections(t: Collections)
+    requires { ⌜ t .count ≤ 16 ⌝ }
+{
+    let count = t.count;
+    let mut i: usize = 0;
+    while i < count {
+        let row = t.items[i];
+        collection(row);
+        i += 1;
+    }
+}

@@ -1,0 +1,84 @@
+// The sessions of a map, a line for each: what is remembered of a client, with the operands of a rejection.
+ghost use Prim.Native.Nat.{_≤_};
+use crate::lines::reason;
+use crate::words::key;
+use crate::words::name;
+use crate::words::number;
+use model::DataNodeId;
+use model::Epoch;
+use state::Outcome;
+use state::Rejection;
+use state::SessionRow;
+use state::Sessions;
+use state::ShardKey;
+
+fn collection_of(k: ShardKey) {
+    let x = k.collection;
+    name(x);
+}
+
+fn at_incarnation(node: DataNodeId, incarnation: u64) {
+    number(node.0);
+    number(incarnation);
+}
+
+fn epochs(k: ShardKey, own: Epoch, given: Epoch) {
+    key(k);
+    number(own.0);
+    number(given.0);
+}
+
+fn operands(r: Rejection, k: ShardKey) {
+    match r {
+        Rejection::Older => {}
+        Rejection::Exists => collection_of(k),
+        Rejection::ZeroSpec => {}
+        Rejection::PlacementMismatch => {}
+        Rejection::NotAlive(node) => number(node.0),
+        Rejection::NoCollection => collection_of(k),
+        Rejection::KnownIncarnation(node, known) => at_incarnation(node, known),
+        Rejection::NotAtIncarnation(node, given) => at_incarnation(node, given),
+        Rejection::NoShard => key(k),
+        Rejection::OtherEpoch(own, given) => epochs(k, own, given),
+        Rejection::AlreadyHeld(node) => number(node.0),
+        Rejection::RemovesPrimary => {}
+        Rejection::NotHeld(node) => number(node.0),
+        Rejection::NotInSync(node) => number(node.0),
+        Rejection::ShrinksPrimary => {}
+        Rejection::AlreadyInSync(node) => number(node.0),
+    }
+}
+
+fn outcome(o: Outcome, k: ShardKey) {
+    match o {
+        Outcome::Applied => {
+            io::write_all(1, b" applied");
+        }
+        Outcome::Rejected(r) => {
+            number(reason(r));
+            operands(r, k);
+        }
+    }
+}
+
+fn session(row: SessionRow) {
+    io::write_all(1, b"session");
+    number(row.client);
+    number(row.seq);
+    let o = row.outcome;
+    let k = row.key;
+    outcome(o, k);
+    io::write_all(1, b"\n");
+}
+
+pub fn sessions(t: Sessions)
+    requires { ⌜ t .count ≤ 64 ⌝ }
+{
+    let count = t.count;
+    let mut i: usize = 0;
+    while i < count {
+        let row = t.items[i];
+        session(row);
+        i += 1;
+    }
+}
