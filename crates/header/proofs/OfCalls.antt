@@ -1,6 +1,6 @@
 -- Laws of the calls on a header, one for each way out. Assumes nothing.
 use mathlib.Core.Path.{_≡_, refl, sym, ap, _∙_}
-use mathlib.Core.Bool.{Bool, true, false, cond, not}
+use mathlib.Core.Bool.{Bool, true, false, not}
 use mathlib.Core.List.{List, []}
 use mathlib.Core.Option.{some}
 use Prim.Native.Nat.{ℕ, _<_, _≤_}
@@ -9,10 +9,9 @@ use lib.ListN.{length, take, getD}
 use Rattle.model.specs.Lists.{_or_, lead}
 use Rattle.model.specs.Limits.{maxTime}
 use Rattle.model.specs.Keys.{Key}
-use Rattle.model.specs.Refusals.{unknownShard, undecodable, malformed}
+use Rattle.model.specs.Refusals.{unknownShard, malformed}
 use Rattle.model.specs.Node.Held as held
-use Rattle.model.specs.Node.Shards.{Result, gives}
-use Rattle.model.specs.Node.Lease as leases
+use Rattle.model.specs.Node.Shards.{gives}
 use Rattle.model.specs.Node.Client as client
 use Rattle.model.specs.Node.Ack as ack
 use Rattle.model.specs.Node.Worker as worker
@@ -34,8 +33,8 @@ use Rattle.node.specs.Acks as acks
 use Rattle.serve.specs.declared.Expiry.{Expiry}
 use Rattle.serve.specs.declared.Step.{Step}
 use Rattle.serve.specs.declared.Step.the-variants as D
-use Rattle.serve.specs.View.{viewExpiry, Grants}
-use Rattle.serve.specs.Steps.{Steps, stepWord}
+use Rattle.serve.specs.View.{Grants}
+use Rattle.serve.specs.Steps.{Steps}
 use Rattle.state.specs.Names.{viewKey}
 use Rattle.header.specs.declared.Kept.{Kept}
 use Rattle.header.specs.declared.Node.{Node}
@@ -62,7 +61,7 @@ use Rattle.header.specs.Answers.{
   proposalOf,
   StepsNode,
 }
-use Rattle.header.proofs.OfShards.{seen, shard-none, shard-some, call-absent, call-held}
+use Rattle.header.proofs.OfShards.{shard-none, shard-some, call-absent, call-held}
 
 -- the tests agree on a header that is not malformed, and on one that is
 abbrev Lent : Node → Bool → Type 0

@@ -2,7 +2,7 @@
 -- Assumes nothing.
 use mathlib.Core.Path.{_≡_, refl, sym, ap, _∙_}
 use mathlib.Core.Bool.{Bool, true, false, not}
-use mathlib.Core.List.{List, [], _∷_, map}
+use mathlib.Core.List.{List, map}
 use Prim.Native.Nat.{ℕ, _+_, _<_, _≤_}
 use native.Mathlib.Omega.{arith}
 use lib.Dec.{leb, ltb}
@@ -10,7 +10,6 @@ use lib.ListN.{length, take, drop, getD, length-take, length-map}
 use borrow.Author.Tests.{leb-true, le-leb, lt-leb}
 use Rattle.model.specs.Lists.{_and_, any, every, rising}
 use Rattle.model.specs.Limits.{maxHeld, maxName, maxEntries, maxReplicas, maxWorkers}
-use Rattle.model.specs.Map.WellFormed.{nameFits}
 use Rattle.model.specs.Node.Shards.{heldBelow}
 use Rattle.model.specs.Node.WellFormed.{wellFormedHeld, wellFormedHeader}
 use Rattle.model.proofs.Lists.{and-true, and-left, and-right}
@@ -22,7 +21,7 @@ use Rattle.node.proofs.OfFormed.{formed-few}
 use Rattle.state.proofs.Tables.{every-at}
 use Rattle.header.specs.declared.Kept.{Kept}
 use Rattle.header.specs.declared.Node.{Node}
-use Rattle.header.specs.View.{Stores, viewKept, viewNode, used}
+use Rattle.header.specs.View.{Stores, viewKept, used}
 use Rattle.header.specs.Formed.{countsFit, onSlot, slotsFit, lentNode, keptFits, keptBelow, formedNode}
 use Rattle.header.proofs.OfLists.{agree, map-every, map-rising, every-both}
 

@@ -1,13 +1,12 @@
 -- Laws of a shard that begins: a slot is left for it, which no other shard has, and it is put in as in the definition. Assumes nothing.
 use mathlib.Core.Path.{_≡_, refl, sym, ap, _∙_, subst}
 use mathlib.Core.Bool.{Bool, true, false, cond, not}
-use mathlib.Core.List.{List, [], _∷_, _++_, map}
-use mathlib.Core.Option.{Option, none, some}
+use mathlib.Core.List.{List, [], _∷_, map}
+use mathlib.Core.Option.{none, some}
 use Prim.Native.Nat.{ℕ, zero, suc, _+_, _-_, _<_, _≤_}
 use native.Mathlib.Omega.{arith}
-use native.Mathlib.Numerals.{add-one}
 use lib.Dec.{eqb, ltb}
-use lib.ListN.{length, take, drop, getD}
+use lib.ListN.{length, take, getD}
 use lib.Seq.{length-take-le, getD-take}
 use borrow.Author.Tests.{eqb-true, eqb-false, ne-eqb, lt-ltb, ltb-true, ltb-false, not-true}
 use Rattle.model.specs.Lists.{_and_, any, find, lead, put}
@@ -17,7 +16,7 @@ use Rattle.model.specs.Log.{Log, Vectors}
 use Rattle.model.specs.Node.Held as held
 use Rattle.model.specs.Node.Shards.{heldBelow, ofKey, shardOf, withHeld}
 use Rattle.model.proofs.Lists.{not-both, none-some, and-true, and-left, and-right}
-use Rattle.model.proofs.Map.Orders.{keys, key-same, same-key}
+use Rattle.model.proofs.Map.Orders.{keys, key-same}
 use Rattle.node.specs.declared.Held.{Held}
 use Rattle.node.specs.View.{viewHeld, insertAt}
 use Rattle.state.specs.declared.ShardKey.{ShardKey}

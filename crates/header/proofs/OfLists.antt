@@ -5,7 +5,6 @@ use mathlib.Core.List.{List, [], _∷_, map}
 use Prim.Native.Nat.{ℕ, zero, suc, _+_, _<_, _≤_}
 use lib.ListN.{length, take, drop, getD}
 use Rattle.model.specs.Lists.{_and_, any, every, lead, rising}
-use Rattle.model.proofs.Lists.{not-both}
 use Rattle.model.proofs.Map.Rows.{every-tail, every-cons}
 use Rattle.node.proofs.Loops.{used-next, used-over}
 

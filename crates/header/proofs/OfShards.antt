@@ -2,9 +2,9 @@
 use mathlib.Core.Path.{_≡_, refl, sym, ap, _∙_}
 use mathlib.Core.Bool.{not}
 use mathlib.Core.List.{List, [], _∷_, map}
-use mathlib.Core.Option.{Option, none, some}
+use mathlib.Core.Option.{none, some}
 use Prim.Native.Nat.{ℕ, zero, suc, _<_, _≤_}
-use lib.ListN.{length, take, getD}
+use lib.ListN.{length, getD}
 use Rattle.model.specs.Lists.{lead}
 use Rattle.model.specs.Keys.{Key}
 use Rattle.model.specs.Log.{Log, delete}
@@ -13,7 +13,6 @@ use Rattle.model.specs.Node.Held as held
 use Rattle.model.specs.Node.Shards.{Result, gives, ofKey, shardOf, withHeld, atShard}
 use Rattle.model.proofs.Node.Shards.{at-absent, at-held}
 use Rattle.node.specs.declared.Held.{Held}
-use Rattle.node.specs.View.{viewHeld}
 use Rattle.state.proofs.Tables.{found, missed, changed-row}
 use Rattle.header.specs.declared.Kept.{Kept}
 use Rattle.header.specs.declared.Node.{Node}

@@ -1,11 +1,10 @@
 -- Paper 01, 'Who is turned down', 24: what is malformed of a header as it is lent: the paper's list on what it is read as, a count over
 -- what its array holds, and a slot that is none of the eight or has two shards (DECISIONS). Definitions only.
 use Prim.Native.Nat.{ℕ}
-use mathlib.Core.Bool.{Bool, true, false, not}
+use mathlib.Core.Bool.{Bool, true, not}
 use mathlib.Core.Path.{_≡_}
 use mathlib.Core.List.{List, [], _∷_}
 use lib.Dec.{eqb, leb, ltb}
-use lib.ListN.{take}
 use Rattle.model.specs.Lists.{_and_, any, every, rising}
 use Rattle.model.specs.Limits.{maxHeld, maxName, maxEntries, maxReplicas, maxWorkers}
 use Rattle.model.specs.Keys.{keyBelow}

@@ -1,6 +1,6 @@
 -- Laws of a shard of the map that lists this node, one for each way out. Assumes nothing.
-use mathlib.Core.Path.{_≡_, refl, sym, ap, _∙_, subst}
-use mathlib.Core.Bool.{Bool, true, false, not}
+use mathlib.Core.Path.{_≡_, refl, sym, ap, _∙_}
+use mathlib.Core.Bool.{true, false, not}
 use mathlib.Core.List.{List, [], map}
 use mathlib.Core.Option.{Option, none, some}
 use Prim.Native.Nat.{ℕ, _<_, _≤_}
@@ -10,11 +10,10 @@ use lib.ListN.{length, take, getD, length-take}
 use borrow.Author.Tests.{le-ltb, not-false}
 use Rattle.model.specs.Lists.{lead, find}
 use Rattle.model.specs.Limits.{maxHeld, maxWorkers}
-use Rattle.model.specs.Keys.{Name, Key, sameKey}
-use Rattle.model.specs.Log.{Log, Vectors}
+use Rattle.model.specs.Keys.{Name, Key}
 use Rattle.model.specs.Map.Tables as tables
 use Rattle.model.specs.Node.Held as held
-use Rattle.model.specs.Node.Shards.{shardOf, withPeers, begun}
+use Rattle.model.specs.Node.Shards.{shardOf, withPeers}
 use Rattle.model.specs.Node.Shown as show
 use Rattle.model.proofs.Lists.{not-both}
 use Rattle.model.proofs.Map.Orders.{same-key}
@@ -41,7 +40,7 @@ use Rattle.header.proofs.OfShards.{shard-none, shard-some}
 use Rattle.header.proofs.OfGrow.{stop-at, view-bare}
 use Rattle.shown.specs.declared.Taken.{Taken}
 use Rattle.shown.specs.declared.RowShown.{RowShown}
-use Rattle.shown.specs.Rows.{otherName, Refreshes, Firsts, viewTaken, takenOf, asKept, TakesAs, SlotFrom, opens, stays, listedShown, Overworks, TakesRow, ShowsListed}
+use Rattle.shown.specs.Rows.{otherName, Refreshes, Firsts, viewTaken, takenOf, asKept, TakesAs, SlotFrom, opens, stays, listedShown, ShowsListed}
 
 abbrev pub noPeers : Held → Held
 noPeers h = record {

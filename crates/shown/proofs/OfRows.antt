@@ -1,11 +1,10 @@
 -- Laws of what a map's rows say, and of a shard that lists this node. Assumes nothing.
-use mathlib.Core.Path.{_≡_, refl, sym, ap, _∙_, subst}
-use mathlib.Core.Bool.{Bool, true, false}
-use mathlib.Core.List.{List, [], map}
-use mathlib.Core.Option.{Option, none, some}
-use Prim.Native.Nat.{ℕ, _<_, _≤_}
+use mathlib.Core.Path.{_≡_, refl, ap, _∙_}
+use mathlib.Core.Bool.{false}
+use mathlib.Core.List.{map}
+use mathlib.Core.Option.{Option}
+use Prim.Native.Nat.{ℕ}
 use Rattle.model.specs.Keys.{Key}
-use Rattle.model.specs.Log.{Log, Vectors}
 use Rattle.model.specs.Map.Tables as tables
 use Rattle.model.specs.Node.Shown as show
 use Rattle.model.specs.declared.Metric.{Metric}
@@ -15,13 +14,12 @@ use Rattle.node.specs.declared.Nodes.{Nodes}
 use Rattle.node.specs.declared.Leader.{Leader}
 use Rattle.node.specs.declared.Info.{Info}
 use Rattle.node.specs.declared.Shown.{Shown}
-use Rattle.node.specs.View.{viewHeld}
-use Rattle.node.specs.Shows.{leaderOf, recordEpoch, viewInfo, ShowsHeld}
+use Rattle.node.specs.Shows.{leaderOf, recordEpoch, ShowsHeld}
 use Rattle.state.specs.declared.ShardKey.{ShardKey}
 use Rattle.state.specs.declared.ShardRow.{ShardRow}
 use Rattle.state.specs.Names.{viewKey}
 use Rattle.state.specs.View.{viewPrimary, viewShard}
-use Rattle.header.specs.View.{Stores, viewKept, relogged}
+use Rattle.header.specs.View.{viewKept, relogged}
 use Rattle.shown.specs.declared.Taken.{Taken}
 use Rattle.shown.specs.Rows.{Reads, viewTaken, takenOf, asKept, TakesAs}
 

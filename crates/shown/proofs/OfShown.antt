@@ -7,31 +7,25 @@ use native.Mathlib.Omega.{arith}
 use lib.Dec.{eqb, ltb}
 use lib.ListN.{length, take, getD, length-map, length-take, List·getD-map}
 use lib.Seq.{length-take-le, getD-take}
-use borrow.Author.Tests.{eqb-true, eq-eqb, ne-eqb, lt-ltb, le-ltb, ltb-true, not-true}
+use borrow.Author.Tests.{eq-eqb, ne-eqb, lt-ltb, le-ltb, ltb-true, not-true}
 use Rattle.model.specs.Lists.{_and_, _or_, any, every, rising}
 use Rattle.model.specs.Limits.{maxHeld}
 use Rattle.model.specs.Keys.{Key, keyBelow}
-use Rattle.model.specs.Refusals.{noRoom}
-use Rattle.model.specs.Map.Tables as tables
-use Rattle.model.specs.Map.WellFormed.{wellFormedMap}
 use Rattle.model.specs.Map.Create.{shardBelow}
 use Rattle.model.specs.Node.Held as held
-use Rattle.model.specs.Node.Shards.{gives}
 use Rattle.model.specs.Node.Shown as show
 use Rattle.model.specs.Node.Calls as calls
 use Rattle.model.proofs.Lists.{not-both, and-true, and-left, and-right}
 use Rattle.model.proofs.Map.Orders.{keys}
 use Rattle.model.proofs.Map.Rows.{every-cons}
 use Rattle.state.specs.declared.ShardMap.{ShardMap}
-use Rattle.state.specs.declared.NodeRow.{NodeRow}
 use Rattle.state.specs.Names.{viewKey}
 use Rattle.state.specs.View as view
 use Rattle.header.specs.declared.Kept.{Kept}
 use Rattle.header.specs.declared.Node.{Node}
 use Rattle.header.specs.View.{Stores, viewKept, viewNode, used, noKept}
 use Rattle.header.specs.Formed.{onSlot, slotsFit, lentNode, keptBelow, formedNode}
-use Rattle.header.proofs.OfLists.{by-case}
-use Rattle.header.proofs.OfFormed.{header-apart, header-few}
+use Rattle.header.proofs.OfFormed.{header-apart}
 use Rattle.header.proofs.OfGrow.{none-cons}
 use Rattle.shown.specs.declared.Start.{Start}
 use Rattle.shown.specs.declared.Taken.{Taken}
@@ -41,9 +35,9 @@ use Rattle.shown.specs.declared.ShownAnswer.the-variants as A
 use Rattle.shown.specs.Rows.{deadAt, viewTaken, keptOf, startOf, SlotFrom, opens, stays}
 use Rattle.shown.specs.Slots.{openFits, slotsOpen, Assigns}
 use Rattle.shown.specs.Walks.{shardsAfter, Walks}
-use Rattle.shown.specs.Shows.{viewStarts, viewShown, shownTold, StartsOver, TakesMap, ShowsMap}
+use Rattle.shown.specs.Shows.{viewStarts, StartsOver, TakesMap, ShowsMap}
 use Rattle.shown.proofs.OfSlots.{slotIn, or-left, or-right, some-here, open-cons}
-use Rattle.shown.proofs.OfWalk.{takenKey, rising-keys}
+use Rattle.shown.proofs.OfWalk.{takenKey, rising-keys, rising-tail}
 
 -- ---- slots that fit
 
@@ -81,11 +75,6 @@ below-each k (x ∷ xs) e zero d h = and-left (keyBelow k x) (rising keyBelow (x
 below-each k (x ∷ xs) e (suc i) d h =
     keys .along k x (getD xs i d) (and-left (keyBelow k x) (rising keyBelow (x ∷ xs)) e)
     (below-each x xs (and-right (keyBelow k x) (rising keyBelow (x ∷ xs)) e) i d (omega arith))
-
-rest-rises : (k : Key) (l : List Key) → rising keyBelow (k ∷ l) ≡ true → rising keyBelow l ≡ true
-unfolding rising
-rest-rises k [] e = refl
-rest-rises k (x ∷ xs) e = and-right (keyBelow k x) (rising keyBelow (x ∷ xs)) e
 
 never-below : (k : Key) → keyBelow k k ≡ true → ⊥
 never-below k e = not-both (keyBelow k k) e (keys .apart k k e)
@@ -140,7 +129,7 @@ module _ (n : Node) (le : n .count ≤ length (n .held)) (fit : slotsFit (used n
       (subst (λ (j : Key). keyBelow (takenKey x) j ≡ true)
       (List·getD-map takenKey xs i x ∙ sym (same-slot (x .kept) (getD xs i x .kept) (f 0 x (omega arith)) (f (suc i) x (omega arith)) q z))
       (below-each (takenKey x) (map takenKey xs) e i (takenKey x) (let s = length-map xs takenKey in omega arith))))))
-      (open-from xs (λ i d h. f (suc i) d (omega arith)) (rest-rises (takenKey x) (map takenKey xs) e))
+      (open-from xs (λ i d h. f (suc i) d (omega arith)) (rising-tail (takenKey x) (map takenKey xs) e))
     where
       past : (l : List Taken) (i : ℕ) (d : Kept) (y : Taken) → i < length l → getD (map keptOf l) i d ≡ getD l i y .kept
       past [] i d y h = absurd (omega arith)

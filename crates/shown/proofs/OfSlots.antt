@@ -5,12 +5,11 @@ use mathlib.Core.List.{List, [], _∷_, _++_, map}
 use Prim.Native.Nat.{ℕ, zero, suc, _+_, _<_, _≤_}
 use native.Mathlib.Omega.{arith}
 use lib.Dec.{eqb, leb, ltb}
-use lib.ListN.{length, take, drop, getD, set}
+use lib.ListN.{length, take, getD, set}
 use lib.Seq.{length-take-le, getD-take, take-set-lt}
-use borrow.Author.Tests.{eqb-true, eqb-false, ne-eqb, eq-eqb, lt-ltb, le-ltb, le-leb, lt-leb, ltb-true, leb-false, not-true}
+use borrow.Author.Tests.{eqb-true, eqb-false, ne-eqb, eq-eqb, lt-ltb, le-ltb, lt-leb, ltb-true, leb-false, not-true}
 use Rattle.model.specs.Lists.{_and_, _or_, any, every}
 use Rattle.model.specs.Limits.{maxHeld}
-use Rattle.model.specs.Node.Held as held
 use Rattle.model.proofs.Lists.{not-both, and-true, and-left, and-right}
 use Rattle.model.proofs.Map.Rows.{every-tail, every-cons}
 use Rattle.node.proofs.Loops.{take-next, take-put}

@@ -3,7 +3,7 @@ use mathlib.Core.Path.{_≡_, refl, sym, ap, _∙_, subst}
 use mathlib.Core.Bool.{Bool, true, false, cond}
 use mathlib.Core.List.{List, [], _∷_, _++_, map, append-assoc}
 use mathlib.Core.Option.{Option, none, some}
-use Prim.Native.Nat.{ℕ, zero, suc, _+_, _<_, _≤_}
+use Prim.Native.Nat.{ℕ, _+_, _<_, _≤_}
 use native.Mathlib.Omega.{arith}
 use lib.Dec.{leb, ltb}
 use lib.ListN.{length, take, drop, getD, set, length-map, length-append}
@@ -65,7 +65,7 @@ grown {A} {B} f xs n x m h =
     ∙ append-assoc (map f (take n xs)) (f x ∷ []) m
 
 -- a rising list without one of its elements
-rising-tail : (k : Key) (l : List Key) → rising keyBelow (k ∷ l) ≡ true → rising keyBelow l ≡ true
+pub rising-tail : (k : Key) (l : List Key) → rising keyBelow (k ∷ l) ≡ true → rising keyBelow l ≡ true
 unfolding rising
 rising-tail k [] e = refl
 rising-tail k (b ∷ bs) e = and-right (keyBelow k b) (rising keyBelow (b ∷ bs)) e

@@ -11,7 +11,6 @@ use Rattle.model.specs.Limits.{maxHeld}
 use Rattle.model.specs.Keys as keys
 use Rattle.model.specs.Log.{Log, Vectors}
 use Rattle.model.specs.Map.Tables as tables
-use Rattle.model.specs.Node.Held as held
 use Rattle.model.specs.Node.Shards.{shardOf, begun}
 use Rattle.model.specs.Node.Shown as show
 use Rattle.model.specs.declared.Metric.{Metric}

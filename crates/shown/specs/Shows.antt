@@ -1,7 +1,7 @@
 -- What a map shown promises: the answer, with paper 01's number, the workers to start, and the node after are those of the definition,
 -- whatever its stores hold; and every shard held after has a slot of its own. Definitions only.
 use Prim.Native.Nat.{ℕ}
-use mathlib.Core.Bool.{Bool, true}
+use mathlib.Core.Bool.{true}
 use mathlib.Core.Path.{_≡_}
 use mathlib.Core.List.{List, [], _∷_, _++_}
 use lib.ListN.{take}

@@ -8,7 +8,6 @@ ghost use Rattle.state.specs.Counted.{TablesCounted};
 ghost use Rattle.shown.specs.Shows.{StartsOver, TakesMap, ShowsMap};
 use crate::NodeShown;
 use crate::ShownAnswer;
-use crate::Start;
 use crate::rows::dead_in;
 use crate::slots::assigned;
 use crate::slots::kepts_of;
