@@ -3,3 +3,4 @@ pub mod OfFormed
 pub mod OfShards
 pub mod OfCalls
 pub mod OfGrow
+pub mod OfArrays

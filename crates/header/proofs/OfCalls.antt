@@ -46,6 +46,7 @@ use Rattle.header.specs.declared.StepAnswer.{StepAnswer}
 use Rattle.header.specs.declared.StepAnswer.the-variants as S
 use Rattle.header.specs.View.{Stores, viewKept, viewNode, used, otherKey, noKept, withShard}
 use Rattle.header.specs.Formed.{lentNode}
+use Rattle.header.specs.Arrays.{Trims}
 use Rattle.header.specs.Answers.{
   ReExpires,
   GrantsNode,
@@ -122,18 +123,18 @@ module _ (n : Node) (k : Key) (epoch offset now timeout : ℕ) where
         ∙ ap waitTold (call-absent s n k le at is (client.waitRefused unknownShard) (client.waitHeld now timeout epoch offset) h)
 
     pub wait-done : at < n .count → (r : Waited) → answers.WaitsHeld (getD (n .held) at noKept .held) epoch offset now timeout r
-        → (m : Node) → m ≡ withShard n at (r .held)
+        → (g : Held) → Trims (r .held) g → (m : Node) → m ≡ withShard n at g
         → WaitsIn n k epoch offset now timeout (record { answer = r .answer; shrink = r .shrink; node = m })
     unfolding client.onWait
-    wait-done h r e m put s =
+    wait-done h r e g trims m put s =
         let x = getD (n .held) at noKept in
         let f = client.waitHeld now timeout epoch offset in
         let q = e (viewKey (x .key)) (s .log (x .slot) (x .held .last)) (s .vectors (x .slot) (x .held .last) (x .stored)) (s .long (x .slot) (x .held .last)) in
-        let after = ap (λ (t : answers.WaitTold). t .held) q in
+        let after = trims .seen (viewKey (x .key)) (s .log (x .slot) (x .held .last)) (s .vectors (x .slot) (x .held .last) (x .stored)) ∙ ap (λ (t : answers.WaitTold). t .held) q in
         ap (λ (w : Node). record { answer = r .answer; shrink = take (r .shrink .count) (r .shrink .items); node = viewNode s w }) put
-        ∙ ap (λ (t : answers.WaitTold). record { answer = t .answer; shrink = t .shrink; node = viewNode s (withShard n at (r .held)) }) q
+        ∙ ap (λ (t : answers.WaitTold). record { answer = t .answer; shrink = t .shrink; node = viewNode s (withShard n at g) }) q
         ∙ ap waitTold
-        (call-held s n k le at is (client.waitRefused unknownShard) f h (f (viewKept s x) .answer) (r .held)
+        (call-held s n k le at is (client.waitRefused unknownShard) f h (f (viewKept s x) .answer) g
         (ap (gives (f (viewKept s x) .answer)) after))
 
 -- ---- ack
@@ -158,18 +159,18 @@ module _ (n : Node) (k : Key) (epoch peer : ℕ) (step : Sent) (reply : Reply) w
       ack-absent h s = rw good (ap (told acks.ackWord) (call-absent s n k le at is ack.noted (ack.ackHeld epoch peer (acks.sentOf step) (acks.replyOf reply)) h))
 
       pub ack-done : at < n .count → (r : Acked) → acks.AcksHeld (getD (n .held) at noKept .held) epoch peer step reply r
-          → (m : Node) → m ≡ withShard n at (r .held) → AcksIn n k epoch peer step reply (record { answer = r .answer; node = m })
+          → (g : Held) → Trims (r .held) g → (m : Node) → m ≡ withShard n at g → AcksIn n k epoch peer step reply (record { answer = r .answer; node = m })
       unfolding ack.onAck
-      ack-done h r e m put s =
+      ack-done h r e g trims m put s =
           let x = getD (n .held) at noKept in
           let f = ack.ackHeld epoch peer (acks.sentOf step) (acks.replyOf reply) in
           let q = e (viewKey (x .key)) (s .log (x .slot) (x .held .last)) (s .vectors (x .slot) (x .held .last) (x .stored)) (s .long (x .slot) (x .held .last)) in
-          let after = ap (λ (t : acks.AckTold). t .held) q in
+          let after = trims .seen (viewKey (x .key)) (s .log (x .slot) (x .held .last)) (s .vectors (x .slot) (x .held .last) (x .stored)) ∙ ap (λ (t : acks.AckTold). t .held) q in
           rw good
           (ap (λ (w : Node). record { answer = r .answer; node = viewNode s w }) put
-          ∙ ap (λ (t : acks.AckTold). record { answer = t .answer; node = viewNode s (withShard n at (r .held)) }) q
+          ∙ ap (λ (t : acks.AckTold). record { answer = t .answer; node = viewNode s (withShard n at g) }) q
           ∙ ap (told acks.ackWord)
-          (call-held s n k le at is ack.noted f h (f (viewKept s x) .answer) (r .held) (ap (gives (f (viewKept s x) .answer)) after)))
+          (call-held s n k le at is ack.noted f h (f (viewKept s x) .answer) g (ap (gives (f (viewKept s x) .answer)) after)))
 
 -- ---- outcome of a proposal
 
@@ -180,12 +181,12 @@ module _ (n : Node) (k : Key) (epoch peer : ℕ) where
     outcome-absent h s what applied l =
         ap (told answers.outcomeWord) (call-absent s n k le at is ack.settled (ack.outcomeAt (n .id .0) epoch peer (ack.leaves what applied)) h)
 
-    pub outcome-done : at < n .count → (g : Held) → answers.SettlesHeld (getD (n .held) at noKept .held) (n .id .0) epoch peer left g
+    pub outcome-done : at < n .count → (r : Held) → answers.SettlesHeld (getD (n .held) at noKept .held) (n .id .0) epoch peer left r → (g : Held) → Trims r g
         → (m : Node) → m ≡ withShard n at g → SettlesIn n k epoch peer left m
     unfolding ack.onOutcome
-    outcome-done h g e m put s what applied l =
+    outcome-done h r e g trims m put s what applied l =
         let x = getD (n .held) at noKept in
-        let q = e (viewKey (x .key)) (s .log (x .slot) (x .held .last)) (s .vectors (x .slot) (x .held .last) (x .stored)) in
+        let q = trims .seen (viewKey (x .key)) (s .log (x .slot) (x .held .last)) (s .vectors (x .slot) (x .held .last) (x .stored)) ∙ e (viewKey (x .key)) (s .log (x .slot) (x .held .last)) (s .vectors (x .slot) (x .held .last) (x .stored)) in
         rw l
         (ap (λ (w : Node). record { answer = O.Noted; node = viewNode s w }) put
         ∙ ap (told answers.outcomeWord)

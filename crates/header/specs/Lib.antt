@@ -2,3 +2,4 @@ pub mod View
 pub mod Formed
 pub mod Answers
 pub mod Grow
+pub mod Arrays

@@ -5,11 +5,13 @@ ghost use Rattle.model.specs.Node.Ack.{badReply};
 ghost use Rattle.node.specs.Acks.{replyOf};
 ghost use Rattle.state.specs.Names.{viewKey};
 ghost use Rattle.header.specs.Formed.{formedNode};
+ghost use Rattle.header.specs.Arrays.{Fitting};
 ghost use Rattle.header.specs.Answers.{AcksIn, AcksNode};
 use crate::Node;
 use crate::NodeAcked;
 use crate::formed::formed_node;
 use crate::shards::place_of;
+use crate::shards::trimmed;
 use crate::shards::with_held;
 use model::DataNodeId;
 use model::Epoch;
@@ -31,6 +33,7 @@ pub fn ack_in(
 ) -> NodeAcked
     requires { ⌜ (formedNode n ≡ true) × (badReply (replyOf reply) ≡ false) ⌝ }
     ensures { λ r. ⌜ AcksIn n (viewKey key) (epoch .0) (peer .0) step reply r ⌝ }
+    ensures { λ r. ⌜ Fitting n (r .node) ⌝ }
 {
     let held = n.held;
     let count = n.count;
@@ -45,7 +48,8 @@ pub fn ack_in(
     let h = x.held;
     let a = ack_held(h, epoch, peer, step, reply);
     let answer = a.answer;
-    let g = a.held;
+    let left = a.held;
+    let g = trimmed(left);
     let out = with_held(n, at, g);
     NodeAcked {
         answer: answer,
@@ -64,6 +68,7 @@ pub fn ack(
     reply: Reply,
 ) -> NodeAcked
     ensures { λ r. ⌜ AcksNode n (viewKey key) (epoch .0) (peer .0) step reply r ⌝ }
+    ensures { λ r. ⌜ Fitting n (r .node) ⌝ }
 {
     if bad(reply) {
         return NodeAcked {

@@ -4,12 +4,14 @@ ghost use mathlib.Core.Bool.{true};
 ghost use Rattle.model.specs.Node.Ack.{leaves};
 ghost use Rattle.state.specs.Names.{viewKey};
 ghost use Rattle.header.specs.Formed.{formedNode};
+ghost use Rattle.header.specs.Arrays.{Fitting};
 ghost use Rattle.header.specs.Answers.{proposalOf, SettlesIn, SettlesNode};
 use crate::Node;
 use crate::NodeSettled;
 use crate::Proposal;
 use crate::formed::formed_node;
 use crate::shards::place_of;
+use crate::shards::trimmed;
 use crate::shards::with_held;
 use model::DataNodeId;
 use model::Epoch;
@@ -31,6 +33,7 @@ pub fn takes_out(what: Proposal, applied: bool) -> bool
 pub fn outcome_in(n: Node, key: ShardKey, epoch: Epoch, peer: DataNodeId, left: bool) -> Node
     requires { ⌜ formedNode n ≡ true ⌝ }
     ensures { λ r. ⌜ SettlesIn n (viewKey key) (epoch .0) (peer .0) left r ⌝ }
+    ensures { λ r. ⌜ Fitting n r ⌝ }
 {
     let held = n.held;
     let count = n.count;
@@ -41,7 +44,8 @@ pub fn outcome_in(n: Node, key: ShardKey, epoch: Epoch, peer: DataNodeId, left: 
     let x = held[at];
     let h = x.held;
     let me = n.id;
-    let g = outcome_held(h, me, epoch, peer, left);
+    let after = outcome_held(h, me, epoch, peer, left);
+    let g = trimmed(after);
     with_held(n, at, g)
 }
 
@@ -55,6 +59,7 @@ pub fn outcome(
     applied: bool,
 ) -> NodeSettled
     ensures { λ r. ⌜ SettlesNode n (viewKey key) (epoch .0) (peer .0) what applied r ⌝ }
+    ensures { λ r. ⌜ Fitting n (r .node) ⌝ }
 {
     if formed_node(n) {
         let left = takes_out(what, applied);

@@ -3,11 +3,13 @@ ghost use mathlib.Core.Path.{_≡_};
 ghost use mathlib.Core.Bool.{true};
 ghost use Rattle.state.specs.Names.{viewKey};
 ghost use Rattle.header.specs.Formed.{formedNode};
+ghost use Rattle.header.specs.Arrays.{Fitting};
 ghost use Rattle.header.specs.Answers.{WaitsIn, WaitsNode};
 use crate::Node;
 use crate::NodeWaited;
 use crate::formed::formed_node;
 use crate::shards::place_of;
+use crate::shards::trimmed;
 use crate::shards::with_held;
 use model::DataNodeId;
 use model::Epoch;
@@ -27,6 +29,7 @@ pub fn wait_in(
 ) -> NodeWaited
     requires { ⌜ formedNode n ≡ true ⌝ }
     ensures { λ r. ⌜ WaitsIn n (viewKey key) (epoch .0) offset now timeout r ⌝ }
+    ensures { λ r. ⌜ Fitting n (r .node) ⌝ }
 {
     let held = n.held;
     let count = n.count;
@@ -47,7 +50,8 @@ pub fn wait_in(
     let a = wait_held(h, epoch, offset, now, timeout);
     let answer = a.answer;
     let shrink = a.shrink;
-    let g = a.held;
+    let left = a.held;
+    let g = trimmed(left);
     let out = with_held(n, at, g);
     NodeWaited {
         answer: answer,
@@ -60,6 +64,7 @@ pub fn wait_in(
 // Shrink is to be proposed.
 pub fn wait(n: Node, key: ShardKey, epoch: Epoch, offset: u64, now: u64, timeout: u64) -> NodeWaited
     ensures { λ r. ⌜ WaitsNode n (viewKey key) (epoch .0) offset now timeout r ⌝ }
+    ensures { λ r. ⌜ Fitting n (r .node) ⌝ }
 {
     let none = Nodes {
         items: [DataNodeId(0); 32],

@@ -1,4 +1,5 @@
 use borrow.Author.Needs.{needs}
+use Rattle.header.proofs.OfArrays.{fitting-put}
 use Rattle.state.specs.Names.{viewKey}
 use Rattle.state.proofs.Tables.{of-field}
 use Rattle.node.proofs.OfFormed.{formed-few}
@@ -15,6 +16,7 @@ use Rattle.header.proofs.ack.ack_in.Tie as tie
 use Rattle.header.proofs.ack.ack_in.Reads as reads
 use Rattle.header.proofs.ack.ack_in.Lts as lts
 use Rattle.header.proofs.shards.place_of.Reads as place-of-reads
+use Rattle.header.proofs.shards.trimmed.Reads as trimmed-reads
 use Rattle.header.proofs.shards.with_held.Reads as with-held-reads
 use Rattle.node.proofs.ack.ack_held.Reads as ack-held-reads
 
@@ -29,7 +31,7 @@ place-of-requires : tie.Need-place-of-requires
 place-of-requires c κs = header-few (c .before .args .n) (c .before .pre .0)
 
 returns : tie.Need-returns
-returns c = ack-absent (c .before .before .before .args .n) (viewKey (c .before .before .before .args .key)) (c .before .before .before .args .epoch .0) (c .before .before .before .args .peer .0) (c .before .before .before .args .step) (c .before .before .before .args .reply) (c .before .before .before .pre .1) (fits (c .before .before .before)) (c .before .place-of .result) (c .before .place-of .ensures) (c .if1 .taken)
+returns c = (ack-absent (c .before .before .before .args .n) (viewKey (c .before .before .before .args .key)) (c .before .before .before .args .epoch .0) (c .before .before .before .args .peer .0) (c .before .before .before .args .step) (c .before .before .before .args .reply) (c .before .before .before .pre .1) (fits (c .before .before .before)) (c .before .place-of .result) (c .before .place-of .ensures) (c .if1 .taken), λ e. e)
 
 mul-x : tie.Need-mul-x
 mul-x c = let few = header-few (c .before .before .before .args .n) (c .before .before .before .pre .0) in search needs
@@ -40,11 +42,14 @@ array-copy-out-x c = let few = header-few (c .before .before .before .args .n) (
 ack-held-requires : tie.Need-ack-held-requires
 ack-held-requires c κs = (formed-few _ (shard-formed (c .before .before .before .before .before .args .n) (c .before .before .before .before .before .pre .0) (fits (c .before .before .before .before .before)) (c .before .before .before .place-of .result) (c .before .before .if1 .left) noKept), c .before .before .before .before .before .pre .1)
 
+trimmed-requires : tie.Need-trimmed-requires
+trimmed-requires c κs = search needs
+
 with-held-requires : tie.Need-with-held-requires
-with-held-requires c κs = let few = header-few (c .before .before .before .before .before .before .before .args .n) (c .before .before .before .before .before .before .before .pre .0) in let lt = c .before .before .before .before .if1 .left in omega arith
+with-held-requires c κs = let few = header-few (c .before .before .before .before .before .before .before .before .args .n) (c .before .before .before .before .before .before .before .before .pre .0) in let lt = c .before .before .before .before .before .if1 .left in omega arith
 
 returns-2 : tie.Need-returns-2
-returns-2 c = ack-done (c .before .before .before .before .before .before .before .before .args .n) (viewKey (c .before .before .before .before .before .before .before .before .args .key)) (c .before .before .before .before .before .before .before .before .args .epoch .0) (c .before .before .before .before .before .before .before .before .args .peer .0) (c .before .before .before .before .before .before .before .before .args .step) (c .before .before .before .before .before .before .before .before .args .reply) (c .before .before .before .before .before .before .before .before .pre .1) (fits (c .before .before .before .before .before .before .before .before)) (c .before .before .before .before .before .before .place-of .result) (c .before .before .before .before .before .before .place-of .ensures) (c .before .before .before .before .before .if1 .left) (c .before .before .ack-held .result) (c .before .before .ack-held .ensures) (c .with-held .result) (c .with-held .ensures)
+returns-2 c = (ack-done (c .before .before .before .before .before .before .before .before .before .args .n) (viewKey (c .before .before .before .before .before .before .before .before .before .args .key)) (c .before .before .before .before .before .before .before .before .before .args .epoch .0) (c .before .before .before .before .before .before .before .before .before .args .peer .0) (c .before .before .before .before .before .before .before .before .before .args .step) (c .before .before .before .before .before .before .before .before .before .args .reply) (c .before .before .before .before .before .before .before .before .before .pre .1) (fits (c .before .before .before .before .before .before .before .before .before)) (c .before .before .before .before .before .before .before .place-of .result) (c .before .before .before .before .before .before .before .place-of .ensures) (c .before .before .before .before .before .before .if1 .left) (c .before .before .before .ack-held .result) (c .before .before .before .ack-held .ensures) (c .before .trimmed .result) (c .before .trimmed .ensures) (c .with-held .result) (c .with-held .ensures), fitting-put (c .before .before .before .before .before .before .before .before .before .args .n) (fits (c .before .before .before .before .before .before .before .before .before)) (c .before .before .before .before .before .before .before .place-of .result) (c .before .before .before .before .before .before .if1 .left) _ (c .before .trimmed .result) (c .before .trimmed .ensures) (c .with-held .result) (c .with-held .ensures))
 
 pub ack-in-spec : {M : Type 1} → statement M
 ack-in-spec =
@@ -55,5 +60,6 @@ ack-in-spec =
     mul-x
     array-copy-out-x
     ack-held-requires
+    trimmed-requires
     with-held-requires
     returns-2)

@@ -24,10 +24,10 @@ outcome-in-requires : tie.Need-outcome-in-requires
 outcome-in-requires c κs = sym (c .before .before .formed-node .ensures .plain) ∙ c .before .if1 .taken
 
 returns : tie.Need-returns
-returns c = outcome-formed (c .before .before .before .before .args .n) (viewKey (c .before .before .before .before .args .key)) (c .before .before .before .before .args .epoch .0) (c .before .before .before .before .args .peer .0) (c .before .before .before .before .args .what) (c .before .before .before .before .args .applied) (λ s. sym (c .before .before .if1 .taken) ∙ c .before .before .before .formed-node .ensures .same s) (c .before .takes-out .result) (c .before .takes-out .ensures) (c .outcome-in .result) (c .outcome-in .ensures)
+returns c = (outcome-formed (c .before .before .before .before .args .n) (viewKey (c .before .before .before .before .args .key)) (c .before .before .before .before .args .epoch .0) (c .before .before .before .before .args .peer .0) (c .before .before .before .before .args .what) (c .before .before .before .before .args .applied) (λ s. sym (c .before .before .if1 .taken) ∙ c .before .before .before .formed-node .ensures .same s) (c .before .takes-out .result) (c .before .takes-out .ensures) (c .outcome-in .result) (c .outcome-in .ensures .0), c .outcome-in .ensures .1)
 
 returns-2 : tie.Need-returns-2
-returns-2 c = outcome-malformed (c .before .before .args .n) (viewKey (c .before .before .args .key)) (c .before .before .args .epoch .0) (c .before .before .args .peer .0) (c .before .before .args .what) (c .before .before .args .applied) (λ s. sym (c .if1 .left) ∙ c .before .formed-node .ensures .same s)
+returns-2 c = (outcome-malformed (c .before .before .args .n) (viewKey (c .before .before .args .key)) (c .before .before .args .epoch .0) (c .before .before .args .peer .0) (c .before .before .args .what) (c .before .before .args .applied) (λ s. sym (c .if1 .left) ∙ c .before .formed-node .ensures .same s), λ e. e)
 
 pub outcome-spec : {M : Type 1} → statement M
 outcome-spec =

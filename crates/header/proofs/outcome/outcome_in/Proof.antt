@@ -1,4 +1,5 @@
 use borrow.Author.Needs.{needs}
+use Rattle.header.proofs.OfArrays.{fitting-put}
 use Rattle.state.specs.Names.{viewKey}
 use Rattle.state.proofs.Tables.{of-field}
 use Rattle.node.proofs.OfFormed.{formed-few}
@@ -15,6 +16,7 @@ use Rattle.header.proofs.outcome.outcome_in.Tie as tie
 use Rattle.header.proofs.outcome.outcome_in.Reads as reads
 use Rattle.header.proofs.outcome.outcome_in.Lts as lts
 use Rattle.header.proofs.shards.place_of.Reads as place-of-reads
+use Rattle.header.proofs.shards.trimmed.Reads as trimmed-reads
 use Rattle.header.proofs.shards.with_held.Reads as with-held-reads
 use Rattle.node.proofs.outcome.outcome_held.Reads as outcome-held-reads
 
@@ -29,7 +31,7 @@ place-of-requires : tie.Need-place-of-requires
 place-of-requires c κs = header-few (c .before .args .n) (c .before .pre)
 
 returns : tie.Need-returns
-returns c = outcome-absent (c .before .before .before .args .n) (viewKey (c .before .before .before .args .key)) (c .before .before .before .args .epoch .0) (c .before .before .before .args .peer .0) (c .before .before .before .args .left) (fits (c .before .before .before)) (c .before .place-of .result) (c .before .place-of .ensures) (c .if1 .taken)
+returns c = (outcome-absent (c .before .before .before .args .n) (viewKey (c .before .before .before .args .key)) (c .before .before .before .args .epoch .0) (c .before .before .before .args .peer .0) (c .before .before .before .args .left) (fits (c .before .before .before)) (c .before .place-of .result) (c .before .place-of .ensures) (c .if1 .taken), λ e. e)
 
 mul-x : tie.Need-mul-x
 mul-x c = let few = header-few (c .before .before .before .args .n) (c .before .before .before .pre) in search needs
@@ -40,11 +42,14 @@ array-copy-out-x c = let few = header-few (c .before .before .before .args .n) (
 outcome-held-requires : tie.Need-outcome-held-requires
 outcome-held-requires c κs = formed-few _ (shard-formed (c .before .before .before .before .before .before .args .n) (c .before .before .before .before .before .before .pre) (fits (c .before .before .before .before .before .before)) (c .before .before .before .before .place-of .result) (c .before .before .before .if1 .left) noKept)
 
+trimmed-requires : tie.Need-trimmed-requires
+trimmed-requires c κs = search needs
+
 with-held-requires : tie.Need-with-held-requires
-with-held-requires c κs = let few = header-few (c .before .before .before .before .before .before .before .args .n) (c .before .before .before .before .before .before .before .pre) in let lt = c .before .before .before .before .if1 .left in omega arith
+with-held-requires c κs = let few = header-few (c .before .before .before .before .before .before .before .before .args .n) (c .before .before .before .before .before .before .before .before .pre) in let lt = c .before .before .before .before .before .if1 .left in omega arith
 
 returns-2 : tie.Need-returns-2
-returns-2 c = outcome-done (c .before .before .before .before .before .before .before .before .args .n) (viewKey (c .before .before .before .before .before .before .before .before .args .key)) (c .before .before .before .before .before .before .before .before .args .epoch .0) (c .before .before .before .before .before .before .before .before .args .peer .0) (c .before .before .before .before .before .before .before .before .args .left) (fits (c .before .before .before .before .before .before .before .before)) (c .before .before .before .before .before .before .place-of .result) (c .before .before .before .before .before .before .place-of .ensures) (c .before .before .before .before .before .if1 .left) (c .before .outcome-held .result) (c .before .outcome-held .ensures) (c .with-held .result) (c .with-held .ensures)
+returns-2 c = (outcome-done (c .before .before .before .before .before .before .before .before .before .args .n) (viewKey (c .before .before .before .before .before .before .before .before .before .args .key)) (c .before .before .before .before .before .before .before .before .before .args .epoch .0) (c .before .before .before .before .before .before .before .before .before .args .peer .0) (c .before .before .before .before .before .before .before .before .before .args .left) (fits (c .before .before .before .before .before .before .before .before .before)) (c .before .before .before .before .before .before .before .place-of .result) (c .before .before .before .before .before .before .before .place-of .ensures) (c .before .before .before .before .before .before .if1 .left) (c .before .before .outcome-held .result) (c .before .before .outcome-held .ensures) (c .before .trimmed .result) (c .before .trimmed .ensures) (c .with-held .result) (c .with-held .ensures), fitting-put (c .before .before .before .before .before .before .before .before .before .args .n) (fits (c .before .before .before .before .before .before .before .before .before)) (c .before .before .before .before .before .before .before .place-of .result) (c .before .before .before .before .before .before .if1 .left) _ (c .before .trimmed .result) (c .before .trimmed .ensures) (c .with-held .result) (c .with-held .ensures))
 
 pub outcome-in-spec : {M : Type 1} → statement M
 outcome-in-spec =
@@ -55,5 +60,6 @@ outcome-in-spec =
     mul-x
     array-copy-out-x
     outcome-held-requires
+    trimmed-requires
     with-held-requires
     returns-2)
