@@ -1,5 +1,7 @@
 //! The stored lists: what each is made of, with its seed.
 
+use front::replay::{Record, call};
+
 use crate::stream::{Stream, Tally};
 use crate::{damage, dome, histories, maps, patterns, rng::Rng, scripts, searches};
 
@@ -110,11 +112,15 @@ fn applymap() -> Vec<List> {
     all
 }
 
-/// The lists of `applymap` one after another, with the map that each leads to.
+/// The lists of `applymap` one after another, with the map that each leads to; then requests after
+/// which every reason is remembered of some client.
 fn streams(lists: &[List]) -> List {
-    let record = |list: &List| front::streams::record(&list.input);
-    let input: Vec<u8> = lists.iter().flat_map(record).collect();
-    list("streams", "all", input, front::streams::run)
+    let applied = |r: &Record| r.call == call::APPLY;
+    let remembered = scripts::sessions().records.into_iter().filter(applied);
+    let remembered: Vec<u8> = remembered.flat_map(|r| r.operands).collect();
+    let inputs = lists.iter().map(|list| &list.input);
+    let records = inputs.chain([&remembered]).flat_map(|i| front::streams::record(i));
+    list("streams", "all", records.collect(), front::streams::run)
 }
 
 fn search() -> Vec<List> {
