@@ -1,0 +1,126 @@
+-- One law for each way a call answers. Assumes nothing.
+use Prim.Native.Nat.{ℕ}
+use mathlib.Core.Path.{_≡_, refl, sym, ap, _∙_}
+use mathlib.Core.Bool.{Bool, true, false}
+use mathlib.Core.List.{List}
+use mathlib.Core.Option.{Option, none, some}
+use Rattle.model.specs.Lists.{_and_}
+use Rattle.model.specs.Keys.{Key}
+use Rattle.model.specs.Layout.Message as message
+use Rattle.model.specs.Node.Calls as calls
+use Rattle.model.specs.declared.Epoch.{Epoch}
+use Rattle.model.specs.declared.Offset.{Offset}
+use Rattle.state.specs.declared.ShardMap.{ShardMap}
+use Rattle.state.specs.View.{viewMap}
+use Rattle.mapcheck.specs.Lent.{wellFormedLent}
+use Rattle.rpc.specs.Shown.{replyShown, messageOf}
+use Rattle.rpc.specs.declared.Message.{Message}
+use Rattle.rpc.specs.declared.Message.the-variants as M
+use Rattle.rpc.proofs.Decoded.{Decoded, reply-answered}
+use Rattle.node.specs.declared.Reply.{Reply}
+use Rattle.node.specs.declared.Reply.the-variants as R
+use Rattle.node.specs.declared.Sent.{Sent}
+use Rattle.node.specs.declared.AckAnswer.the-variants as A
+use Rattle.node.specs.Acks.{replyOf}
+use Rattle.header.specs.declared.Node.{Node}
+use Rattle.header.specs.declared.NodeAcked.{NodeAcked}
+use Rattle.header.specs.View.{viewNode}
+use Rattle.header.specs.Formed.{lentNode}
+use Rattle.header.specs.Answers.{AcksNode}
+use Rattle.header.proofs.OfFormed.{header-apart}
+use Rattle.shown.specs.declared.Start.{Start}
+use Rattle.shown.specs.declared.NodeShown.{NodeShown}
+use Rattle.shown.specs.declared.ShownAnswer.the-variants as S
+use Rattle.shown.specs.Shows.{viewStarts, shownTold, ShowsMap}
+use Rattle.hears.specs.declared.Heard.{Heard}
+use Rattle.hears.specs.declared.Heard.the-variants as H
+use Rattle.hears.specs.Hears.{HearsMap, heardOf, HearsReply}
+
+-- ---- map shown
+
+and-on : (a b : Bool) → b ≡ true → a and b ≡ a
+unfolding _and_
+and-on true b e = e
+and-on false b e = refl
+
+and-off : (a b : Bool) → b ≡ false → a and b ≡ false
+unfolding _and_
+and-off true b e = e
+and-off false b e = refl
+
+module _ (n : Node) (m : ShardMap) (fresh : ℕ) where
+  pub map-formed : wellFormedLent m ≡ true → (r : NodeShown) → ShowsMap n m fresh r → HearsMap n m fresh r
+  map-formed w r e = record {
+    same = λ s.
+        e .same s
+        ∙ ap (λ (b : Bool). shownTold (calls.shownWith b (viewNode s n) fresh (viewMap m))) (sym (and-on (lentNode s n) (wellFormedLent m) w));
+    slots = e .slots;
+  }
+
+  pub map-malformed : wellFormedLent m ≡ false → (free : List Start)
+      → HearsMap n m fresh (record { answer = S.Refused 24; starts = free; count = 0; node = n })
+  map-malformed w free = record {
+    same = λ s. unfold calls.shownWith viewStarts in rw (and-off (lentNode s n) (wellFormedLent m) w);
+    slots = λ e. header-apart n e;
+  }
+
+-- ---- ack
+
+-- what was heard, of a message
+abbrev heardIn : Message → Heard
+heardIn M.Undecodable = H.Nothing
+heardIn (M.Request p) = H.Nothing
+heardIn (M.Replicate p) = H.Nothing
+heardIn (M.NewEpoch p) = H.Nothing
+heardIn (M.CopyShard p) = H.Nothing
+heardIn (M.Write p) = H.Nothing
+heardIn (M.Search p) = H.Nothing
+heardIn (M.Stored n) = H.Reply (R.Stored (n .0))
+heardIn (M.Gap n) = H.Reply (R.Gap (n .0))
+heardIn (M.StaleEpoch n) = H.Reply (R.Stale (n .0))
+heardIn (M.Adopted n) = H.Reply (R.Adopted (n .0))
+
+heard-in : (r : message.Reply) → heardOf (some r) ≡ heardIn (replyShown r)
+heard-in (message.replyStored n) = refl
+heard-in (message.replyGap n) = refl
+heard-in (message.replyStale n) = refl
+heard-in (message.replyAdopted n) = refl
+
+-- a message that shows a reply is heard as that reply
+pub reply-heard : (o : Option message.Reply) (m : Message) → Decoded replyShown o m → heardOf o ≡ heardIn m
+reply-heard o m d = ap heardOf (d .decoded) ∙ heard-in (d .read) ∙ ap heardIn (d .shown)
+
+-- bytes that show no reply are none
+module _ (s : List ℕ) (a : (n : Offset) → messageOf s ≡ M.Stored n → ⊥) (b : (n : Offset) → messageOf s ≡ M.Gap n → ⊥)
+    (c : (n : Epoch) → messageOf s ≡ M.StaleEpoch n → ⊥) (d : (n : Offset) → messageOf s ≡ M.Adopted n → ⊥) where
+  unheard : (o : Option message.Reply) → message.decodeReply s ≡ o → heardOf o ≡ H.Nothing
+  unheard none e = refl
+  unheard (some (message.replyStored n)) e = absurd (a _ (reply-answered s _ e))
+  unheard (some (message.replyGap n)) e = absurd (b _ (reply-answered s _ e))
+  unheard (some (message.replyStale n)) e = absurd (c _ (reply-answered s _ e))
+  unheard (some (message.replyAdopted n)) e = absurd (d _ (reply-answered s _ e))
+
+  pub reply-unheard : heardOf (message.decodeReply s) ≡ H.Nothing
+  reply-unheard = unheard (message.decodeReply s) refl
+
+-- the reply that was heard
+abbrev readAs : Heard → Option message.Reply
+readAs H.Nothing = none
+readAs (H.Reply r) = some (replyOf r)
+
+read-as : (o : Option message.Reply) → o ≡ readAs (heardOf o)
+read-as none = refl
+read-as (some (message.replyStored n)) = refl
+read-as (some (message.replyGap n)) = refl
+read-as (some (message.replyStale n)) = refl
+read-as (some (message.replyAdopted n)) = refl
+
+module _ (n : Node) (k : Key) (epoch peer : ℕ) (sent : Sent) (s : List ℕ) where
+  pub ack-unread : heardOf (message.decodeReply s) ≡ H.Nothing → HearsReply n k epoch peer sent s (record { answer = A.Refused 21; node = n })
+  unfolding calls.ackWith
+  ack-unread e t = rw (read-as (message.decodeReply s) ∙ ap readAs e)
+
+  pub ack-read : (a : Reply) → heardOf (message.decodeReply s) ≡ H.Reply a → (r : NodeAcked) → AcksNode n k epoch peer sent a r
+      → HearsReply n k epoch peer sent s r
+  unfolding calls.ackWith
+  ack-read a e r d t = rw (read-as (message.decodeReply s) ∙ ap readAs e) (d t)

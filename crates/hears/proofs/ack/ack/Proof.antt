@@ -1,0 +1,27 @@
+use borrow.Author.Needs.{needs}
+use mathlib.Core.Path.{sym, _∙_}
+use Rattle.hears.proofs.OfHears.{ack-unread, ack-read}
+use Rattle.hears.proofs.ack.ack.Statement.{statement}
+use Rattle.hears.proofs.ack.ack.Tie as tie
+
+reply-of-requires : tie.Need-reply-of-requires
+reply-of-requires c κs = search needs
+
+enum-known-h : tie.Need-enum-known-h
+enum-known-h c = search needs
+
+enum-told : tie.Need-enum-told
+enum-told c = search needs
+
+returns : tie.Need-returns
+returns c = let a = c .before .before .before .before .args in ack-unread _ _ _ _ (a .sent) _ (sym (c .before .before .reply-of .ensures) ∙ c .enum-told .given .1)
+
+ack-requires : tie.Need-ack-requires
+ack-requires c κs = search needs
+
+returns-2 : tie.Need-returns-2
+returns-2 c = let a = c .before .before .before .before .before .before .args in ack-read _ _ _ _ (a .sent) _ _ (sym (c .before .before .before .before .reply-of .ensures) ∙ c .before .before .h .given .1) (c .ack .result) (c .ack .ensures)
+
+pub ack-spec : {M : Type 1} → statement M
+ack-spec =
+    tie.close (tie.spec reply-of-requires enum-known-h enum-told returns ack-requires returns-2)
