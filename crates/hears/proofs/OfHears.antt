@@ -1,13 +1,18 @@
 -- One law for each way a call answers. Assumes nothing.
 use Prim.Native.Nat.{ℕ}
 use mathlib.Core.Path.{_≡_, refl, sym, ap, _∙_}
+use native.Mathlib.Omega.{arith}
 use mathlib.Core.Bool.{Bool, true, false}
 use mathlib.Core.List.{List}
 use mathlib.Core.Option.{Option, none, some}
 use Rattle.model.specs.Lists.{_and_}
 use Rattle.model.specs.Keys.{Key}
+use Rattle.model.specs.Refusals.{Refusal}
 use Rattle.model.specs.Layout.Message as message
+use Rattle.model.specs.Node.Ack as ack
+use Rattle.model.specs.Node.Shown as show
 use Rattle.model.specs.Node.Calls as calls
+use Rattle.model.proofs.Node.Refusals.{shown-refused, ack-refused}
 use Rattle.model.specs.declared.Epoch.{Epoch}
 use Rattle.model.specs.declared.Offset.{Offset}
 use Rattle.state.specs.declared.ShardMap.{ShardMap}
@@ -20,18 +25,20 @@ use Rattle.rpc.proofs.Decoded.{Decoded, reply-answered}
 use Rattle.node.specs.declared.Reply.{Reply}
 use Rattle.node.specs.declared.Reply.the-variants as R
 use Rattle.node.specs.declared.Sent.{Sent}
+use Rattle.node.specs.declared.AckAnswer.{AckAnswer}
 use Rattle.node.specs.declared.AckAnswer.the-variants as A
-use Rattle.node.specs.Acks.{replyOf}
+use Rattle.node.specs.Acks.{replyOf, sentOf, ackWord}
 use Rattle.header.specs.declared.Node.{Node}
 use Rattle.header.specs.declared.NodeAcked.{NodeAcked}
-use Rattle.header.specs.View.{viewNode}
+use Rattle.header.specs.View.{Stores, viewNode}
 use Rattle.header.specs.Formed.{lentNode}
-use Rattle.header.specs.Answers.{AcksNode}
+use Rattle.header.specs.Answers.{Told, AcksNode}
 use Rattle.header.proofs.OfFormed.{header-apart}
 use Rattle.shown.specs.declared.Start.{Start}
 use Rattle.shown.specs.declared.NodeShown.{NodeShown}
+use Rattle.shown.specs.declared.ShownAnswer.{ShownAnswer}
 use Rattle.shown.specs.declared.ShownAnswer.the-variants as S
-use Rattle.shown.specs.Shows.{viewStarts, shownTold, ShowsMap}
+use Rattle.shown.specs.Shows.{viewStarts, shownWord, ShownTold, shownTold, ShowsMap}
 use Rattle.hears.specs.declared.Heard.{Heard}
 use Rattle.hears.specs.declared.Heard.the-variants as H
 use Rattle.hears.specs.Hears.{HearsMap, heardOf, HearsReply}
@@ -48,6 +55,16 @@ unfolding _and_
 and-off true b e = e
 and-off false b e = refl
 
+shownCode : ShownAnswer → ℕ
+shownCode S.Shown = 0
+shownCode (S.Refused k) = 1
+
+-- an answer told as a refusal is one
+shown-refused-as : (a : show.ShownAnswer) (k : ℕ) → shownWord a ≡ S.Refused k → (r : Refusal) × (a ≡ show.shownRefused r)
+unfolding shownCode
+shown-refused-as (show.shownRefused r) k e = (r, refl)
+shown-refused-as (show.shown l) k e = absurd (let z : _≡_ {A = ℕ} 0 1 = ap shownCode e in omega arith)
+
 module _ (n : Node) (m : ShardMap) (fresh : ℕ) where
   pub map-formed : wellFormedLent m ≡ true → (r : NodeShown) → ShowsMap n m fresh r → HearsMap n m fresh r
   map-formed w r e = record {
@@ -63,6 +80,15 @@ module _ (n : Node) (m : ShardMap) (fresh : ℕ) where
     same = λ s. unfold calls.shownWith viewStarts in rw (and-off (lentNode s n) (wellFormedLent m) w);
     slots = λ e. header-apart n e;
   }
+
+  -- 23 or 24: the node after is the node before
+  pub map-refused : (r : NodeShown) → HearsMap n m fresh r → (k : ℕ) → r .answer ≡ S.Refused k → (s : Stores) → viewNode s (r .node) ≡ viewNode s n
+  map-refused r e k h s =
+      let x = calls.shownWith (lentNode s n and wellFormedLent m) (viewNode s n) fresh (viewMap m) in
+      let said = ap (λ (t : ShownTold). t .answer) (sym (e .same s)) ∙ h in
+      let of = shown-refused-as (x .answer) k said in
+      ap (λ (t : ShownTold). t .node) (e .same s)
+      ∙ shown-refused (of .0) (lentNode s n and wellFormedLent m) (viewNode s n) fresh (viewMap m) (of .1)
 
 -- ---- ack
 
@@ -115,6 +141,18 @@ read-as (some (message.replyGap n)) = refl
 read-as (some (message.replyStale n)) = refl
 read-as (some (message.replyAdopted n)) = refl
 
+ackCode : AckAnswer → ℕ
+ackCode A.Noted = 0
+ackCode A.Expand = 0
+ackCode (A.Refused k) = 1
+
+-- an answer told as a refusal is one
+ack-refused-as : (a : ack.AckAnswer) (k : ℕ) → ackWord a ≡ A.Refused k → (r : Refusal) × (a ≡ ack.ackRefused r)
+unfolding ackCode
+ack-refused-as (ack.ackRefused r) k e = (r, refl)
+ack-refused-as ack.noted k e = absurd (let z : _≡_ {A = ℕ} 0 1 = ap ackCode e in omega arith)
+ack-refused-as ack.expand k e = absurd (let z : _≡_ {A = ℕ} 0 1 = ap ackCode e in omega arith)
+
 module _ (n : Node) (k : Key) (epoch peer : ℕ) (sent : Sent) (s : List ℕ) where
   pub ack-unread : heardOf (message.decodeReply s) ≡ H.Nothing → HearsReply n k epoch peer sent s (record { answer = A.Refused 21; node = n })
   unfolding calls.ackWith
@@ -124,3 +162,12 @@ module _ (n : Node) (k : Key) (epoch peer : ℕ) (sent : Sent) (s : List ℕ) wh
       → HearsReply n k epoch peer sent s r
   unfolding calls.ackWith
   ack-read a e r d t = rw (read-as (message.decodeReply s) ∙ ap readAs e) (d t)
+
+  -- 21, 24 or 26: the node after is the node before
+  pub reply-refused : (r : NodeAcked) → HearsReply n k epoch peer sent s r → (x : ℕ) → r .answer ≡ A.Refused x → (t : Stores)
+      → viewNode t (r .node) ≡ viewNode t n
+  reply-refused r e x h t =
+      let v = calls.ackWith (lentNode t n) (viewNode t n) k epoch peer (sentOf sent) s in
+      let said = ap (λ (w : Told AckAnswer). w .answer) (sym (e t)) ∙ h in
+      let of = ack-refused-as (v .answer) x said in
+      ap (λ (w : Told AckAnswer). w .node) (e t) ∙ ack-refused (of .0) (lentNode t n) (viewNode t n) k epoch peer (sentOf sent) s (of .1)
