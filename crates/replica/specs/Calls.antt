@@ -3,16 +3,21 @@
 use Prim.Native.Nat.{ℕ}
 use mathlib.Core.Path.{_≡_}
 use mathlib.Core.Bool.{Bool, true, false, not, cond}
-use mathlib.Core.List.{List}
+use mathlib.Core.List.{List, map}
 use mathlib.Core.Option.{Option, none, some}
+use lib.Dec.{eqb, ltb}
+use Rattle.model.specs.Lists.{every}
 use Rattle.model.specs.Refusals.{Refusal, numberOf, undecodable, outsideDomain, malformed, noRoom}
-use Rattle.model.specs.Log.{Op, ShardReplica, lastOffset, append}
+use Rattle.model.specs.Log.{Op, Entry, End, ShardReplica, lastOffset, append, Stored, through, gap, stale, store, storeAll, adopted}
 use Rattle.model.specs.Layout.Message as message
-use Rattle.model.specs.Node.Wire.{opInDomain, storedOp}
+use Rattle.model.specs.Node.Wire.{opInDomain, entryInDomain, storedOp, storedEntry}
 use Rattle.model.specs.Node.Shards.{Result, gives}
 use Rattle.model.specs.Node.Client.{overfull}
+use Rattle.model.specs.Node.Backup.{isEmpty}
 use Rattle.model.specs.declared.Metric.{Metric}
 use Rattle.shard.specs.Store.{Store, replicaOf}
+use Rattle.shard.specs.declared.replica.Outcome.{Outcome}
+use Rattle.shard.specs.declared.replica.Outcome.the-variants.{Through, Gap, Stale, Full}
 use Rattle.replica.specs.Fits.{lentFits}
 use Rattle.replica.specs.declared.Answer.{Answer}
 use Rattle.replica.specs.declared.Answer.the-variants as A
@@ -41,6 +46,56 @@ appendTo r op =
 unfoldable pub appendLent : List ℕ → (own : ℕ) → Store → Metric → After
 appendLent b own s m =
     tested (message.decodeWrite b) (λ w. opInDomain (w .op)) s (replicaOf own m s) (λ w. appendTo (replicaOf own m s) (storedOp (w .op)))
+
+-- shard.rs, Stored: 30, 31 or 32 on the wire
+abbrev pub storedAs : Stored → Answer
+storedAs (through o) = A.Stored (record { 0 = o })
+storedAs (gap o) = A.Gap (record { 0 = o })
+storedAs (stale e) = A.StaleEpoch (record { 0 = e })
+
+-- shard.rs, store: an entry sent by the primary of `epoch`; 23 if it would be number 1,025
+unfoldable pub storeTo : ShardReplica → (epoch : ℕ) → Entry → After
+storeTo r epoch e =
+    let q = store r epoch e in
+    cond (overfull (q .replica)) (refused noRoom r) (gives (storedAs (q .answer)) (q .replica))
+
+-- 20 on the wire: one entry, stored under the message's epoch
+unfoldable pub storeLent : List ℕ → (own : ℕ) → Store → Metric → After
+storeLent b own s m =
+    tested (message.decodeReplicate b) (λ w. opInDomain (w .op)) s (replicaOf own m s)
+    (λ w. storeTo (replicaOf own m s) (w .epoch) (record { epoch = w .epoch; offset = w .offset; op = storedOp (w .op) }))
+
+-- node.rs, on_copy: entries one after the other; an empty batch is Stored at any epoch, and 23 stores nothing
+unfoldable pub copyTo : ShardReplica → (epoch : ℕ) → List Entry → After
+copyTo r epoch es =
+    let n = storeAll r epoch es in
+    cond (isEmpty es) (gives (A.Stored (record { 0 = lastOffset r })) r)
+    (cond (eqb epoch (r .epoch)) (cond (overfull n) (refused noRoom r) (gives (A.Stored (record { 0 = lastOffset n })) n))
+    (gives (A.StaleEpoch (record { 0 = r .epoch })) r))
+
+-- 22 on the wire: entries under their own epochs
+unfoldable pub copyLent : List ℕ → (own : ℕ) → Store → Metric → After
+copyLent b own s m =
+    tested (message.decodeCopyShard b) (λ w. every entryInDomain (w .entries)) s (replicaOf own m s)
+    (λ w. copyTo (replicaOf own m s) (w .epoch) (map storedEntry (w .entries)))
+
+-- shard.rs, adopt: an older epoch is StaleEpoch own; else the log is aligned, under the new epoch
+unfoldable pub adoptTo : ShardReplica → (epoch end : ℕ) → List End → After
+adoptTo r epoch end t =
+    let n = adopted r epoch end t in
+    cond (ltb epoch (r .epoch)) (gives (A.StaleEpoch (record { 0 = r .epoch })) r) (gives (A.Adopted (record { 0 = lastOffset n })) n)
+
+-- 21 on the wire: it has no vector
+unfoldable pub adoptLent : List ℕ → (own : ℕ) → Store → Metric → After
+adoptLent b own s m =
+    tested (message.decodeNewEpoch b) (λ w. true) s (replicaOf own m s) (λ w. adoptTo (replicaOf own m s) (w .epoch) (w .end) (w .table))
+
+-- what became of entries, as an answer; Full is 23
+abbrev pub outcomeAs : Outcome → Answer
+outcomeAs (Through o) = A.Stored o
+outcomeAs (Gap o) = A.Gap o
+outcomeAs (Stale e) = A.StaleEpoch e
+outcomeAs Full = A.Refused (numberOf noRoom)
 
 -- a refusal, or StaleEpoch
 abbrev pub turnedDown : Answer → Bool

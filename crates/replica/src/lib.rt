@@ -5,7 +5,9 @@
 use model::Epoch;
 use model::Offset;
 
+pub mod adopts;
 pub mod appends;
+pub mod arrives;
 pub mod fits;
 pub mod searches;
 
