@@ -1,0 +1,3 @@
+pub mod OfNamed
+pub mod OfLend
+pub mod OfPeers

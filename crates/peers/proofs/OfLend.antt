@@ -1,0 +1,244 @@
+-- Laws of a lent store: its test, how a shard is read with it, and that a call which changes it changes no other shard. Assumes nothing.
+use Prim.Native.Nat.{ℕ, zero, suc, _+_, _<_, _≤_}
+use mathlib.Core.Path.{_≡_, refl, sym, ap, subst, _∙_}
+use mathlib.Core.Bool.{Bool, true, false, cond, not}
+use mathlib.Core.List.{List, [], _∷_, map}
+use native.Mathlib.Omega.{arith}
+use lib.Dec.{eqb, leb, ltb}
+use lib.ListN.{length, getD, take, set}
+use lib.Seq.{take-set-lt, length-take-le, getD-take}
+use borrow.Author.Tests.{eqb-true, eqb-false, lt-ltb, le-ltb, le-leb, lt-leb, not-true}
+use Rattle.model.specs.Lists.{_and_, any, lead}
+use Rattle.model.specs.Limits.{maxHeld}
+use Rattle.model.specs.Keys.{Key}
+use Rattle.model.specs.Log.{Log, Vectors}
+use Rattle.model.specs.Map.Apply.{update}
+use Rattle.model.specs.Node.Held as held
+use Rattle.model.specs.Node.Shards.{Result, gives, ofKey, withHeld, atShard}
+use Rattle.model.proofs.Lists.{and-true, and-left, and-right, not-both}
+use Rattle.model.proofs.Node.Shards.{at-held}
+use Rattle.node.specs.declared.Held.{Held}
+use Rattle.node.specs.View.{viewHeld}
+use Rattle.state.specs.Names.{viewKey}
+use Rattle.state.proofs.Tables.{update-at, map-set, used-size, used-row}
+use Rattle.shard.specs.View.{logOf}
+use Rattle.shard.specs.Table.{rowsOf, vectorsOf}
+use Rattle.shard.specs.Store.{Sized, wellFormedStore}
+use Rattle.writes.specs.Writes.{viewStored}
+use Rattle.header.specs.declared.Kept.{Kept}
+use Rattle.header.specs.declared.Node.{Node}
+use Rattle.header.specs.View.{Stores, viewKept, viewNode, used, otherKey, noKept}
+use Rattle.header.specs.Formed.{lentNode, formedNode, onSlot, slotsFit}
+use Rattle.header.proofs.OfLists.{by-case, map-lead}
+use Rattle.header.proofs.OfFormed.{header-apart, formed-lent}
+use Rattle.header.proofs.OfShards.{shard-some}
+use Rattle.peers.specs.Lend.{Lot, storeIn, storeOf, sizedLot, keptStore, placeOf, lentAt, lentFor, slotOf, Lends, Changes, Absents, Found, keptWith, withStore}
+
+-- ---- the test
+
+module _ (a : Lot) where
+  -- the seven tests, from the last to the first
+  pub sized-by : (r1 r2 r3 r4 r5 r6 : Bool) → r1 ≡ (eqb (length (a .keys)) 1024 and eqb (length (a .places)) 1024)
+      → r2 ≡ (eqb (length (a .columns .lengths)) 1024 and r1) → r3 ≡ (eqb (length (a .columns .codes)) 1024 and r2)
+      → r4 ≡ (eqb (length (a .columns .ids)) 1024 and r3) → r5 ≡ (eqb (length (a .columns .offsets)) 1024 and r4)
+      → r6 ≡ (eqb (length (a .columns .epochs)) 1024 and r5) → r6 ≡ sizedLot a
+  unfolding sizedLot
+  sized-by r1 r2 r3 r4 r5 r6 e1 e2 e3 e4 e5 e6 =
+      e6 ∙ ap (λ (z : Bool). eqb (length (a .columns .epochs)) 1024 and z)
+      (e5 ∙ ap (λ (z : Bool). eqb (length (a .columns .offsets)) 1024 and z)
+      (e4 ∙ ap (λ (z : Bool). eqb (length (a .columns .ids)) 1024 and z)
+      (e3 ∙ ap (λ (z : Bool). eqb (length (a .columns .codes)) 1024 and z)
+      (e2 ∙ ap (λ (z : Bool). eqb (length (a .columns .lengths)) 1024 and z) e1))))
+
+  pub sized-lot : (x : Kept) → sizedLot a ≡ true → Sized (storeOf a x)
+  unfolding sizedLot
+  sized-lot x e =
+      let e2 = and-right _ _ e in
+      let e3 = and-right _ _ e2 in
+      let e4 = and-right _ _ e3 in
+      let e5 = and-right _ _ e4 in
+      let e6 = and-right _ _ e5 in
+      record {
+        epochs = eqb-true _ _ (and-left _ _ e);
+        offsets = eqb-true _ _ (and-left _ _ e2);
+        ids = eqb-true _ _ (and-left _ _ e3);
+        codes = eqb-true _ _ (and-left _ _ e4);
+        lengths = eqb-true _ _ (and-left _ _ e5);
+        keys = eqb-true _ _ (and-left _ _ e6);
+        places = eqb-true _ _ (and-right _ _ e6);
+      }
+
+  module _ (x : Kept) where
+    pub kept-unsized : sizedLot a ≡ false → false ≡ keptStore a x
+    unfolding keptStore _and_
+    kept-unsized e = rw e
+
+    pub kept-sized : sizedLot a ≡ true → (b : Bool) → b ≡ wellFormedStore (storeOf a x) → b ≡ keptStore a x
+    unfolding keptStore _and_
+    kept-sized e b q = rw e q
+
+    pub kept-is : keptStore a x ≡ true → Sized (storeOf a x)
+    unfolding keptStore
+    kept-is e = sized-lot x (and-left (sizedLot a) (wellFormedStore (storeOf a x)) e)
+
+    pub kept-well : keptStore a x ≡ true → wellFormedStore (storeOf a x) ≡ true
+    unfolding keptStore
+    kept-well e = and-right (sizedLot a) (wellFormedStore (storeOf a x)) e
+
+module _ (n : Node) (k : Key) (a : Lot) where
+  pub lent-malformed : ((s : Stores) → false ≡ lentNode s n) → (s : Stores) → lentFor s n a k ≡ false
+  unfolding lentFor _and_
+  lent-malformed e s = rw (← e s)
+
+  module _ (formed : formedNode n ≡ true) where
+    lent-at : (b : Bool) → lentAt n a (placeOf n k) ≡ b → (s : Stores) → lentFor s n a k ≡ b
+    unfolding lentFor _and_
+    lent-at b e s = rw (← formed-lent n s, formed) e
+
+    module _ (at : ℕ) (is : at ≡ placeOf n k) (inside : n .count ≤ length (n .held)) where
+      module _ (gone : n .count ≤ at) where
+        absent-at : (b : Bool) → leb 32768 (length (a .columns .floats)) ≡ b → lentAt n a (placeOf n k) ≡ b
+        unfolding lentAt
+        absent-at b e = rw (← is) (rw (le-ltb _ _ gone) e)
+
+        pub absent-short : length (a .columns .floats) < 32768 → (s : Stores) → lentFor s n a k ≡ false
+        absent-short h = lent-at false (absent-at false (lt-leb _ _ h))
+
+        pub absent-found : 32768 ≤ length (a .columns .floats) → Absents n k a
+        absent-found h = record {
+          lent = lent-at true (absent-at true (le-leb _ _ h));
+          inside = inside;
+          gone = subst (λ (i : ℕ). n .count ≤ i) is gone;
+          formed = formed;
+        }
+
+      module _ (under : at < n .count) where
+        held-at : (b : Bool) → keptStore a (getD (n .held) at noKept) ≡ b → lentAt n a (placeOf n k) ≡ b
+        unfolding lentAt
+        held-at b e = rw (← is) (rw (lt-ltb _ _ under) e)
+
+        pub held-malformed : keptStore a (getD (n .held) at noKept) ≡ false → (s : Stores) → lentFor s n a k ≡ false
+        held-malformed e = lent-at false (held-at false e)
+
+        pub held-found : keptStore a (getD (n .held) at noKept) ≡ true → Found n k a at
+        held-found e = record {
+          lent = lent-at true (held-at true e);
+          inside = inside;
+          is = is;
+          under = under;
+          formed = formed;
+          sized = kept-is a (getD (n .held) at noKept) e;
+          well = kept-well a (getD (n .held) at noKept) e;
+        }
+
+-- a held shard's own slot
+pub slot-held : (n : Node) (k : Key) (at : ℕ) → at ≡ placeOf n k → at < n .count → slotOf n k ≡ getD (n .held) at noKept .slot
+unfolding slotOf
+slot-held n k at is h = rw (← is) (rw (lt-ltb _ _ h))
+
+-- ---- a shard read with the lent store
+
+pub lends-view : (s : Stores) (slot : ℕ) (a : Lot) → Lends s slot a → (x : Kept) → x .slot ≡ slot
+    → viewKept s x ≡ viewStored (viewKey (x .key)) (x .held) (storeOf a x)
+lends-view s slot a d x e =
+    let last = x .held .last in
+    let l : s .log (x .slot) last ≡ logOf (a .columns) last = ap (λ (i : ℕ). s .log i last) e ∙ d .log last in
+    let v : s .vectors (x .slot) last (x .stored) ≡ vectorsOf (logOf (a .columns) last) (rowsOf (a .keys) (a .places) (x .stored)) =
+    ap (λ (i : ℕ). s .vectors i last (x .stored)) e ∙ d .vectors last (x .stored) in
+    ap (λ (z : Log). viewHeld (viewKey (x .key)) z (s .vectors (x .slot) last (x .stored)) (x .held)) l
+    ∙ ap (λ (z : Vectors). viewHeld (viewKey (x .key)) (logOf (a .columns) last) z (x .held)) v
+
+-- no shard of a list has the slot
+any-tail : {A : Type 0} (p : A → Bool) (x : A) (xs : List A) → any p (x ∷ xs) ≡ false → (p x ≡ false) × (any p xs ≡ false)
+unfolding any
+any-tail p x xs = go (p x)
+  where
+    go : (b : Bool) → cond b true (any p xs) ≡ false → (b ≡ false) × (any p xs ≡ false)
+    go true e = not-both false (sym e) refl
+    go false e = (refl, e)
+
+none-at : (q : ℕ) (l : List Kept) (i : ℕ) → any (onSlot q) l ≡ false → i < length l → eqb (getD l i noKept .slot) q ≡ false
+none-at q [] i e h = absurd (omega arith)
+none-at q (x ∷ xs) zero e h = any-tail (onSlot q) x xs e .0
+none-at q (x ∷ xs) (suc i) e h = none-at q xs i (any-tail (onSlot q) x xs e .1) (omega arith)
+
+not-eqb : (p q : ℕ) → eqb p q ≡ false → eqb q p ≡ false
+not-eqb p q e = by-case (eqb q p) (λ z. absurd (eqb-false p q e (sym (eqb-true q p z)))) (λ z. z)
+
+module _ (s t : Stores) (slot : ℕ) (a b : Lot) (c : Changes s t slot a b) where
+  other-view : (x : Kept) → eqb (x .slot) slot ≡ false → viewKept t x ≡ viewKept s x
+  other-view x e =
+      let last = x .held .last in
+      ap (λ (z : Log). viewHeld (viewKey (x .key)) z (t .vectors (x .slot) last (x .stored)) (x .held)) (c .log (x .slot) e last)
+      ∙ ap (λ (z : Vectors). viewHeld (viewKey (x .key)) (s .log (x .slot) last) z (x .held)) (c .vectors (x .slot) e last (x .stored))
+
+  others-view : (l : List Kept) → any (onSlot slot) l ≡ false → map (viewKept t) l ≡ map (viewKept s) l
+  others-view [] e = refl
+  others-view (x ∷ xs) e =
+      let r = any-tail (onSlot slot) x xs e in
+      ap (λ (y : held.Held). y ∷ map (viewKept t) xs) (other-view x (r .0)) ∙ ap (λ (l : List held.Held). viewKept s x ∷ l) (others-view xs (r .1))
+
+  -- all but one shard are read as before
+  apart-view : (l : List Kept) (at : ℕ) (z : held.Held) → at < length l → slotsFit l ≡ true → getD l at noKept .slot ≡ slot
+      → set (map (viewKept t) l) at z ≡ set (map (viewKept s) l) at z
+  unfolding slotsFit
+  apart-view [] at z h f e = absurd (omega arith)
+  apart-view (x ∷ xs) zero z h f e =
+      let r = not-true _ (and-left _ _ (and-right _ _ f)) in
+      ap (λ (l : List held.Held). z ∷ l) (others-view xs (subst (λ (q : ℕ). any (onSlot q) xs ≡ false) e r))
+  apart-view (x ∷ xs) (suc i) z h f e =
+      let g = and-right _ _ f in
+      let r : any (onSlot (x .slot)) xs ≡ false = not-true _ (and-left _ _ g) in
+      let o : eqb (x .slot) slot ≡ false = not-eqb slot (x .slot) (subst (λ (q : ℕ). eqb q (x .slot) ≡ false) e (none-at (x .slot) xs i r (omega arith))) in
+      ap (λ (y : held.Held). y ∷ set (map (viewKept t) xs) i z) (other-view x o)
+      ∙ ap (λ (l : List held.Held). viewKept s x ∷ l) (apart-view xs i z (omega arith) (and-right _ _ g) e)
+
+  -- a call on the shard with its store: it is put back as the call left it
+  module _ (n : Node) (k : Key) (at : ℕ) (is : at ≡ placeOf n k) (inside : n .count ≤ length (n .held)) (under : at < n .count) (formed : formedNode n ≡ true)
+      (own : getD (n .held) at noKept .slot ≡ slot) where
+    place : at ≡ lead (λ x. not (ofKey k x)) (map (viewKept s) (used n))
+    place = is ∙ sym (map-lead (viewKept s) (λ x. not (ofKey k x)) (used n))
+
+    row-put : (f : held.Held → held.Held) (y : Kept) → viewKept t y ≡ f (viewKept s (getD (n .held) at noKept))
+        → map (viewKept t) (take (n .count) (set (n .held) at y)) ≡ update (ofKey k) f (map (viewKept s) (used n))
+    row-put f y e =
+        let l = used n in
+        let z = viewKept t y in
+        let x = getD (n .held) at noKept in
+        let short : at < length l = rw (length-take-le (n .count) (n .held) inside) under in
+        let row : getD l at noKept ≡ x = getD-take (n .count) (n .held) at noKept under in
+        ap (map (viewKept t)) (take-set-lt (n .count) (n .held) at y under)
+        ∙ map-set (viewKept t) l at y
+        ∙ apart-view l at z short (header-apart n formed) (ap (λ (q : Kept). q .slot) row ∙ own)
+        ∙ ap (set (map (viewKept s) l) at) (e ∙ ap f (sym (used-row (viewKept s) (n .held) (n .count) inside at noKept under)))
+        ∙ sym (update-at (ofKey k) (viewKept s noKept) f (map (viewKept s) l) (rw (← place, used-size (viewKept s) (n .held) (n .count) inside) under)
+        ∙ ap (λ (i : ℕ). set (map (viewKept s) l) i (f (getD (map (viewKept s) l) i (viewKept s noKept)))) (sym place))
+
+    pub call-store : {A : Type 0} (absent : A) (f : held.Held → Result A held.Held) (w : A) (h : Held) (stored : ℕ)
+        → let x = getD (n .held) at noKept in
+        gives w (viewStored (viewKey (x .key)) h (storeIn b (h .last) stored)) ≡ f (viewStored (viewKey (x .key)) (x .held) (storeOf a x))
+        → gives w (viewNode t (withStore n at h stored)) ≡ atShard (viewNode s n) k absent f
+    call-store {A} absent f w h stored e =
+        let x = getD (n .held) at noKept in
+        let y = keptWith x h stored in
+        let q : gives w (viewKept t y) ≡ f (viewKept s x) =
+        ap (λ (z : held.Held). gives w z) (lends-view t slot b (c .after) y own) ∙ e ∙ ap f (sym (lends-view s slot a (c .before) x own)) in
+        ap (λ (l : List held.Held). gives w (withHeld (viewNode s n) l)) (row-put (λ z. f z .after) y (ap (λ (r : Result A held.Held). r .after) q))
+        ∙ ap (λ (v : A). gives v (withHeld (viewNode s n) (update (ofKey k) (λ z. f z .after) (map (viewKept s) (used n))))) (ap (λ (r : Result A held.Held). r .answer) q)
+        ∙ sym (at-held (viewNode s n) k absent f (viewKept s x) (shard-some s n k inside at is under))
+
+-- the lent store stays: every shard is read as before
+module _ (s t : Stores) (slot : ℕ) (a : Lot) (c : Changes s t slot a a) where
+  kept-view : (x : Kept) → viewKept t x ≡ viewKept s x
+  kept-view x =
+      by-case (eqb (x .slot) slot)
+      (λ e. let q = eqb-true (x .slot) slot e in lends-view t slot a (c .after) x q ∙ sym (lends-view s slot a (c .before) x q))
+      (other-view s t slot a a c x)
+
+  kepts-view : (l : List Kept) → map (viewKept t) l ≡ map (viewKept s) l
+  kepts-view [] = refl
+  kepts-view (x ∷ xs) =
+      ap (λ (y : held.Held). y ∷ map (viewKept t) xs) (kept-view x) ∙ ap (λ (l : List held.Held). viewKept s x ∷ l) (kepts-view xs)
+
+  pub node-view : (n : Node) → viewNode t n ≡ viewNode s n
+  node-view n = ap (withHeld (viewNode s n)) (kepts-view (used n))

@@ -1,0 +1,59 @@
+-- The key that a decoded message names stands in the bytes, and is the key that model's decoder reads. Assumes nothing.
+use Prim.Native.Nat.{ℕ, _+_, _≤_}
+use mathlib.Core.Path.{_≡_, refl, sym, ap, subst, _∙_}
+use mathlib.Core.Bool.{true}
+use mathlib.Core.List.{List}
+use mathlib.Core.Option.{Option, none, some}
+use lib.ListN.{length}
+use native.Mathlib.Omega.{arith}
+use borrow.Author.Tests.{leb-true}
+use Rattle.model.specs.Keys.{Key, Name}
+use Rattle.model.specs.Layout.Format.{fits, value, whole}
+use Rattle.model.specs.Layout.Parts.{u32, nameF, keyF, keyOf}
+use Rattle.model.specs.Layout.Message as message
+use Rattle.model.proofs.LayoutLaws.Tests.{and-left, and-right}
+use Rattle.model.proofs.LayoutLaws.Data.{whenever-some}
+use Rattle.rpc.specs.Shown.{keyShown, messageOf, replicatePart}
+use Rattle.rpc.specs.declared.ReplicatePart.{ReplicatePart}
+use Rattle.rpc.specs.declared.Message.the-variants.{Replicate}
+use Rattle.rpc.proofs.Places.{text-length}
+use Rattle.rpc.proofs.Items.{text-bytes}
+use Rattle.rpc.proofs.Decoded.{replicate-decoded, replicate-answered}
+use Rattle.arrivals.proofs.OfMessages.{replicate-part}
+use Rattle.peers.specs.Named.{KeyThere, keyIn}
+
+-- a key at the place 1, as it is read
+abbrev pub KeyRead : List ℕ → Key → Type 0
+KeyRead s k = KeyThere s (keyShown 1 k) × (keyIn s (keyShown 1 k) ≡ k)
+
+key-read : (s : List ℕ) → fits keyF s 1 ≡ true → KeyRead s (keyOf (value keyF s 1))
+key-read s e =
+    let f = and-left _ _ e in
+    let l : 1 + 1 + 32 ≤ length s = leb-true _ _ (and-left _ _ f) in
+    let k : length (value nameF s 1) ≤ 32 = rw (text-length 32 s 1 f) (leb-true _ _ (and-left _ _ (and-right _ _ f))) in
+    ((k, omega arith), ap (λ (n : Name). record { collection = n; shard = value u32 s (1 + 1 + 32) }) (text-bytes 32 s 1 f))
+
+module _ (s : List ℕ) where
+  replicate-read : (m : message.Replicated) → message.decodeReplicate s ≡ some m → KeyRead s (m .key)
+  unfolding message.decodeReplicate whole
+  replicate-read m d =
+      let w = whenever-some (whole message.replicateF s) (message.replicateOf (value message.replicateF s 0)) m d in
+      subst (λ (z : message.Replicated). KeyRead s (z .key)) (w .1) (key-read s (and-left _ _ (and-right _ _ (and-left _ _ (w .0)))))
+
+  pub replicate-key : (p : ReplicatePart) → messageOf s ≡ Replicate p → (m : message.Replicated) → message.decodeReplicate s ≡ some m
+      → keyIn s (p .key) ≡ m .key
+  replicate-key p e m d =
+      ap (λ (z : ReplicatePart). keyIn s (z .key)) (replicate-part s p e m d) ∙ replicate-read m d .1
+
+  pub replicate-key-there : (p : ReplicatePart) → messageOf s ≡ Replicate p → KeyThere s (p .key)
+  replicate-key-there p e =
+      let d = replicate-decoded s p e in
+      subst (λ (z : ReplicatePart). KeyThere s (z .key)) (sym (replicate-part s p e (d .read) (d .decoded))) (replicate-read (d .read) (d .decoded) .0)
+
+  -- where `rpc` answered another kind, model's decoder reads none
+  pub replicate-missed : ((p : ReplicatePart) → messageOf s ≡ Replicate p → ⊥) → message.decodeReplicate s ≡ none
+  replicate-missed f = go (message.decodeReplicate s) refl
+    where
+      go : (o : Option message.Replicated) → message.decodeReplicate s ≡ o → o ≡ none
+      go none e = refl
+      go (some m) e = absurd (f (replicatePart m) (replicate-answered s m e))

@@ -1,0 +1,53 @@
+-- What a primary's messages promise at a node: the answer, with paper 01's number and value for each case, and the node after, read with
+-- the store that the call was lent, are those of the definition. Definitions only.
+use Prim.Native.Nat.{ℕ}
+use mathlib.Core.Path.{_≡_}
+use mathlib.Core.Bool.{Bool, true, false}
+use mathlib.Core.List.{List}
+use mathlib.Core.Option.{some}
+use Rattle.model.specs.Keys.{Key}
+use Rattle.model.specs.Refusals.{numberOf}
+use Rattle.model.specs.Layout.Message.{replyStored, replyGap, replyStale, replyAdopted, Replicated, decodeReplicate}
+use Rattle.model.specs.Node.Held as held
+use Rattle.model.specs.Node.Shards.{Result}
+use Rattle.model.specs.Node.Backup.{BackupAnswer, replied, backupRefused}
+use Rattle.model.specs.Node.Calls as calls
+use Rattle.header.specs.declared.Node.{Node}
+use Rattle.header.specs.View.{Stores, viewNode}
+use Rattle.header.specs.Answers.{Told, told}
+use Rattle.peers.specs.declared.PeerReply.{PeerReply}
+use Rattle.peers.specs.declared.PeerReply.the-variants as P
+use Rattle.peers.specs.declared.PeerAnswer.{PeerAnswer}
+use Rattle.peers.specs.Lend.{Lot, lentFor, slotOf, Changes}
+
+-- 'Bytes on the wire', 30 to 33; 'Who is turned down', the number of a refusal
+abbrev pub word : BackupAnswer → PeerReply
+word (replied (replyStored o)) = P.Stored (record { 0 = o })
+word (replied (replyGap o)) = P.Gap (record { 0 = o })
+word (replied (replyStale e)) = P.StaleEpoch (record { 0 = e })
+word (replied (replyAdopted o)) = P.Adopted (record { 0 = o })
+word (backupRefused r) = P.Refused (numberOf r)
+
+-- StaleEpoch and the refusals
+abbrev pub turnedDown : PeerReply → Bool
+turnedDown (P.Stored o) = false
+turnedDown (P.Gap o) = false
+turnedDown (P.StaleEpoch e) = true
+turnedDown (P.Adopted o) = false
+turnedDown (P.Refused r) = true
+
+abbrev pub viewPeer : Stores → PeerAnswer → Told PeerReply
+viewPeer t r = record { answer = r .answer; node = viewNode t (r .node) }
+
+-- a call with the columns a, which leaves b, in a slot of which `lends` says that it is the named shard's: whatever the other stores hold,
+-- they stay, and the lent one becomes the definition's. Turned down, it leaves every place of the columns as it was, the free ones too
+pub record Serves (call : (Key → Bool) → held.Node → Result BackupAnswer held.Node) (lends : ℕ → Type 0) (n : Node) (a b : Lot) (r : PeerAnswer) : Type 0 where
+  pub same : (s t : Stores) (slot : ℕ) → lends slot → Changes s t slot a b → viewPeer t r ≡ told word (call (lentFor s n a) (viewNode s n))
+  pub kept : turnedDown (r .answer) ≡ true → b ≡ a
+
+-- 20: the slot of the shard that the message names
+abbrev pub ReplicateSlot : Node → List ℕ → ℕ → Type 0
+ReplicateSlot n m slot = (v : Replicated) → decodeReplicate m ≡ some v → slot ≡ slotOf n (v .key)
+
+abbrev pub ReplicatesAt : Node → (a b : Lot) → List ℕ → PeerAnswer → Type 0
+ReplicatesAt n a b m r = Serves (λ lent v. calls.replicateWith lent v m) (ReplicateSlot n m) n a b r
