@@ -13,13 +13,14 @@ use Rattle.model.specs.Layout.Parts.{u32, nameF, keyF, keyOf}
 use Rattle.model.specs.Layout.Message as message
 use Rattle.model.proofs.LayoutLaws.Tests.{and-left, and-right}
 use Rattle.model.proofs.LayoutLaws.Data.{whenever-some}
-use Rattle.rpc.specs.Shown.{keyShown, messageOf, replicatePart}
+use Rattle.rpc.specs.Shown.{keyShown, messageOf, replicatePart, copyPart}
 use Rattle.rpc.specs.declared.ReplicatePart.{ReplicatePart}
-use Rattle.rpc.specs.declared.Message.the-variants.{Replicate}
+use Rattle.rpc.specs.declared.CopyPart.{CopyPart}
+use Rattle.rpc.specs.declared.Message.the-variants.{Replicate, CopyShard}
 use Rattle.rpc.proofs.Places.{text-length}
 use Rattle.rpc.proofs.Items.{text-bytes}
-use Rattle.rpc.proofs.Decoded.{replicate-decoded, replicate-answered}
-use Rattle.arrivals.proofs.OfMessages.{replicate-part}
+use Rattle.rpc.proofs.Decoded.{replicate-decoded, replicate-answered, copy-decoded, copy-answered}
+use Rattle.arrivals.proofs.OfMessages.{replicate-part, copy-part}
 use Rattle.peers.specs.Named.{KeyThere, keyIn}
 
 -- a key at the place 1, as it is read
@@ -57,3 +58,25 @@ module _ (s : List ℕ) where
       go : (o : Option message.Replicated) → message.decodeReplicate s ≡ o → o ≡ none
       go none e = refl
       go (some m) e = absurd (f (replicatePart m) (replicate-answered s m e))
+
+module _ (s : List ℕ) where
+  copy-read : (m : message.Copied) → message.decodeCopyShard s ≡ some m → KeyRead s (m .key)
+  unfolding message.decodeCopyShard whole
+  copy-read m d =
+      let w = whenever-some (whole message.copyShardF s) (message.copyShardOf (value message.copyShardF s 0)) m d in
+      subst (λ (z : message.Copied). KeyRead s (z .key)) (w .1) (key-read s (and-left _ _ (and-right _ _ (and-left _ _ (w .0)))))
+
+  pub copy-key : (p : CopyPart) → messageOf s ≡ CopyShard p → (m : message.Copied) → message.decodeCopyShard s ≡ some m → keyIn s (p .key) ≡ m .key
+  copy-key p e m d = ap (λ (z : CopyPart). keyIn s (z .key)) (copy-part s p e m d) ∙ copy-read m d .1
+
+  pub copy-key-there : (p : CopyPart) → messageOf s ≡ CopyShard p → KeyThere s (p .key)
+  copy-key-there p e =
+      let d = copy-decoded s p e in
+      subst (λ (z : CopyPart). KeyThere s (z .key)) (sym (copy-part s p e (d .read) (d .decoded))) (copy-read (d .read) (d .decoded) .0)
+
+  pub copy-missed : ((p : CopyPart) → messageOf s ≡ CopyShard p → ⊥) → message.decodeCopyShard s ≡ none
+  copy-missed f = go (message.decodeCopyShard s) refl
+    where
+      go : (o : Option message.Copied) → message.decodeCopyShard s ≡ o → o ≡ none
+      go none e = refl
+      go (some m) e = absurd (f (copyPart m) (copy-answered s m e))

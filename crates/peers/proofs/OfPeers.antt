@@ -2,29 +2,34 @@
 use Prim.Native.Nat.{ℕ, _<_}
 use native.Mathlib.Omega.{arith}
 use mathlib.Core.Path.{_≡_, refl, sym, ap, subst, _∙_}
-use mathlib.Core.Bool.{Bool, true, false}
-use mathlib.Core.List.{List}
+use mathlib.Core.Bool.{Bool, true, false, cond, not}
+use mathlib.Core.List.{List, map}
 use mathlib.Core.Option.{none, some}
 use lib.ListN.{getD}
+use Rattle.model.specs.Lists.{every}
 use Rattle.model.specs.Keys.{Key}
+use Rattle.model.specs.Refusals.{outsideDomain, malformed}
 use Rattle.model.specs.Layout.Message as message
+use Rattle.model.specs.Layout.Parts.{WireOp, WireEntry}
 use Rattle.model.specs.Node.Held as held
-use Rattle.model.specs.Node.Shards.{Result, gives}
-use Rattle.model.specs.Node.Wire.{opInDomain, storedOp}
-use Rattle.model.specs.Node.Backup.{BackupAnswer, unheld, replicateHeld, onReplicate}
+use Rattle.model.specs.Node.Shards.{Result, gives, atShard}
+use Rattle.model.specs.Node.Wire.{opInDomain, entryInDomain, storedOp, storedEntry}
+use Rattle.model.specs.Node.Backup.{BackupAnswer, backupRefused, unheld, replicateHeld, onReplicate, copyHeld, onCopy}
 use Rattle.model.specs.Node.Calls as calls
 use Rattle.model.proofs.Lists.{not-both}
+use Rattle.node.specs.declared.Held.{Held}
 use Rattle.shard.specs.Store.{Store}
 use Rattle.rpc.specs.Shown.{messageOf}
 use Rattle.rpc.specs.declared.ReplicatePart.{ReplicatePart}
-use Rattle.rpc.specs.declared.Message.the-variants.{Replicate}
-use Rattle.rpc.proofs.Decoded.{Decoded, replicate-decoded}
-use Rattle.arrivals.specs.Parts.{opIn}
-use Rattle.arrivals.proofs.OfMessages.{replicate-op}
+use Rattle.rpc.specs.declared.CopyPart.{CopyPart}
+use Rattle.rpc.specs.declared.Message.the-variants.{Replicate, CopyShard}
+use Rattle.rpc.proofs.Decoded.{Decoded, replicate-decoded, copy-decoded}
+use Rattle.arrivals.specs.Parts.{opIn, entriesIn}
+use Rattle.arrivals.proofs.OfMessages.{replicate-op, copy-entries}
 use Rattle.backup.specs.declared.Answer.{Answer}
 use Rattle.backup.specs.declared.Answer.the-variants as A
 use Rattle.backup.specs.declared.Backed.{Backed}
-use Rattle.backup.specs.Backs.{answered, Backs, Replicates}
+use Rattle.backup.specs.Backs.{answered, Backs, Replicates, CopiesShard}
 use Rattle.backup.specs.Backs as backs
 use Rattle.header.specs.declared.Node.{Node}
 use Rattle.header.specs.View.{Stores, viewNode, noKept}
@@ -37,9 +42,9 @@ use Rattle.peers.specs.declared.PeerAnswer.{PeerAnswer}
 use Rattle.peers.specs.declared.Lent.the-variants as L
 use Rattle.peers.specs.declared.Lent as found
 use Rattle.peers.specs.Named.{keyIn}
-use Rattle.peers.specs.Lend.{Lot, storeIn, storeOf, lentFor, Absents, Found, Finds, withStore}
-use Rattle.peers.specs.Peers.{word, turnedDown, Serves, ReplicateSlot, ReplicatesAt}
-use Rattle.peers.proofs.OfNamed.{replicate-key}
+use Rattle.peers.specs.Lend.{Lot, storeIn, storeOf, lentFor, slotOf, Finds, Found, withStore}
+use Rattle.peers.specs.Peers.{word, turnedDown, Serves, ReplicateSlot, ReplicatesAt, CopySlot, CopiesAt}
+use Rattle.peers.proofs.OfNamed.{replicate-key, copy-key}
 use Rattle.peers.proofs.OfLend.{slot-held, call-store, node-view}
 
 -- the lent store and the header stay
@@ -63,87 +68,125 @@ turned-as A.NoRoom e = refl
 abbrev lotOf : Store → Lot
 lotOf s = record { columns = s .columns; keys = s .keys; places = s .places }
 
--- ---- Replicate
+-- ---- a message that was read: 22 unless `fine`, 24 unless the lent state passes, then `does` at the shard of the key
 
-module _ (n : Node) (a : Lot) (m : List ℕ) where
-  pub replicate-undecoded : message.decodeReplicate m ≡ none → ReplicatesAt n a a m (record { answer = P.Refused 21; node = n })
-  unfolding calls.replicateWith
-  replicate-undecoded d = unchanged (λ lent v. calls.replicateWith lent v m) (ReplicateSlot n m) n a (P.Refused 21) (λ s. rw d)
+abbrev atOf : (Key → Bool) → held.Node → Key → Bool → (held.Held → Result BackupAnswer held.Held) → Result BackupAnswer held.Node
+atOf lent v k fine does =
+    cond (not fine) (gives (backupRefused outsideDomain) v)
+    (cond (not (lent k)) (gives (backupRefused malformed) v) (atShard v k unheld does))
 
-  module _ (v : message.Replicated) (d : message.decodeReplicate m ≡ some v) where
-    pub replicate-outside : opInDomain (v .op) ≡ false → ReplicatesAt n a a m (record { answer = P.Refused 22; node = n })
-    unfolding calls.replicateWith
-    replicate-outside o = unchanged (λ lent v. calls.replicateWith lent v m) (ReplicateSlot n m) n a (P.Refused 22) (λ s. rw d (rw o))
+pub record Reading (call : (Key → Bool) → held.Node → Result BackupAnswer held.Node) (lends : ℕ → Type 0) (n : Node)
+    (key : Key) (fine : Bool) (does : held.Held → Result BackupAnswer held.Held) : Type 0 where
+  pub shape : (lent : Key → Bool) (v : held.Node) → call lent v ≡ atOf lent v key fine does
+  pub slot : (i : ℕ) → lends i → i ≡ slotOf n key
 
-    module _ (o : opInDomain (v .op) ≡ true) where
-      pub replicate-malformed : ((s : Stores) → lentFor s n a (v .key) ≡ false) → ReplicatesAt n a a m (record { answer = P.Refused 24; node = n })
-      unfolding calls.replicateWith
-      replicate-malformed e = unchanged (λ lent v. calls.replicateWith lent v m) (ReplicateSlot n m) n a (P.Refused 24) (λ s. rw d (rw o (rw (e s))))
+module _ (call : (Key → Bool) → held.Node → Result BackupAnswer held.Node) (lends : ℕ → Type 0) (n : Node) (a : Lot)
+    (key : Key) (fine : Bool) (does : held.Held → Result BackupAnswer held.Held) (z : Reading call lends n key fine does) where
+  pub outside : (b : Bool) → b ≡ fine → b ≡ false → Serves call lends n a a (record { answer = P.Refused 22; node = n })
+  outside b q e = unchanged call lends n a (P.Refused 22) (λ s. rw (z .shape (lentFor s n a) (viewNode s n)) (rw (← q) (rw e)))
 
-      abbrev call : held.Held → Result BackupAnswer held.Held
-      call = replicateHeld (v .epoch) (v .offset) (storedOp (v .op))
+  module _ (b : Bool) (q : b ≡ fine) (passed : b ≡ true) (k : Key) (named : k ≡ key) (f : found.Lent) (finds : Finds n k a f) where
+    fits : fine ≡ true
+    fits = sym q ∙ passed
 
-      pub replicate-absent : Absents n (v .key) a → ReplicatesAt n a a m (record { answer = P.StaleEpoch (record { 0 = 0 }); node = n })
-      unfolding calls.replicateWith onReplicate
-      replicate-absent f =
-          unchanged (λ lent v. calls.replicateWith lent v m) (ReplicateSlot n m) n a (P.StaleEpoch (record { 0 = 0 }))
-          (λ s. rw d (rw o (rw (f .lent s) (ap (told word) (call-absent s n (v .key) (f .inside) _ refl unheld call (f .gone))))))
+    finds-key : Finds n key a f
+    finds-key = subst (λ (x : Key). Finds n x a f) named finds
 
-      pub replicate-found : (at : ℕ) → Found n (v .key) a at → (b : Lot) (r : Backed)
-          → Replicates m (getD (n .held) at noKept .held) (storeOf a (getD (n .held) at noKept)) (storeIn b (r .held .last) (r .stored)) r
+    pub unfit : f ≡ L.Malformed → Serves call lends n a a (record { answer = P.Refused 24; node = n })
+    unfit e =
+        let bad = subst (Finds n key a) e finds-key in
+        unchanged call lends n a (P.Refused 24) (λ s. rw (z .shape (lentFor s n a) (viewNode s n)) (rw fits (rw (bad s))))
+
+    pub gone : f ≡ L.Absent → Serves call lends n a a (record { answer = P.StaleEpoch (record { 0 = 0 }); node = n })
+    gone e =
+        let g = subst (Finds n key a) e finds-key in
+        unchanged call lends n a (P.StaleEpoch (record { 0 = 0 }))
+        (λ s. rw (z .shape (lentFor s n a) (viewNode s n)) (rw fits (rw (g .lent s) (ap (told word) (call-absent s n key (g .inside) _ refl unheld does (g .gone))))))
+
+    module _ (at : ℕ) (e : f ≡ L.At at) where
+      found-key : Found n key a at
+      found-key = subst (Finds n key a) e finds-key
+
+      pub found-at : Found n k a at
+      found-at = subst (Finds n k a) e finds
+
+      pub found-few : at < 8
+      found-few =
+          let g = found-at in
+          let few = header-few n (g .formed) in
+          let under = g .under in
+          omega arith
+
+      pub served : (b : Lot) (r : Backed)
+          → Backs does (getD (n .held) at noKept .held) (storeOf a (getD (n .held) at noKept)) (storeIn b (r .held .last) (r .stored)) r
           → (w : PeerReply) → w ≡ word (answered (r .answer)) → (p : Node) → p ≡ withStore n at (r .held) (r .stored)
-          → ReplicatesAt n a b m (record { answer = w; node = p })
-      unfolding calls.replicateWith onReplicate
-      replicate-found at f b r z w e p q =
-          let k = z v d in
+          → Serves call lends n a b (record { answer = w; node = p })
+      served b r d w o p q′ =
+          let g = found-key in
           record {
             same = λ s t slot l c.
-                rw d (rw o (rw (f .lent s)
-                (ap (λ (x : PeerReply). record { answer = x; node = viewNode t p }) e
-                ∙ ap (λ (x : Node). record { answer = word (answered (r .answer)); node = viewNode t x }) q
+                rw (z .shape (lentFor s n a) (viewNode s n)) (rw fits (rw (g .lent s)
+                (ap (λ (x : PeerReply). record { answer = x; node = viewNode t p }) o
+                ∙ ap (λ (x : Node). record { answer = word (answered (r .answer)); node = viewNode t x }) q′
                 ∙ ap (told word)
-                (call-store s t slot a b c n (v .key) at (f .is) (f .inside) (f .under) (f .formed) (sym (l v d ∙ slot-held n (v .key) at (f .is) (f .under)))
-                unheld call (answered (r .answer)) (r .held) (r .stored) (k .same _)))));
-            kept = λ y. ap lotOf (k .kept (turned-as (r .answer) (sym (ap turnedDown e) ∙ y)) .0);
+                (call-store s t slot a b c n key at (g .is) (g .inside) (g .under) (g .formed) (sym (z .slot slot l ∙ slot-held n key at (g .is) (g .under)))
+                unheld does (answered (r .answer)) (r .held) (r .stored) (d .same _)))));
+            kept = λ y. ap lotOf (d .kept (turned-as (r .answer) (sym (ap turnedDown o) ∙ y)) .0);
           }
 
--- .. by what `rpc` answered, and what the tests did
-module _ (n : Node) (a : Lot) (m : List ℕ) (p : ReplicatePart) (i : messageOf m ≡ Replicate p) (fine : Bool) (tested : fine ≡ opInDomain (opIn m (p .op))) where
-  abbrev v : message.Replicated
-  v = replicate-decoded m p i .read
+-- ---- Replicate
 
-  abbrev d : message.decodeReplicate m ≡ some v
-  d = replicate-decoded m p i .decoded
+module _ (n : Node) (m : List ℕ) where
+  pub replicate-undecoded : (a : Lot) → message.decodeReplicate m ≡ none → ReplicatesAt n a a m (record { answer = P.Refused 21; node = n })
+  unfolding calls.replicateWith
+  replicate-undecoded a d = unchanged (λ lent v. calls.replicateWith lent v m) (ReplicateSlot n m) n a (P.Refused 21) (λ s. rw d)
 
-  inside : fine ≡ opInDomain (v .op)
-  inside = tested ∙ ap opInDomain (replicate-op m p i v d)
+  module _ (p : ReplicatePart) (i : messageOf m ≡ Replicate p) where
+    abbrev r : message.Replicated
+    r = replicate-decoded m p i .read
 
-  pub replicate-22 : fine ≡ false → ReplicatesAt n a a m (record { answer = P.Refused 22; node = n })
-  replicate-22 e = replicate-outside n a m v d (sym inside ∙ e)
+    pub replicate-reads : Reading (λ lent v. calls.replicateWith lent v m) (ReplicateSlot n m) n (keyIn m (p .key)) (opInDomain (opIn m (p .op)))
+        (replicateHeld (r .epoch) (r .offset) (storedOp (r .op)))
+    unfolding calls.replicateWith onReplicate
+    replicate-reads =
+        let d : message.decodeReplicate m ≡ some r = replicate-decoded m p i .decoded in
+        let does = replicateHeld (r .epoch) (r .offset) (storedOp (r .op)) in
+        record {
+          shape = λ lent v.
+              rw d
+              (ap (λ (o : WireOp). atOf lent v (r .key) (opInDomain o) does) (sym (replicate-op m p i r d))
+              ∙ ap (λ (k : Key). atOf lent v k (opInDomain (opIn m (p .op))) does) (sym (replicate-key m p i r d)));
+          slot = λ j l. l r d ∙ ap (slotOf n) (sym (replicate-key m p i r d));
+        }
 
-  module _ (passed : fine ≡ true) (k : Key) (named : k ≡ keyIn m (p .key)) (f : found.Lent) (finds : Finds n k a f) where
-    key : k ≡ v .key
-    key = named ∙ replicate-key m p i v d
+    pub replicate-backs : (h : Held) (s t : Store) (b : Backed) → Replicates m h s t b → Backs (replicateHeld (r .epoch) (r .offset) (storedOp (r .op))) h s t b
+    replicate-backs h s t b d = d r (replicate-decoded m p i .decoded)
 
-    pub replicate-24 : f ≡ L.Malformed → ReplicatesAt n a a m (record { answer = P.Refused 24; node = n })
-    replicate-24 e =
-        replicate-malformed n a m v d (sym inside ∙ passed) (λ s. subst (λ (x : Key). lentFor s n a x ≡ false) key (subst (Finds n k a) e finds s))
+-- ---- CopyShard
 
-    pub replicate-gone : f ≡ L.Absent → ReplicatesAt n a a m (record { answer = P.StaleEpoch (record { 0 = 0 }); node = n })
-    replicate-gone e = replicate-absent n a m v d (sym inside ∙ passed) (subst (λ (x : Key). Absents n x a) key (subst (Finds n k a) e finds))
+module _ (n : Node) (m : List ℕ) where
+  pub copy-undecoded : (a : Lot) → message.decodeCopyShard m ≡ none → CopiesAt n a a m (record { answer = P.Refused 21; node = n })
+  unfolding calls.copyWith
+  copy-undecoded a d = unchanged (λ lent v. calls.copyWith lent v m) (CopySlot n m) n a (P.Refused 21) (λ s. rw d)
 
-    pub replicate-at : (at : ℕ) → f ≡ L.At at → (b : Lot) (r : Backed)
-        → Replicates m (getD (n .held) at noKept .held) (storeOf a (getD (n .held) at noKept)) (storeIn b (r .held .last) (r .stored)) r
-        → (w : PeerReply) → w ≡ word (answered (r .answer)) → (q : Node) → q ≡ withStore n at (r .held) (r .stored)
-        → ReplicatesAt n a b m (record { answer = w; node = q })
-    replicate-at at e = replicate-found n a m v d (sym inside ∙ passed) at (subst (λ (x : Key). Found n x a at) key (subst (Finds n k a) e finds))
+  module _ (p : CopyPart) (i : messageOf m ≡ CopyShard p) where
+    abbrev copied : message.Copied
+    copied = copy-decoded m p i .read
 
-    pub found-at : (at : ℕ) → f ≡ L.At at → Found n k a at
-    found-at at e = subst (Finds n k a) e finds
+    pub copy-reads : Reading (λ lent v. calls.copyWith lent v m) (CopySlot n m) n (keyIn m (p .key)) (every entryInDomain (entriesIn m (p .entries)))
+        (copyHeld (copied .epoch) (map storedEntry (copied .entries)))
+    unfolding calls.copyWith onCopy
+    copy-reads =
+        let d : message.decodeCopyShard m ≡ some copied = copy-decoded m p i .decoded in
+        let does = copyHeld (copied .epoch) (map storedEntry (copied .entries)) in
+        record {
+          shape = λ lent v.
+              rw d
+              (ap (λ (o : List WireEntry). atOf lent v (copied .key) (every entryInDomain o) does) (sym (copy-entries m p i copied d))
+              ∙ ap (λ (k : Key). atOf lent v k (every entryInDomain (entriesIn m (p .entries))) does) (sym (copy-key m p i copied d)));
+          slot = λ j l. l copied d ∙ ap (slotOf n) (sym (copy-key m p i copied d));
+        }
 
-    pub found-few : (at : ℕ) → f ≡ L.At at → at < 8
-    found-few at e =
-        let z = found-at at e in
-        let few = header-few n (z .formed) in
-        let under = z .under in
-        omega arith
+    pub copy-backs : (h : Held) (s t : Store) (b : Backed) → CopiesShard m h s t b
+        → Backs (copyHeld (copied .epoch) (map storedEntry (copied .entries))) h s t b
+    copy-backs h s t b d = d copied (copy-decoded m p i .decoded)

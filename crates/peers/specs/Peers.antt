@@ -7,7 +7,7 @@ use mathlib.Core.List.{List}
 use mathlib.Core.Option.{some}
 use Rattle.model.specs.Keys.{Key}
 use Rattle.model.specs.Refusals.{numberOf}
-use Rattle.model.specs.Layout.Message.{replyStored, replyGap, replyStale, replyAdopted, Replicated, decodeReplicate}
+use Rattle.model.specs.Layout.Message.{replyStored, replyGap, replyStale, replyAdopted, Replicated, decodeReplicate, Copied, decodeCopyShard}
 use Rattle.model.specs.Node.Held as held
 use Rattle.model.specs.Node.Shards.{Result}
 use Rattle.model.specs.Node.Backup.{BackupAnswer, replied, backupRefused}
@@ -51,3 +51,10 @@ ReplicateSlot n m slot = (v : Replicated) → decodeReplicate m ≡ some v → s
 
 abbrev pub ReplicatesAt : Node → (a b : Lot) → List ℕ → PeerAnswer → Type 0
 ReplicatesAt n a b m r = Serves (λ lent v. calls.replicateWith lent v m) (ReplicateSlot n m) n a b r
+
+-- 22
+abbrev pub CopySlot : Node → List ℕ → ℕ → Type 0
+CopySlot n m slot = (v : Copied) → decodeCopyShard m ≡ some v → slot ≡ slotOf n (v .key)
+
+abbrev pub CopiesAt : Node → (a b : Lot) → List ℕ → PeerAnswer → Type 0
+CopiesAt n a b m r = Serves (λ lent v. calls.copyWith lent v m) (CopySlot n m) n a b r

@@ -9,6 +9,7 @@ use header::Node;
 use model::Epoch;
 use model::Offset;
 
+pub mod copy;
 pub mod named;
 pub mod replicate;
 pub mod tested;
