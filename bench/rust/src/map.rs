@@ -1,7 +1,7 @@
-//! The shard map: requests applied from an empty map, decoding included, at several fillings.
+//! The shard map: commands on maps from nearly empty to full, decoding included.
 
-use generate::maps;
-use wire::Message;
+use controlplane::state::StateMachine;
+use wire::{Change, Command, Key, Message, Request, Spec};
 
 use crate::measure;
 
@@ -11,25 +11,21 @@ unsafe extern "C" {
 }
 
 /// Requests behind their lengths, as the engine's benchmark reads them.
-fn stream(records: &[Vec<u8>]) -> Vec<u8> {
-    let mut out = Vec::new();
-    for record in records {
-        out.extend((record.len() as u16).to_le_bytes());
-        out.extend(record);
-    }
-    out
+fn stream(requests: &[Vec<u8>]) -> Vec<u8> {
+    let record = |r: &Vec<u8>| [(r.len() as u16).to_le_bytes().to_vec(), r.clone()].concat();
+    requests.iter().flat_map(record).collect()
 }
 
 fn engine(s: &[u8]) -> u64 {
     unsafe { engine_apply(s.as_ptr(), s.len()) }
 }
 
-/// The same stream through the unchanged Rust, read by the oracle's reader.
-fn peer(records: &[Vec<u8>]) -> u64 {
-    let mut machine = controlplane::state::StateMachine::default();
-    for record in records {
-        let Some(Message::Request(request)) = wire::read(record) else {
-            continue;
+/// The same requests through the unchanged Rust, read by the oracle's reader.
+fn peer(requests: &[Vec<u8>]) -> u64 {
+    let mut machine = StateMachine::default();
+    for bytes in requests {
+        let Some(Message::Request(request)) = wire::read(bytes) else {
+            unreachable!()
         };
         let index = request.index;
         let request = rpc::Request {
@@ -42,37 +38,130 @@ fn peer(records: &[Vec<u8>]) -> u64 {
     machine.map().version
 }
 
-pub fn apply() {
-    measure::head("Apply, a request, decoding and the test of the lent map included");
-    for (name, records) in fillings() {
-        let s = stream(&records);
-        assert_eq!(engine(&s), peer(&records), "the versions after a stream");
-        let row = measure::row(
-            name,
-            records.len() as f64,
-            &mut || {
-                std::hint::black_box(engine(&s));
-            },
-            &mut || {
-                std::hint::black_box(peer(&records));
-            },
-        );
-        measure::print(&row);
-        let times = 200;
-        let test = measure::alone(times as f64, &mut || {
-            std::hint::black_box(unsafe { engine_map_test(s.as_ptr(), s.len(), times) });
-        });
-        println!("| the test alone, of the map it leads to | {test:.0} | | | |");
+/// How far a map is filled.
+struct Filling {
+    nodes: u64,
+    collections: u64,
+    shards: u32,
+    replicas: u64,
+    clients: u64,
+}
+
+struct Requests {
+    all: Vec<Vec<u8>>,
+}
+
+impl Requests {
+    fn put(&mut self, client: u64, command: Command) {
+        let index = self.all.len() as u64 + 1;
+        let (seq, message) = (index, Message::Request);
+        let request = Request {
+            index,
+            client,
+            seq,
+            command,
+        };
+        self.all.push(wire::write(&message(request)));
+    }
+
+    fn fill(&mut self, f: &Filling) {
+        for node in 1..=f.nodes {
+            let address = format!("projector-{node}.dome:7000").into_bytes();
+            let command = Command::Register {
+                node,
+                address,
+                incarnation: 1,
+            };
+            self.put(1 + node % f.clients, command);
+        }
+        for n in 0..f.collections {
+            let list: Vec<u64> = (0..f.replicas).map(|r| 1 + (n + r) % f.nodes).collect();
+            let spec = Spec {
+                dimension: 32,
+                metric: 0,
+                shards: f.shards,
+                replication: f.replicas as u32,
+            };
+            let command = Command::Create {
+                name: format!("catalogue-{n:02}").into_bytes(),
+                spec,
+                placement: vec![list; f.shards as usize],
+            };
+            self.put(1 + n % f.clients, command);
+        }
+        for client in 1..=f.clients {
+            self.put(client, Command::Bench { bytes: vec![0; 16] });
+        }
+    }
+
+    /// A member shrunk out and expanded in again, so many times.
+    fn change(&mut self, times: usize) {
+        for n in 0..times {
+            let change = Change {
+                key: Key {
+                    name: b"catalogue-00".to_vec(),
+                    shard: 0,
+                },
+                node: 2,
+                epoch: 1,
+            };
+            let command = match n % 2 {
+                0 => Command::Shrink(change),
+                _ => Command::Expand(change),
+            };
+            self.put(1, command);
+        }
     }
 }
 
-/// Streams that leave the map nearly empty, half full and full.
-fn fillings() -> Vec<(&'static str, Vec<Vec<u8>>)> {
-    vec![
-        ("200 random requests", maps::random(21, 200).records),
-        (
-            "400 requests of many clients on a crowded map",
-            maps::crowded(22, 400).records,
-        ),
-    ]
+const CHANGES: usize = 400;
+
+pub fn apply() {
+    measure::head("Apply, one Shrink or Expand: decoding and the test of the lent map included");
+    for (name, nodes, collections, shards, replicas, clients) in [
+        ("2 nodes, 1 shard, 1 client", 2, 1, 1, 2, 1),
+        ("8 nodes, 16 shards of 3, 16 clients", 8, 4, 4, 3, 16),
+        ("32 nodes, 64 shards of 8, 64 clients", 32, 16, 4, 8, 64),
+    ] {
+        let mut requests = Requests { all: vec![] };
+        requests.fill(&Filling {
+            nodes,
+            collections,
+            shards,
+            replicas,
+            clients,
+        });
+        let start = requests.all.clone();
+        requests.change(CHANGES);
+        one(name, &start, &requests.all);
+    }
+}
+
+/// The time of the changes: that of all requests without that of the first ones.
+fn one(name: &str, start: &[Vec<u8>], all: &[Vec<u8>]) {
+    let (s, first) = (stream(all), stream(start));
+    assert_eq!(engine(&s), peer(all), "the versions after a stream");
+    assert_eq!(engine(&s), all.len() as u64, "the last change was applied");
+    let black = |n: u64| {
+        std::hint::black_box(n);
+    };
+    let whole = measure::row(name, 1.0, &mut || black(engine(&s)), &mut || {
+        black(peer(all))
+    });
+    let begun = measure::row(name, 1.0, &mut || black(engine(&first)), &mut || {
+        black(peer(start))
+    });
+    let each = CHANGES as f64;
+    let ours = (whole.engine - begun.engine) / each;
+    let theirs = (whole.peer - begun.peer) / each;
+    let [low, _, high] = whole.ratio;
+    println!(
+        "| {name} | {ours:.0} | {theirs:.0} | {:.2} | {low:.2} to {high:.2} |",
+        theirs / ours
+    );
+    let times = 20_000;
+    let test = measure::alone(times as f64, &mut || {
+        black(unsafe { engine_map_test(first.as_ptr(), first.len(), times) });
+    });
+    println!("| the test of that map alone | {test:.0} | | | |");
 }

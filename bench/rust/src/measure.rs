@@ -1,10 +1,30 @@
-//! Two ways to do the same thing, timed in turns in one run.
-
-use std::time::{Duration, Instant};
+//! Two ways to do the same thing, timed in turns in one run by the thread's own processor time, so
+//! that other work on the machine counts little.
 
 const WARM_UP: usize = 20;
 const TURNS: usize = 201;
-const TURN: Duration = Duration::from_micros(400);
+const TURN: u64 = 400_000;
+
+#[repr(C)]
+struct Time {
+    seconds: i64,
+    nanoseconds: i64,
+}
+
+unsafe extern "C" {
+    fn clock_gettime(clock: i32, time: *mut Time) -> i32;
+}
+
+/// Nanoseconds of processor time that this thread has used.
+fn now() -> u64 {
+    const THREAD: i32 = 3;
+    let mut time = Time {
+        seconds: 0,
+        nanoseconds: 0,
+    };
+    assert_eq!(unsafe { clock_gettime(THREAD, &mut time) }, 0);
+    time.seconds as u64 * 1_000_000_000 + time.nanoseconds as u64
+}
 
 /// What a row of the table says: nanoseconds for one call, and peer over engine.
 pub struct Row {
@@ -16,9 +36,9 @@ pub struct Row {
 
 /// How many calls fill a turn.
 fn calls(call: &mut dyn FnMut()) -> usize {
-    let start = Instant::now();
+    let start = now();
     let mut n = 0;
-    while start.elapsed() < TURN {
+    while now() - start < TURN {
         call();
         n += 1;
     }
@@ -26,11 +46,11 @@ fn calls(call: &mut dyn FnMut()) -> usize {
 }
 
 fn turn(call: &mut dyn FnMut(), calls: usize) -> f64 {
-    let start = Instant::now();
+    let start = now();
     for _ in 0..calls {
         call();
     }
-    start.elapsed().as_nanos() as f64 / calls as f64
+    (now() - start) as f64 / calls as f64
 }
 
 fn sorted(mut times: Vec<f64>) -> Vec<f64> {

@@ -28,7 +28,18 @@ pub extern "C" fn engine_store_test(
     count: usize,
     stored: usize,
 ) -> bool {
-    lent_fits(epochs, offsets, ids, codes, lengths, floats, keys, places, count, stored)
+    lent_fits(
+        epochs,
+        offsets,
+        ids,
+        codes,
+        lengths,
+        floats,
+        keys,
+        places,
+        count,
+        stored,
+    )
 }
 
 // How many neighbours were found, or a number from 2,000 on for a refusal.
