@@ -9,6 +9,7 @@ pub mod adopts;
 pub mod appends;
 pub mod arrives;
 pub mod fits;
+pub mod reads;
 pub mod searches;
 
 // What a call answers: shard.rs's own answers with their values, or the number of a refusal.
