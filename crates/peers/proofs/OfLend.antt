@@ -7,7 +7,7 @@ use native.Mathlib.Omega.{arith}
 use lib.Dec.{eqb, leb, ltb}
 use lib.ListN.{length, getD, take, set}
 use lib.Seq.{take-set-lt, length-take-le, getD-take}
-use borrow.Author.Tests.{eqb-true, eqb-false, lt-ltb, le-ltb, le-leb, lt-leb, not-true}
+use borrow.Author.Tests.{eqb-true, eqb-false, eq-eqb, lt-ltb, le-ltb, le-leb, lt-leb, not-true}
 use Rattle.model.specs.Lists.{_and_, any, lead}
 use Rattle.model.specs.Limits.{maxHeld}
 use Rattle.model.specs.Keys.{Key}
@@ -15,15 +15,16 @@ use Rattle.model.specs.Log.{Log, Vectors}
 use Rattle.model.specs.Map.Apply.{update}
 use Rattle.model.specs.Node.Held as held
 use Rattle.model.specs.Node.Shards.{Result, gives, ofKey, withHeld, atShard}
-use Rattle.model.proofs.Lists.{and-true, and-left, and-right, not-both}
+use Rattle.model.proofs.Lists.{by-test, and-true, and-left, and-right, not-both}
 use Rattle.model.proofs.Node.Shards.{at-held}
 use Rattle.node.specs.declared.Held.{Held}
 use Rattle.node.specs.View.{viewHeld}
 use Rattle.state.specs.Names.{viewKey}
 use Rattle.state.proofs.Tables.{update-at, map-set, used-size, used-row}
 use Rattle.shard.specs.View.{logOf}
-use Rattle.shard.specs.Table.{rowsOf, vectorsOf}
+use Rattle.shard.specs.Table.{zipped, rowsOf, vectorsOf}
 use Rattle.shard.specs.Store.{Sized, wellFormedStore}
+use Rattle.shard.proofs.Columns.{log-length}
 use Rattle.writes.specs.Writes.{viewStored}
 use Rattle.header.specs.declared.Kept.{Kept}
 use Rattle.header.specs.declared.Node.{Node}
@@ -242,3 +243,30 @@ module _ (s t : Stores) (slot : ℕ) (a : Lot) (c : Changes s t slot a a) where
 
   pub node-view : (n : Node) → viewNode t n ≡ viewNode s n
   node-view n = ap (withHeld (viewNode s n)) (kepts-view (used n))
+
+-- ---- the promises are of families that there are: any, with the lent columns in a slot
+
+bare-lot : (l : Log) (ks ps : List ℕ) → vectorsOf l (rowsOf ks ps 0) ≡ []
+unfolding rowsOf vectorsOf zipped
+bare-lot l ks ps = refl
+
+pub holding : Stores → ℕ → Lot → Stores
+holding s slot a = record {
+  log = λ i last. cond (eqb i slot) (logOf (a .columns) last) (s .log i last);
+  vectors = λ i last stored. cond (eqb i slot) (vectorsOf (logOf (a .columns) last) (rowsOf (a .keys) (a .places) stored)) (s .vectors i last stored);
+  long = λ i last. by-test (λ (l : Log). length l ≡ last) (eqb i slot) {x = logOf (a .columns) last} {y = s .log i last} (λ e. log-length (a .columns) last) (λ e. s .long i last);
+  bare = λ i.
+      by-test (λ (v : Vectors). v ≡ []) (eqb i slot) {x = vectorsOf (logOf (a .columns) 0) (rowsOf (a .keys) (a .places) 0)} {y = s .vectors i 0 0}
+      (λ e. bare-lot (logOf (a .columns) 0) (a .keys) (a .places)) (λ e. s .bare i);
+}
+
+pub holding-changes : (s : Stores) (slot : ℕ) (a b : Lot) → Changes (holding s slot a) (holding s slot b) slot a b
+unfolding holding
+holding-changes s slot a b =
+    let q : eqb slot slot ≡ true = eq-eqb slot slot refl in
+    record {
+      before = record { log = λ last. rw q; vectors = λ last stored. rw q };
+      after = record { log = λ last. rw q; vectors = λ last stored. rw q };
+      log = λ i e last. rw e;
+      vectors = λ i e last stored. rw e;
+    }
