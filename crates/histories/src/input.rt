@@ -1,0 +1,84 @@
+// What a record is made of (paper 01, 'Bytes on the wire').
+
+use ieee::order::bits_in_domain;
+use rpc::Part;
+
+// The first n bytes, or all where there are fewer.
+pub fn first<'a>(s: &'a [u8], n: usize) -> &'a [u8] {
+    if s.len() < n {
+        return s;
+    }
+    &s[..n]
+}
+
+// The first n floats, or all where there are fewer.
+pub fn first_floats<'a>(s: &'a [f32], n: usize) -> &'a [f32] {
+    if s.len() < n {
+        return s;
+    }
+    &s[..n]
+}
+
+// The two bytes at a place as a number; 0 where they are not there.
+pub fn two(s: &[u8], at: usize) -> usize {
+    if s.len() < 2 {
+        return 0;
+    }
+    if s.len() - 2 < at {
+        return 0;
+    }
+    num::get2(s, at) as usize
+}
+
+// The first eight bytes as a number; 0 where there are fewer.
+pub fn long(s: &[u8]) -> u64 {
+    if s.len() < 8 {
+        return 0;
+    }
+    num::get8(s, 0)
+}
+
+// The bits of component i of a vector; 0 where they are not there.
+fn component(s: &[u8], at: usize, i: usize) -> u32 {
+    if 32 <= i {
+        return 0;
+    }
+    if 65536 < at {
+        return 0;
+    }
+    let from = at + 4 * i;
+    if s.len() < 4 {
+        return 0;
+    }
+    if s.len() - 4 < from {
+        return 0;
+    }
+    num::get4(s, from)
+}
+
+// A float of the domain; 0 for the bits of any other.
+fn float_of(b: u32) -> f32 {
+    if !bits_in_domain(b) {
+        return 0.0;
+    }
+    f32::from_bits(b)
+}
+
+// The floats of a message's vector; whether all of them lie in the domain.
+pub fn floats_of(s: &[u8], v: Part, out: &mut [f32]) -> bool {
+    let at = v.at;
+    let n = v.len;
+    let mut i: usize = 0;
+    while i < n {
+        if out.len() <= i {
+            return false;
+        }
+        let b = component(s, at, i);
+        if !bits_in_domain(b) {
+            return false;
+        }
+        out[i] = float_of(b);
+        i += 1;
+    }
+    true
+}
