@@ -21,7 +21,7 @@ ack-requires : tie.Need-ack-requires
 ack-requires c κs = search needs
 
 returns-2 : tie.Need-returns-2
-returns-2 c = let a = c .before .before .before .before .before .before .args in ack-read (a .n) (viewKey (a .key)) (a .epoch .0) (a .peer .0) (a .sent) (a .reply .now) _ (sym (c .before .before .before .before .reply-of .ensures) ∙ c .before .before .h .given .1) (c .ack .result) (c .ack .ensures)
+returns-2 c = let a = c .before .before .before .before .before .before .args in ack-read (a .n) (viewKey (a .key)) (a .epoch .0) (a .peer .0) (a .sent) (a .reply .now) _ (sym (c .before .before .before .before .reply-of .ensures) ∙ c .before .before .h .given .1) (c .ack .result) (c .ack .ensures .0)
 
 pub ack-spec : {M : Type 1} → statement M
 ack-spec =
