@@ -5,8 +5,10 @@ BENCH_LIBS := benchshard benchmap
 
 .PHONY: bench
 bench: oracle-ready ## the engine and the unchanged Rust on the same input, as ratios from one run
+	@mkdir -p $(BENCH_RUST)
 	@for lib in $(BENCH_LIBS); do rt staticlib $$lib >$(BENCH_RUST).log 2>&1 || { cat $(BENCH_RUST).log; exit 1; }; done
-	@cd bench/rust && CARGO_TARGET_DIR=$(CURDIR)/$(BENCH_RUST) RUSTFLAGS="-C target-cpu=x86-64 -C link-arg=-Wl,--allow-multiple-definition \
+	@touch bench/rust/src/main.rs # cargo does not see that a library changed
+	@cd bench/rust && CARGO_TARGET_DIR=$(CURDIR)/$(BENCH_RUST) RUSTFLAGS="-C link-arg=-Wl,--allow-multiple-definition \
 	    -L $(CURDIR)/target/staticlib $(BENCH_LIBS:%=-l static=%)" cargo build --release --offline --quiet
 	@echo "$$(nproc) cores, $$(sed -n 's/^model name.*: //p' /proc/cpuinfo | head -n 1)"
 	@$(BENCH_RUST)/release/beside $(PARTS)
