@@ -38,7 +38,7 @@ fn after(last: usize, offset: Offset) -> usize
 }
 
 // How many entries the log has after a batch, by the offsets alone: those already held and those behind a gap add nothing.
-pub fn grows_to(s: &[u8], p: Part, count: usize) -> usize
+fn grows_to(s: &[u8], p: Part, count: usize) -> usize
     requires { ⌜ (EntriesThere (now s) p) × (count ≤ 1024) ⌝ }
     ensures { λ r. ⌜ GrowsTo (entriesIn (now (s .entry)) p) count r ⌝ }
 {
@@ -57,7 +57,7 @@ pub fn grows_to(s: &[u8], p: Part, count: usize) -> usize
 }
 
 // The entries of a batch at the own epoch, one after the other; there is room for them.
-pub fn store_all(
+fn store_all(
     epochs: &mut [u64],
     offsets: &mut [u64],
     ids: &mut [u64],

@@ -13,7 +13,7 @@ use rpc::parts::component;
 use rpc::parts::entry_at;
 
 // Whether every component lies in the domain: no early exit, so that several are tested at a time.
-pub fn vector_in_domain(s: &[u8], v: Part) -> bool
+fn vector_in_domain(s: &[u8], v: Part) -> bool
     requires { ⌜ v .at + v .len * 4 ≤ length (now s) ⌝ }
     ensures { λ r. ⌜ r ≡ vectorInDomain (bitsIn (now (s .entry)) v) ⌝ }
 {

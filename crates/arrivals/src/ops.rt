@@ -17,7 +17,7 @@ pub struct OpRead {
 }
 
 // The bits of a vector's components, into the first places of a column; its other places are free.
-pub fn read_bits(s: &[u8], v: Part, out: &mut [u32])
+fn read_bits(s: &[u8], v: Part, out: &mut [u32])
     requires { ⌜ (v .at + v .len * 4 ≤ length (now s)) × (v .len ≤ length (now out)) ⌝ }
     ensures { λ _. ⌜ (length (now (out .exit)) ≡ length (now (out .entry))) × (take (v .len) (now (out .exit)) ≡ bitsIn (now (s .entry)) v) ⌝ }
 {

@@ -15,7 +15,7 @@ use shard::replica::Adopted;
 use shard::replica::adopt;
 
 // The pairs of a table, into two columns of 1,024; their other places are free.
-pub fn read_table(s: &[u8], p: Part, froms: &mut [u64], ends: &mut [u64])
+fn read_table(s: &[u8], p: Part, froms: &mut [u64], ends: &mut [u64])
     requires { ⌜ (TableThere (now s) p) × (length (now froms) ≡ 1024) × (length (now ends) ≡ 1024) ⌝ }
     ensures { λ _. ⌜ (length (now (froms .exit)) ≡ 1024) × (length (now (ends .exit)) ≡ 1024)
         × (tableOf (now (froms .exit)) (now (ends .exit)) (p .len) ≡ tableIn (now (s .entry)) p) ⌝ }

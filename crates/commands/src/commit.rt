@@ -19,7 +19,7 @@ use state::collection_table::collection_put;
 use state::node_table::node_put;
 
 // Internal: Create's map.
-pub fn created(m: ShardMap, r: Request, spec: Spec) -> ShardMap
+fn created(m: ShardMap, r: Request, spec: Spec) -> ShardMap
     requires { ⌜ Committable m r (Command.Create spec) ⌝ }
     ensures { λ o. ⌜ Committed m r (Command.Create spec) o ⌝ }
 {
@@ -38,7 +38,7 @@ pub fn created(m: ShardMap, r: Request, spec: Spec) -> ShardMap
 }
 
 // Internal: Drop's map.
-pub fn without_collection(m: ShardMap, r: Request) -> ShardMap
+fn without_collection(m: ShardMap, r: Request) -> ShardMap
     requires { ⌜ Committable m r Command.Drop ⌝ }
     ensures { λ o. ⌜ Committed m r Command.Drop o ⌝ }
 {
@@ -51,7 +51,7 @@ pub fn without_collection(m: ShardMap, r: Request) -> ShardMap
 }
 
 // Internal: Register's map.
-pub fn registered(m: ShardMap, r: Request, node: DataNodeId, incarnation: u64) -> ShardMap
+fn registered(m: ShardMap, r: Request, node: DataNodeId, incarnation: u64) -> ShardMap
     requires { ⌜ Committable m r (Command.Register node incarnation) ⌝ }
     ensures { λ o. ⌜ Committed m r (Command.Register node incarnation) o ⌝ }
 {
@@ -69,7 +69,7 @@ pub fn registered(m: ShardMap, r: Request, node: DataNodeId, incarnation: u64) -
 }
 
 // Internal: MarkNodeDead's map.
-pub fn with_dead(m: ShardMap, r: Request, node: DataNodeId, incarnation: u64) -> ShardMap
+fn with_dead(m: ShardMap, r: Request, node: DataNodeId, incarnation: u64) -> ShardMap
     requires { ⌜ Committable m r (Command.MarkNodeDead node incarnation) ⌝ }
     ensures { λ o. ⌜ Committed m r (Command.MarkNodeDead node incarnation) o ⌝ }
 {
@@ -80,7 +80,7 @@ pub fn with_dead(m: ShardMap, r: Request, node: DataNodeId, incarnation: u64) ->
 }
 
 // Internal: the map with one shard changed.
-pub fn with_change(m: ShardMap, r: Request, c: Change, epoch: Epoch) -> ShardMap
+fn with_change(m: ShardMap, r: Request, c: Change, epoch: Epoch) -> ShardMap
     requires { ⌜ Committable m r (Command.OfShard c epoch) ⌝ }
     ensures { λ o. ⌜ Committed m r (Command.OfShard c epoch) o ⌝ }
 {

@@ -66,7 +66,7 @@ pub fn list_size(l: NodeList) -> usize
 }
 
 // Internal: 4: as many lists as shards, each with a node and no more than the replication.
-pub fn lists_match(p: Placement, replication: u32) -> bool
+fn lists_match(p: Placement, replication: u32) -> bool
     requires { ⌜ p .count ≤ 16 ⌝ }
     ensures { λ r. ⌜ r ≡ every (listMatches replication) (viewPlacement p) ⌝ }
 {
@@ -88,7 +88,7 @@ pub fn lists_match(p: Placement, replication: u32) -> bool
 }
 
 // Internal: whether the map knows the node as alive.
-pub fn is_alive(t: Nodes, node: DataNodeId) -> bool
+fn is_alive(t: Nodes, node: DataNodeId) -> bool
     requires { ⌜ t .count ≤ 32 ⌝ }
     ensures { λ r. ⌜ r ≡ isAlive (nodeAt (viewNodes t) (node .0)) ⌝ }
 {
@@ -101,7 +101,7 @@ pub fn is_alive(t: Nodes, node: DataNodeId) -> bool
 }
 
 // Internal: 5: the first node not alive, in placement order, ends both walks.
-pub fn walk(t: Nodes, p: Placement) -> Walked
+fn walk(t: Nodes, p: Placement) -> Walked
     requires { ⌜ (t .count ≤ 32) × (p .count ≤ 16) ⌝ }
     ensures { λ r. ⌜ r ≡ walkedOf (firstNotAlive (viewNodes t) (viewPlacement p)) ⌝ }
 {
@@ -127,7 +127,7 @@ pub fn walk(t: Nodes, p: Placement) -> Walked
 }
 
 // Internal: the incarnation that the map knows of a node; 0 if it knows none.
-pub fn incarnation_of(t: Nodes, node: DataNodeId) -> u64
+fn incarnation_of(t: Nodes, node: DataNodeId) -> u64
     requires { ⌜ t .count ≤ 32 ⌝ }
     ensures { λ r. ⌜ r ≡ incarnationOf (nodeAt (viewNodes t) (node .0)) ⌝ }
 {
@@ -140,7 +140,7 @@ pub fn incarnation_of(t: Nodes, node: DataNodeId) -> u64
 }
 
 // Internal: the replicas of a new shard, in the order of its list.
-pub fn listed_holders(t: Nodes, list: NodeList) -> Holders
+fn listed_holders(t: Nodes, list: NodeList) -> Holders
     requires { ⌜ t .count ≤ 32 ⌝ }
     ensures { λ r. ⌜ (viewHolders r ≡ map (replicaOf (viewNodes t)) (viewList list)) × (r .count ≤ 8) ⌝ }
 {
@@ -202,7 +202,7 @@ pub fn first_of(list: NodeList) -> Primary
 }
 
 // Internal: one shard of a new collection.
-pub fn new_shard(t: Nodes, name: Name, number: u32, list: NodeList) -> ShardRow
+fn new_shard(t: Nodes, name: Name, number: u32, list: NodeList) -> ShardRow
     requires { ⌜ t .count ≤ 32 ⌝ }
     ensures { λ r. ⌜ (viewShard r ≡ newShard (viewNodes t) (viewName name) number (viewList list)) × (Sized r) ⌝ }
 {
@@ -222,7 +222,7 @@ pub fn new_shard(t: Nodes, name: Name, number: u32, list: NodeList) -> ShardRow
 }
 
 // Internal: whether the table has a place for the row: it has one with its key, or one is free.
-pub fn shard_fits(t: Shards, x: ShardRow) -> bool
+fn shard_fits(t: Shards, x: ShardRow) -> bool
     requires { ⌜ t .count ≤ 64 ⌝ }
     ensures { λ r. ⌜ r ≡ leb (length (put shardBelow (viewShard x) (viewShards t))) 64 ⌝ }
 {

@@ -25,7 +25,7 @@ use state::answers::rejected;
 use state::collection_table::collection_at;
 
 // Internal: Drop's answer: 6.
-pub fn drop_answer(t: Collections, key: ShardKey) -> Verdict
+fn drop_answer(t: Collections, key: ShardKey) -> Verdict
     requires { ⌜ t .count ≤ 16 ⌝ }
     ensures { λ v. ⌜ answerOf v ≡ cond (hasCollection (viewName (key .collection)) (viewCollections t)) accepts (rejects (noCollection (viewName (key .collection)))) ⌝ }
 {

@@ -23,7 +23,7 @@ use node::ack::bad;
 use state::ShardKey;
 
 // Internal: the ack on a header that is not malformed, of a reply that is not refused. Without the shard nothing happens.
-pub fn ack_in(
+fn ack_in(
     n: Node,
     key: ShardKey,
     epoch: Epoch,

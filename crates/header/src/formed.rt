@@ -25,7 +25,7 @@ pub fn kept_fits(x: Kept) -> bool
 }
 
 // Internal: every shard.
-pub fn all_fit(held: [Kept; 8], count: usize) -> bool
+fn all_fit(held: [Kept; 8], count: usize) -> bool
     requires { ⌜ count ≤ 8 ⌝ }
     ensures { λ r. ⌜ r ≡ every keptFits (take count held) ⌝ }
 {
@@ -41,7 +41,7 @@ pub fn all_fit(held: [Kept; 8], count: usize) -> bool
 }
 
 // Internal: keys that rise.
-pub fn keys_rise(held: [Kept; 8], count: usize) -> bool
+fn keys_rise(held: [Kept; 8], count: usize) -> bool
     requires { ⌜ count ≤ 8 ⌝ }
     ensures { λ r. ⌜ r ≡ rising keptBelow (take count held) ⌝ }
 {
@@ -79,7 +79,7 @@ pub fn slot_after(held: [Kept; 8], from: usize, count: usize, slot: usize) -> bo
 }
 
 // Internal: each slot is one of the eight, and no two shards have the same.
-pub fn slots_fit(held: [Kept; 8], count: usize) -> bool
+fn slots_fit(held: [Kept; 8], count: usize) -> bool
     requires { ⌜ count ≤ 8 ⌝ }
     ensures { λ r. ⌜ r ≡ slotsFit (take count held) ⌝ }
 {

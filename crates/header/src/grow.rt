@@ -29,7 +29,7 @@ pub fn free_slot(held: [Kept; 8], count: usize) -> usize
 }
 
 // Internal: where a shard of that key belongs: past all that stand below it.
-pub fn key_place(held: [Kept; 8], count: usize, key: ShardKey) -> usize
+fn key_place(held: [Kept; 8], count: usize, key: ShardKey) -> usize
     requires { ⌜ count ≤ 8 ⌝ }
     ensures { λ r. ⌜ r ≡ lead (belowKey (viewKey key)) (take count held) ⌝ }
 {
@@ -46,7 +46,7 @@ pub fn key_place(held: [Kept; 8], count: usize, key: ShardKey) -> usize
 }
 
 // Internal: one shard put in, those behind it moved on.
-pub fn shifted(held: [Kept; 8], count: usize, at: usize, x: Kept) -> [Kept; 8]
+fn shifted(held: [Kept; 8], count: usize, at: usize, x: Kept) -> [Kept; 8]
     requires { ⌜ (count < 8) × (at ≤ count) ⌝ }
     ensures { λ r. ⌜ take (count + 1) r ≡ insertAt (take count held) at x ⌝ }
 {

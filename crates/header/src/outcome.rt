@@ -30,7 +30,7 @@ pub fn takes_out(what: Proposal, applied: bool) -> bool
 }
 
 // Internal: the outcome on a header that is not malformed. Without the shard nothing happens.
-pub fn outcome_in(n: Node, key: ShardKey, epoch: Epoch, peer: DataNodeId, left: bool) -> Node
+fn outcome_in(n: Node, key: ShardKey, epoch: Epoch, peer: DataNodeId, left: bool) -> Node
     requires { ⌜ formedNode n ≡ true ⌝ }
     ensures { λ r. ⌜ SettlesIn n (viewKey key) (epoch .0) (peer .0) left r ⌝ }
     ensures { λ r. ⌜ Fitting n r ⌝ }

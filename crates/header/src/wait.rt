@@ -19,14 +19,7 @@ use node::wait::wait_held;
 use state::ShardKey;
 
 // Internal: the wait on a header that is not malformed: 17, then the wait on the shard.
-pub fn wait_in(
-    n: Node,
-    key: ShardKey,
-    epoch: Epoch,
-    offset: u64,
-    now: u64,
-    timeout: u64,
-) -> NodeWaited
+fn wait_in(n: Node, key: ShardKey, epoch: Epoch, offset: u64, now: u64, timeout: u64) -> NodeWaited
     requires { ⌜ formedNode n ≡ true ⌝ }
     ensures { λ r. ⌜ WaitsIn n (viewKey key) (epoch .0) offset now timeout r ⌝ }
     ensures { λ r. ⌜ Fitting n (r .node) ⌝ }

@@ -53,7 +53,7 @@ pub fn squares_four(
 }
 
 // Internal: four sums of products with the query, and four of the vectors' own, in one pass.
-pub fn products_four(
+fn products_four(
     query: &[f32],
     floats: &[f32],
     p: usize,

@@ -9,7 +9,7 @@ use state::InSync;
 use state::holders_of::has_holder;
 
 // An id at place i, after the one before it.
-pub fn id_follows(i: usize, before: DataNodeId, id: DataNodeId, h: Holders) -> bool
+fn id_follows(i: usize, before: DataNodeId, id: DataNodeId, h: Holders) -> bool
     requires { ⌜ h .count ≤ 8 ⌝ }
     ensures { λ r. ⌜ r ≡ follows idBelow (isHeld h) i before id ⌝ }
 {

@@ -19,7 +19,7 @@ pub enum Found {
 }
 
 // Internal: the hits written into two lent columns; what lies past them stays as it was.
-pub fn write_hits(h: Hits, found: &mut [u64], distances: &mut [f32])
+fn write_hits(h: Hits, found: &mut [u64], distances: &mut [f32])
     requires { ⌜ (h .count ≤ 1024) × (length (h .items) ≡ 1025) × (h .count ≤ length (now found)) × (h .count ≤ length (now distances)) ⌝ }
     ensures { λ _. ⌜ (now (found .exit) ≡ map idOf (take (h .count) (h .items)) ++ drop (h .count) (now (found .entry)))
         × (now (distances .exit) ≡ map distanceOf (take (h .count) (h .items)) ++ drop (h .count) (now (distances .entry))) ⌝ }

@@ -55,7 +55,7 @@ pub fn settle_all(xs: &mut [f32], n: usize, kind: Kind)
 }
 
 // Internal: the element of one vector, of any length.
-pub fn rough_one(metric: Metric, query: &[f32], qnorm: f32, vector: &[f32]) -> f32
+fn rough_one(metric: Metric, query: &[f32], qnorm: f32, vector: &[f32]) -> f32
     requires { ⌜ Bounded (now query) × Bounded (now vector) × (qnorm ≡ norm (now query)) ⌝ }
     ensures { λ r. ⌜ r ≡ rough metric (now (query .entry)) (now (vector .entry)) ⌝ }
 {
@@ -66,7 +66,7 @@ pub fn rough_one(metric: Metric, query: &[f32], qnorm: f32, vector: &[f32]) -> f
 }
 
 // Internal: the elements of four vectors of n floats, in step.
-pub fn rough_four(
+fn rough_four(
     metric: Metric,
     query: &[f32],
     qnorm: f32,
@@ -89,7 +89,7 @@ pub fn rough_four(
 }
 
 // Internal: whether the entry at an offset is an Upsert of n floats.
-pub fn is_whole(codes: &[u8], lengths: &[u8], count: usize, offset: u64, n: usize) -> bool
+fn is_whole(codes: &[u8], lengths: &[u8], count: usize, offset: u64, n: usize) -> bool
     requires { ⌜ (count ≤ length (now codes)) × (count ≤ length (now lengths)) ⌝ }
     ensures { λ r. ⌜ (r ≡ true → Whole (now (codes .entry)) (now (lengths .entry)) count offset n) ⌝ }
 {
@@ -107,7 +107,7 @@ pub fn is_whole(codes: &[u8], lengths: &[u8], count: usize, offset: u64, n: usiz
 }
 
 // Internal: whether the entries of the four rows from i on are. None are if fewer rows are left.
-pub fn four_whole(
+fn four_whole(
     codes: &[u8],
     lengths: &[u8],
     places: &[u64],
@@ -135,7 +135,7 @@ pub fn four_whole(
 }
 
 // Internal: where the floats of an entry begin.
-pub fn start_of(offset: u64) -> usize
+fn start_of(offset: u64) -> usize
     requires { ⌜ (0 < offset) × (offset ≤ 1024) ⌝ }
     ensures { λ r. ⌜ r ≡ (offset - 1) * 32 ⌝ }
 {

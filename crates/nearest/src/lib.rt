@@ -2,8 +2,8 @@
 // query, over one replica's lent store.
 
 pub mod answer;
-pub mod arrange;
-pub mod column;
-pub mod first;
+mod arrange;
+mod column;
+mod first;
 pub mod query;
-pub mod select;
+mod select;

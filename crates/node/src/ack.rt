@@ -34,7 +34,7 @@ pub fn bad(r: Reply) -> bool
 }
 
 // Internal: what a reply to that step asks for.
-pub fn asks(s: Sent, r: Reply, epoch: u64) -> Deed
+fn asks(s: Sent, r: Reply, epoch: u64) -> Deed
     requires { ⌜ badReply (replyOf r) ≡ false ⌝ }
     ensures { λ d. ⌜ d ≡ doesDeed s r epoch ⌝ }
 {

@@ -10,7 +10,7 @@ use crate::Held;
 use crate::rows::both;
 use model::Peer;
 
-pub fn acks_fit(peers: [Peer; 32], count: usize) -> bool
+fn acks_fit(peers: [Peer; 32], count: usize) -> bool
     requires { ⌜ count ≤ 32 ⌝ }
     ensures { λ r. ⌜ r ≡ every ackFits (take count peers) ⌝ }
 {
@@ -25,7 +25,7 @@ pub fn acks_fit(peers: [Peer; 32], count: usize) -> bool
     true
 }
 
-pub fn rows_rise(peers: [Peer; 32], count: usize) -> bool
+fn rows_rise(peers: [Peer; 32], count: usize) -> bool
     requires { ⌜ count ≤ 32 ⌝ }
     ensures { λ r. ⌜ r ≡ rising rowBelow (take count peers) ⌝ }
 {

@@ -37,7 +37,7 @@ pub fn is_leader(l: Leader, me: u64) -> bool
 }
 
 // Internal: where a row of `node` belongs.
-pub fn place_of(peers: [Peer; 32], count: usize, node: u64) -> usize
+fn place_of(peers: [Peer; 32], count: usize, node: u64) -> usize
     requires { ⌜ count ≤ 32 ⌝ }
     ensures { λ r. ⌜ r ≡ lead (below node) (take count peers) ⌝ }
 {
@@ -53,7 +53,7 @@ pub fn place_of(peers: [Peer; 32], count: usize, node: u64) -> usize
 }
 
 // Internal: one row put in, those behind it moved on.
-pub fn row_inserted(peers: [Peer; 32], count: usize, at: usize, x: Peer) -> [Peer; 32]
+fn row_inserted(peers: [Peer; 32], count: usize, at: usize, x: Peer) -> [Peer; 32]
     requires { ⌜ (count < 32) × (at ≤ count) ⌝ }
     ensures { λ r. ⌜ take (count + 1) r ≡ insertAt (take count peers) at x ⌝ }
 {
@@ -70,7 +70,7 @@ pub fn row_inserted(peers: [Peer; 32], count: usize, at: usize, x: Peer) -> [Pee
 }
 
 // Internal: a peer that the shard no longer lists leaves the ack set.
-pub fn row_retained(p: Peer, replicas: [Replica; 8], holders: usize) -> Peer
+fn row_retained(p: Peer, replicas: [Replica; 8], holders: usize) -> Peer
     requires { ⌜ holders ≤ 8 ⌝ }
     ensures { λ r. ⌜ r ≡ retained (take holders replicas) p ⌝ }
 {
@@ -81,7 +81,7 @@ pub fn row_retained(p: Peer, replicas: [Replica; 8], holders: usize) -> Peer
 }
 
 // Internal: every row, its membership kept only where the shard lists the peer.
-pub fn rows_retained(
+fn rows_retained(
     peers: [Peer; 32],
     count: usize,
     replicas: [Replica; 8],
@@ -117,7 +117,7 @@ pub fn row_new(node: DataNodeId, member: bool) -> Peer
 }
 
 // Internal: a row for each holder but `me` that has none yet.
-pub fn rows_grown(
+fn rows_grown(
     peers: [Peer; 32],
     count: usize,
     me: u64,
@@ -166,7 +166,7 @@ pub fn rows_grown(
 }
 
 // Internal: the nodes of the rows that are new.
-pub fn starts_of(peers: [Peer; 32], count: usize, old: [Peer; 32], was: usize) -> Nodes
+fn starts_of(peers: [Peer; 32], count: usize, old: [Peer; 32], was: usize) -> Nodes
     requires { ⌜ (count ≤ 32) × (was ≤ 32) ⌝ }
     ensures { λ r. ⌜ take (r .count) (r .items) ≡ collect (isNew (take was old)) nodeOf (take count peers) ⌝ }
 {

@@ -66,7 +66,7 @@ pub fn shrinks(p: Peer, last: u64, now: u64, timeout: u64) -> bool
 }
 
 // Internal: every row after the wait.
-pub fn rows_waited(peers: [Peer; 32], count: usize, last: u64, now: u64, timeout: u64) -> [Peer; 32]
+fn rows_waited(peers: [Peer; 32], count: usize, last: u64, now: u64, timeout: u64) -> [Peer; 32]
     requires { ⌜ count ≤ 32 ⌝ }
     ensures { λ r. ⌜ take count r ≡ map (waitRow last now timeout) (take count peers) ⌝ }
 {
@@ -82,7 +82,7 @@ pub fn rows_waited(peers: [Peer; 32], count: usize, last: u64, now: u64, timeout
 }
 
 // Internal: the peers to propose a Shrink for.
-pub fn shrinks_of(peers: [Peer; 32], count: usize, last: u64, now: u64, timeout: u64) -> Nodes
+fn shrinks_of(peers: [Peer; 32], count: usize, last: u64, now: u64, timeout: u64) -> Nodes
     requires { ⌜ count ≤ 32 ⌝ }
     ensures { λ r. ⌜ take (r .count) (r .items) ≡ collect (toShrink last now timeout) nodeOf (take count peers) ⌝ }
 {
@@ -107,7 +107,7 @@ pub fn shrinks_of(peers: [Peer; 32], count: usize, last: u64, now: u64, timeout:
 }
 
 // Internal: whether every member of the ack set has acked the offset.
-pub fn all_acked(peers: [Peer; 32], count: usize, offset: u64) -> bool
+fn all_acked(peers: [Peer; 32], count: usize, offset: u64) -> bool
     requires { ⌜ count ≤ 32 ⌝ }
     ensures { λ r. ⌜ r ≡ every (hasAcked offset) (take count peers) ⌝ }
 {

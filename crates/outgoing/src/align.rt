@@ -17,7 +17,7 @@ use rpcw::table::metric_code;
 use rpcw::table::put_ends;
 
 // Internal: 21 with a table in two columns of one length.
-pub fn write_table(
+fn write_table(
     out: &mut [u8],
     name: &[u8],
     shard: u32,

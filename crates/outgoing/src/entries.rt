@@ -29,7 +29,7 @@ pub fn entry_size(code: u8, length: u8) -> usize
 }
 
 // Internal: the bytes that the entries at the places from `from` up to `end` take.
-pub fn entries_size(codes: &[u8], lengths: &[u8], from: usize, end: usize) -> usize
+fn entries_size(codes: &[u8], lengths: &[u8], from: usize, end: usize) -> usize
     requires { ⌜ (from ≤ end) × (end ≤ 1024) × (end ≤ length (now codes)) × (end ≤ length (now lengths)) ⌝ }
     ensures { λ r. ⌜ (r ≡ rowsSize (now (codes .entry)) (now (lengths .entry)) (end - from) from) × (r ≤ 1071104) ⌝ }
 {
@@ -43,7 +43,7 @@ pub fn entries_size(codes: &[u8], lengths: &[u8], from: usize, end: usize) -> us
 }
 
 // Internal: these entries, one after the other.
-pub fn put_entries(
+fn put_entries(
     out: &mut [u8],
     at: usize,
     epochs: &[u64],
@@ -81,7 +81,7 @@ pub fn put_entries(
 }
 
 // Internal: 22 with these entries, at most 256, under the primary's epoch.
-pub fn write_copy(
+fn write_copy(
     out: &mut [u8],
     name: &[u8],
     shard: u32,

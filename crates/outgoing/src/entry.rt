@@ -17,7 +17,7 @@ use model::Offset;
 use rpcw::put::put_byte;
 
 // The bits of components in the domain, 4 bytes each.
-pub fn put_floats(out: &mut [u8], at: usize, v: &[f32])
+fn put_floats(out: &mut [u8], at: usize, v: &[f32])
     requires { ⌜ (at + 4 * length (now v) ≤ length (now out)) × (length (now v) ≤ 65536) × (every component (now v) ≡ true) ⌝ }
     ensures { λ _. ⌜ now (out .exit) ≡ sets (now (out .entry)) at (concatMap (bytesOf 4) (map bitsOf (now (v .entry)))) ⌝ }
 {

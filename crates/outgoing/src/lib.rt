@@ -1,9 +1,9 @@
 // What a primary's worker sends (paper 01, 'The node', the worker's step; 'Rules of a run', Messages; node.rs, replicate_to): the request of
 // a step, written from the lent store of one held shard into a lent output, whole or not at all. The store has passed the test (24).
-pub mod align;
+mod align;
 pub mod entries;
-pub mod entry;
-pub mod lone;
+mod entry;
+mod lone;
 pub mod worker;
 
 // Nothing to send (Stop, Wait), how many bytes were written from the output's start, or the number of a refusal: 23 where the output is short

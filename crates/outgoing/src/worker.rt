@@ -36,7 +36,7 @@ pub fn end_of(role: Role) -> Offset
 }
 
 // Internal: the n entries from an offset on: one as Replicate, or as CopyShard where the form says so; several as CopyShard.
-pub fn write_send(
+fn write_send(
     out: &mut [u8],
     name: &[u8],
     shard: u32,

@@ -10,9 +10,9 @@ use model::Epoch;
 use model::Offset;
 
 pub mod copy;
-pub mod named;
+mod named;
 pub mod replicate;
-pub mod tested;
+mod tested;
 
 // The reply that goes back to the primary, 30 to 33, or a refusal's number.
 pub enum PeerReply {

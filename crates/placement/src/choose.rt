@@ -63,7 +63,7 @@ pub fn lightest_of(loads: Loads, taken: NodeList) -> Best
 }
 
 // Where the load of a node is, or the count.
-pub fn load_at(loads: Loads, node: DataNodeId) -> usize
+fn load_at(loads: Loads, node: DataNodeId) -> usize
     requires { ⌜ loads .count ≤ 32 ⌝ }
     ensures { λ r. ⌜ r ≡ firstAt (isLoad (node .0)) (viewLoads loads) ⌝ }
 {
@@ -80,7 +80,7 @@ pub fn load_at(loads: Loads, node: DataNodeId) -> usize
 }
 
 // The loads with one replica more on the node.
-pub fn loads_raised(loads: Loads, node: DataNodeId) -> Loads
+fn loads_raised(loads: Loads, node: DataNodeId) -> Loads
     requires { ⌜ (loads .count ≤ 32) × Light 4096 (viewLoads loads) ⌝ }
     ensures { λ r. ⌜ (viewLoads r ≡ update (isLoad (node .0)) raised (viewLoads loads)) × (r .count ≡ loads .count) ⌝ }
 {

@@ -40,7 +40,7 @@ pub fn holders_at(t: Shards, at: usize) -> Holders
 }
 
 // A live node that is none of the holders.
-pub fn may_take(row: NodeRow, h: Holders) -> bool
+fn may_take(row: NodeRow, h: Holders) -> bool
     requires { ⌜ h .count ≤ 8 ⌝ }
     ensures { λ r. ⌜ r ≡ mayTake (viewHolders h) (viewNode row) ⌝ }
 {
@@ -50,7 +50,7 @@ pub fn may_take(row: NodeRow, h: Holders) -> bool
     !has_holder(h, row.node)
 }
 
-pub fn candidates(t: Nodes, h: Holders) -> Loads
+fn candidates(t: Nodes, h: Holders) -> Loads
     requires { ⌜ (t .count ≤ 32) × (h .count ≤ 8) ⌝ }
     ensures { λ r. ⌜ (viewLoads r ≡ collect (mayTake (viewHolders h)) unloaded (viewNodes t)) × (length (viewLoads r) ≡ r .count) × (r .count ≤ 32) ⌝ }
 {
@@ -79,7 +79,7 @@ pub fn candidates(t: Nodes, h: Holders) -> Loads
 }
 
 // A node that is listed twice counts twice.
-pub fn on_node(h: Holders, node: DataNodeId) -> u64
+fn on_node(h: Holders, node: DataNodeId) -> u64
     requires { ⌜ h .count ≤ 8 ⌝ }
     ensures { λ r. ⌜ (r ≡ onNode (node .0) (viewHolders h)) × (r ≤ 8) ⌝ }
 {
@@ -98,7 +98,7 @@ pub fn on_node(h: Holders, node: DataNodeId) -> u64
     n
 }
 
-pub fn load_with(l: Load, h: Holders) -> Load
+fn load_with(l: Load, h: Holders) -> Load
     requires { ⌜ (l .count ≤ 4096) × (h .count ≤ 8) ⌝ }
     ensures { λ r. ⌜ viewLoad r ≡ withShard (viewHolders h) (viewLoad l) ⌝ }
 {
@@ -111,7 +111,7 @@ pub fn load_with(l: Load, h: Holders) -> Load
 }
 
 // The loads with the replicas of one shard more.
-pub fn loads_with(l: Loads, h: Holders) -> Loads
+fn loads_with(l: Loads, h: Holders) -> Loads
     requires { ⌜ (l .count ≤ 32) × (h .count ≤ 8) × Light 4096 (viewLoads l) ⌝ }
     ensures { λ r. ⌜ (viewLoads r ≡ map (withShard (viewHolders h)) (viewLoads l)) × (r .count ≡ l .count) ⌝ }
 {
@@ -132,7 +132,7 @@ pub fn loads_with(l: Loads, h: Holders) -> Loads
 }
 
 // The loads with the replicas of every shard.
-pub fn loads_on(l: Loads, t: Shards) -> Loads
+fn loads_on(l: Loads, t: Shards) -> Loads
     requires { ⌜ (l .count ≤ 32) × ShardsCounted t × Light 0 (viewLoads l) ⌝ }
     ensures { λ r. ⌜ (viewLoads r ≡ map (withShards (viewShards t)) (viewLoads l)) × (r .count ≡ l .count) × Light 512 (viewLoads r) ⌝ }
 {

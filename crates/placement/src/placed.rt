@@ -11,7 +11,7 @@ use crate::lists::no_lists;
 use crate::lists::no_nodes;
 use state::Placement;
 
-pub fn choose_list(loads: Loads, replication: usize) -> Chosen
+fn choose_list(loads: Loads, replication: usize) -> Chosen
     requires { ⌜ (loads .count ≤ 32) × (replication ≤ 8) × Light 2048 (viewLoads loads) ⌝ }
     ensures { λ r. ⌜ ChosenList loads replication r ⌝ }
 {

@@ -19,7 +19,7 @@ use model::DataNodeId;
 use model::Epoch;
 
 // 10: name; dimension, metric, shards, replication; placement.
-pub fn create_at(s: &[u8], at: usize) -> CreatePart
+fn create_at(s: &[u8], at: usize) -> CreatePart
     requires { ⌜ fits createF (now s) at ≡ true ⌝ }
     ensures { λ r. ⌜ r ≡ createPartOf at (value createF (now (s .entry)) at) ⌝ }
 {
@@ -41,7 +41,7 @@ pub fn create_at(s: &[u8], at: usize) -> CreatePart
 }
 
 // 12: node address incarnation.
-pub fn register_at(s: &[u8], at: usize) -> RegisterPart
+fn register_at(s: &[u8], at: usize) -> RegisterPart
     requires { ⌜ fits registerF (now s) at ≡ true ⌝ }
     ensures { λ r. ⌜ r ≡ registerOf at (value registerF (now (s .entry)) at) ⌝ }
 {
@@ -56,7 +56,7 @@ pub fn register_at(s: &[u8], at: usize) -> RegisterPart
 }
 
 // 13: node incarnation.
-pub fn dead_at(s: &[u8], at: usize) -> DeadPart
+fn dead_at(s: &[u8], at: usize) -> DeadPart
     requires { ⌜ fits (u64 ▸ u64) (now s) at ≡ true ⌝ }
     ensures { λ r. ⌜ r ≡ deadOf (value (u64 ▸ u64) (now (s .entry)) at) ⌝ }
 {
@@ -69,7 +69,7 @@ pub fn dead_at(s: &[u8], at: usize) -> DeadPart
 }
 
 // 14: key node incarnation epoch.
-pub fn add_at(s: &[u8], at: usize) -> AddPart
+fn add_at(s: &[u8], at: usize) -> AddPart
     requires { ⌜ fits addF (now s) at ≡ true ⌝ }
     ensures { λ r. ⌜ r ≡ addOf at (value addF (now (s .entry)) at) ⌝ }
 {
@@ -87,7 +87,7 @@ pub fn add_at(s: &[u8], at: usize) -> AddPart
 }
 
 // 15 to 18: key node epoch.
-pub fn change_at(s: &[u8], at: usize) -> ChangePart
+fn change_at(s: &[u8], at: usize) -> ChangePart
     requires { ⌜ fits ownershipF (now s) at ≡ true ⌝ }
     ensures { λ r. ⌜ r ≡ changeOf at (value ownershipF (now (s .entry)) at) ⌝ }
 {

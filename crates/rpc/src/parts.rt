@@ -124,7 +124,7 @@ pub fn op_at(s: &[u8], at: usize) -> OpPart
 }
 
 // The position after an operation.
-pub fn op_end(s: &[u8], at: usize) -> usize
+fn op_end(s: &[u8], at: usize) -> usize
     requires { ⌜ fits opF (now s) at ≡ true ⌝ }
     ensures { λ r. ⌜ r ≡ next opF (now (s .entry)) at ⌝ }
 {

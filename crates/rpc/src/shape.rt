@@ -23,7 +23,7 @@ pub fn skip_word(s: &[u8], at: usize, k: usize) -> Skip
 }
 
 // Whether the n bytes at a position lie between lo and hi.
-pub fn within(s: &[u8], at: usize, n: usize, lo: u8, hi: u8) -> bool
+fn within(s: &[u8], at: usize, n: usize, lo: u8, hi: u8) -> bool
     requires { ⌜ at + n ≤ length (now s) ⌝ }
     ensures { λ r. ⌜ r ≡ allWithin lo hi n (now (s .entry)) at ⌝ }
 {

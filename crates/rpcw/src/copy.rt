@@ -29,7 +29,7 @@ pub fn row_fits(code: u8, len: u8) -> bool
 }
 
 // Internal: whether the layout carries each of the first n operations.
-pub fn rows_fit(codes: &[u8], lens: &[u8], n: usize) -> bool
+fn rows_fit(codes: &[u8], lens: &[u8], n: usize) -> bool
     requires { ⌜ (n ≤ length (now codes)) × (n ≤ length (now lens)) ⌝ }
     ensures { λ r. ⌜ r ≡ rowsFit (now (codes .entry)) (now (lens .entry)) n 0 ⌝ }
 {
@@ -44,7 +44,7 @@ pub fn rows_fit(codes: &[u8], lens: &[u8], n: usize) -> bool
 }
 
 // Internal: the bytes that the first n entries take.
-pub fn rows_size(codes: &[u8], lens: &[u8], n: usize) -> usize
+fn rows_size(codes: &[u8], lens: &[u8], n: usize) -> usize
     requires { ⌜ (n ≤ length (now codes)) × (n ≤ length (now lens)) × (n ≤ 256) × (rowsFit (now codes) (now lens) n 0 ≡ true) ⌝ }
     ensures { λ r. ⌜ r ≡ rowsSize (now (codes .entry)) (now (lens .entry)) n 0 ⌝ }
 {
@@ -59,7 +59,7 @@ pub fn rows_size(codes: &[u8], lens: &[u8], n: usize) -> usize
 }
 
 // Internal: the first n entries, one after the other.
-pub fn put_rows(
+fn put_rows(
     out: &mut [u8],
     at: usize,
     epochs: &[u64],
@@ -96,7 +96,7 @@ pub fn put_rows(
 }
 
 // Internal: whether every column has n entries, the bits 32 for each.
-pub fn long_enough(
+fn long_enough(
     epochs: &[u64],
     offsets: &[u64],
     codes: &[u8],

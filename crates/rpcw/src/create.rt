@@ -20,7 +20,7 @@ use crate::table::metric_code;
 use model::Metric;
 
 // Internal: whether each of the first n lists has at most 8 nodes.
-pub fn lists_fit(counts: &[u8], n: usize) -> bool
+fn lists_fit(counts: &[u8], n: usize) -> bool
     requires { ⌜ n ≤ length (now counts) ⌝ }
     ensures { λ r. ⌜ r ≡ listsFit (now (counts .entry)) n 0 ⌝ }
 {
@@ -35,7 +35,7 @@ pub fn lists_fit(counts: &[u8], n: usize) -> bool
 }
 
 // Internal: the bytes that the first n lists take.
-pub fn lists_size(counts: &[u8], n: usize) -> usize
+fn lists_size(counts: &[u8], n: usize) -> usize
     requires { ⌜ (n ≤ length (now counts)) × (n ≤ 16) × (listsFit (now counts) n 0 ≡ true) ⌝ }
     ensures { λ r. ⌜ r ≡ listsSize (now (counts .entry)) n 0 ⌝ }
 {
@@ -50,7 +50,7 @@ pub fn lists_size(counts: &[u8], n: usize) -> usize
 }
 
 // Internal: whether both columns have n lists, the nodes 8 for each.
-pub fn lists_long(counts: &[u8], nodes: &[u64], n: usize) -> bool
+fn lists_long(counts: &[u8], nodes: &[u64], n: usize) -> bool
     requires { ⌜ n ≤ 16 ⌝ }
     ensures { λ r. ⌜ r ≡ listsLong (now (counts .entry)) (now (nodes .entry)) n ⌝ }
 {
@@ -61,7 +61,7 @@ pub fn lists_long(counts: &[u8], nodes: &[u64], n: usize) -> bool
 }
 
 // Internal: the first n lists, one after the other.
-pub fn put_lists(out: &mut [u8], at: usize, counts: &[u8], nodes: &[u64], n: usize)
+fn put_lists(out: &mut [u8], at: usize, counts: &[u8], nodes: &[u64], n: usize)
     requires { ⌜ (at + listsSize (now counts) n 0 ≤ length (now out)) × (n ≤ length (now counts)) × (8 * n ≤ length (now nodes)) × (listsFit (now counts) n 0 ≡ true) × (n ≤ 16) ⌝ }
     ensures { λ r. ⌜ now (out .exit) ≡ sets (now (out .entry)) at (listsBytes (now (counts .entry)) (now (nodes .entry)) n 0) ⌝ }
 {
@@ -77,7 +77,7 @@ pub fn put_lists(out: &mut [u8], at: usize, counts: &[u8], nodes: &[u64], n: usi
 }
 
 // Internal: the operands before the lists: name, dimension, metric, shards, replication and how many lists follow.
-pub fn put_create_head(
+fn put_create_head(
     out: &mut [u8],
     name: &[u8],
     dimension: u32,

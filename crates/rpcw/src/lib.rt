@@ -7,7 +7,7 @@ use model::Offset;
 
 pub mod copy;
 pub mod create;
-pub mod entry;
+mod entry;
 pub mod fit;
 pub mod message;
 pub mod put;

@@ -30,7 +30,7 @@ pub fn put_bytes(out: &mut [u8], at: usize, v: &[u8])
 }
 
 // n zeros.
-pub fn put_zeros(out: &mut [u8], at: usize, n: usize)
+fn put_zeros(out: &mut [u8], at: usize, n: usize)
     requires { ⌜ at + n ≤ length (now out) ⌝ }
     ensures { λ r. ⌜ now (out .exit) ≡ sets (now (out .entry)) at (replicate n 0) ⌝ }
 {

@@ -16,7 +16,7 @@ use node::Held;
 use node::rows::leads;
 
 // Internal: how many peers are in the ack set.
-pub fn members(peers: [Peer; 32], count: usize) -> u64
+fn members(peers: [Peer; 32], count: usize) -> u64
     requires { ⌜ count ≤ 32 ⌝ }
     ensures { λ r. ⌜ (r ≡ length (filter isMember (take count peers))) × (r ≤ 32) ⌝ }
 {
@@ -35,7 +35,7 @@ pub fn members(peers: [Peer; 32], count: usize) -> u64
 }
 
 // Internal: and this node, if it is in its own ack set.
-pub fn plus_own(n: u64, own: bool) -> u64
+fn plus_own(n: u64, own: bool) -> u64
     requires { ⌜ n ≤ 32 ⌝ }
     ensures { λ r. ⌜ r ≡ n + cond own 1 0 ⌝ }
 {

@@ -13,7 +13,7 @@ use node::rows::leads;
 use node::rows::row_of;
 
 // Internal: an aligned peer gets what follows its ack, at most 256 entries.
-pub fn sends(acked: u64, last: u64) -> Step
+fn sends(acked: u64, last: u64) -> Step
     requires { ⌜ acked ≤ 4611686018427387904 ⌝ }
     ensures { λ r. ⌜ r ≡ stepFrom acked last ⌝ }
 {

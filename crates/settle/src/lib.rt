@@ -42,7 +42,7 @@ pub fn repeated(row: SessionRow) -> Verdict
 
 // Internal: a command that is not older, not a repetition and not of a 65th client. An applied one is committed and remembered, a rejected one
 // remembered; 21 to 26 change nothing.
-pub fn taken(m: ShardMap, r: Request) -> Settled
+fn taken(m: ShardMap, r: Request) -> Settled
     requires { ⌜ (Settleable m r) × (DecidedNow m r) ⌝ }
     ensures { λ s. ⌜ SettledAs m r s ⌝ }
 {

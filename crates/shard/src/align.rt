@@ -10,14 +10,7 @@ ghost use lib.ListN.{length, getD};
 ghost use Rattle.shard.specs.Align.{tableOf, AgreesAt, KeptOf, EndsOf};
 
 // Whether an entry of this epoch and offset stands within `end`, under the epoch of the first pair with end at or above it.
-pub fn agrees(
-    epoch: u64,
-    offset: u64,
-    end: Offset,
-    froms: &[u64],
-    ends: &[u64],
-    pairs: usize,
-) -> bool
+fn agrees(epoch: u64, offset: u64, end: Offset, froms: &[u64], ends: &[u64], pairs: usize) -> bool
     requires { ⌜ (pairs ≤ length (now froms)) × (pairs ≤ length (now ends)) ⌝ }
     ensures { λ r. ⌜ AgreesAt (end .0) (tableOf (now (froms .entry)) (now (ends .entry)) pairs) epoch offset r ⌝ }
 {
@@ -52,7 +45,7 @@ pub fn kept(
 }
 
 // Whether the last of the first n numbers is `x`.
-pub fn is_last(column: &[u64], n: usize, x: u64) -> bool
+fn is_last(column: &[u64], n: usize, x: u64) -> bool
     requires { ⌜ n ≤ length (now column) ⌝ }
     ensures { λ r. ⌜ r ≡ (ltb 0 n and eqb (getD (now (column .entry)) (n - 1) 0) x) ⌝ }
 {

@@ -12,7 +12,7 @@ ghost use Rattle.model.specs.Node.Wire.{floatsOf};
 ghost use Rattle.shard.specs.View.{columns, Room, written};
 
 // The bits of components, tested before, written as floats.
-pub fn write_vector(dst: &mut [f32], bits: &[u32])
+fn write_vector(dst: &mut [f32], bits: &[u32])
     requires { ⌜ (length (now dst) ≡ length (now bits)) × (every bitsInDomain (now bits) ≡ true) ⌝ }
     ensures { λ _. ⌜ now (dst .exit) ≡ floatsOf (now (bits .entry)) ⌝ }
 {

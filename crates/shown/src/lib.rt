@@ -7,8 +7,8 @@ use node::Nodes;
 use state::ShardKey;
 
 pub mod listed;
-pub mod rows;
-pub mod slots;
+mod rows;
+mod slots;
 pub mod starting;
 pub mod walk;
 

@@ -77,7 +77,7 @@ pub fn first_held(metric: Metric) -> Held
 }
 
 // A shard whose collection the map has.
-pub fn show_as(
+fn show_as(
     me: DataNodeId,
     slot: usize,
     stored: usize,

@@ -36,7 +36,7 @@ pub fn started_over(n: Node, fresh: u64) -> Node
 }
 
 // Internal: a map that is taken: 23 if a ninth shard would be held after removals, or a 33rd worker; nothing is changed then.
-pub fn take_map(n: Node, m: ShardMap) -> NodeShown
+fn take_map(n: Node, m: ShardMap) -> NodeShown
     requires { ⌜ (formedNode n ≡ true) × (TablesCounted m) × (wellFormedMap (viewMap m) ≡ true) ⌝ }
     ensures { λ r. ⌜ TakesMap n m r ⌝ }
 {

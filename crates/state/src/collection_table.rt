@@ -38,7 +38,7 @@ pub fn collection_at(t: Collections, name: Name) -> usize
 }
 
 // Internal: where the row belongs: past all that stand below it.
-pub fn collection_place(t: Collections, x: CollectionRow) -> usize
+fn collection_place(t: Collections, x: CollectionRow) -> usize
     requires { ⌜ t .count ≤ 16 ⌝ }
     ensures { λ r. ⌜ r ≡ placeAt collectionBelow (viewCollection x) (viewCollections t) ⌝ }
 {

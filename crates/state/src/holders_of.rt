@@ -114,7 +114,7 @@ pub fn synced_removed(s: InSync, node: DataNodeId) -> InSync
 }
 
 // Internal: where the id belongs: past all that stand below it.
-pub fn synced_place(s: InSync, node: DataNodeId) -> usize
+fn synced_place(s: InSync, node: DataNodeId) -> usize
     requires { ⌜ s .count ≤ 8 ⌝ }
     ensures { λ r. ⌜ r ≡ placeAt idBelow node (viewInSync s) ⌝ }
 {

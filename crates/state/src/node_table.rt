@@ -36,7 +36,7 @@ pub fn node_at(t: Nodes, node: DataNodeId) -> usize
 }
 
 // Internal: where the row belongs: past all that stand below it.
-pub fn node_place(t: Nodes, x: NodeRow) -> usize
+fn node_place(t: Nodes, x: NodeRow) -> usize
     requires { ⌜ t .count ≤ 32 ⌝ }
     ensures { λ r. ⌜ r ≡ placeAt nodeBelow (viewNode x) (viewNodes t) ⌝ }
 {

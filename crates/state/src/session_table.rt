@@ -34,7 +34,7 @@ pub fn session_at(t: Sessions, client: u64) -> usize
 }
 
 // Internal: where the row belongs: past all that stand below it.
-pub fn session_place(t: Sessions, x: SessionRow) -> usize
+fn session_place(t: Sessions, x: SessionRow) -> usize
     requires { ⌜ t .count ≤ 64 ⌝ }
     ensures { λ r. ⌜ r ≡ placeAt sessionBelow (viewSession x) (viewSessions t) ⌝ }
 {

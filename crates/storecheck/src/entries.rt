@@ -32,7 +32,7 @@ fn wide(x: u8) -> usize
 }
 
 // Internal: the clauses of the entry at place i.
-pub fn entry_fits(offsets: &[u64], codes: &[u8], lengths: &[u8], floats: &[f32], i: usize) -> bool
+fn entry_fits(offsets: &[u64], codes: &[u8], lengths: &[u8], floats: &[f32], i: usize) -> bool
     requires { ⌜ (i < 1024) × (length (now offsets) ≡ 1024) × (length (now codes) ≡ 1024) × (length (now lengths) ≡ 1024) × (32768 ≤ length (now floats)) ⌝ }
     ensures { λ r. ⌜ EntryFits (now (offsets .entry)) (now (codes .entry)) (now (lengths .entry)) (now (floats .entry)) i r ⌝ }
 {
@@ -57,13 +57,7 @@ pub fn entry_fits(offsets: &[u64], codes: &[u8], lengths: &[u8], floats: &[f32],
 }
 
 // Internal: the clauses of each of the first `count` entries, one by one.
-pub fn each_fits(
-    offsets: &[u64],
-    codes: &[u8],
-    lengths: &[u8],
-    floats: &[f32],
-    count: usize,
-) -> bool
+fn each_fits(offsets: &[u64], codes: &[u8], lengths: &[u8], floats: &[f32], count: usize) -> bool
     requires { ⌜ (count ≤ 1024) × (length (now offsets) ≡ 1024) × (length (now codes) ≡ 1024) × (length (now lengths) ≡ 1024) × (32768 ≤ length (now floats)) ⌝ }
     ensures { λ r. ⌜ EntriesFit (now (offsets .entry)) (now (codes .entry)) (now (lengths .entry)) (now (floats .entry)) count r ⌝ }
 {
@@ -78,7 +72,7 @@ pub fn each_fits(
 }
 
 // Internal: whether the offsets of the first `count` entries are 1, 2, 3 and so on.
-pub fn numbered(offsets: &[u64], count: usize) -> bool
+fn numbered(offsets: &[u64], count: usize) -> bool
     requires { ⌜ count ≤ length (now offsets) ⌝ }
     ensures { λ r. ⌜ r ≡ everyBelow (numberFits (now (offsets .entry))) count ⌝ }
 {
@@ -107,7 +101,7 @@ pub fn is_listed(code: u8, len: u8) -> bool
 }
 
 // Internal: whether each of the first `count` entries is one of these.
-pub fn listed(codes: &[u8], lengths: &[u8], count: usize) -> bool
+fn listed(codes: &[u8], lengths: &[u8], count: usize) -> bool
     requires { ⌜ (count ≤ length (now codes)) × (count ≤ length (now lengths)) ⌝ }
     ensures { λ r. ⌜ r ≡ everyBelow (shapeAt (now (codes .entry)) (now (lengths .entry))) count ⌝ }
 {

@@ -2,10 +2,10 @@
 // that touches a log makes it first, so it takes time in proportion to the log: the floats are tested several at once, and the
 // table is compared with the log without playing it.
 
-pub mod entries;
-pub mod hints;
-pub mod rows;
-pub mod settled;
+mod entries;
+mod hints;
+mod rows;
+mod settled;
 
 ghost use mathlib.Core.Path.{_≡_};
 ghost use Rattle.shard.specs.Store.{lent, Sized, wellFormedStore};

@@ -6,14 +6,7 @@ ghost use lib.ListN.{length, getD};
 ghost use Rattle.storecheck.specs.Conditions.{Decides, Rises, RowFits, Tested, Parted};
 
 // Whether row j stands above the one before it and names an Upsert of its id.
-pub fn row_fits(
-    ids: &[u64],
-    codes: &[u8],
-    keys: &[u64],
-    places: &[u64],
-    count: usize,
-    j: usize,
-) -> bool
+fn row_fits(ids: &[u64], codes: &[u8], keys: &[u64], places: &[u64], count: usize, j: usize) -> bool
     requires { ⌜ (j < 1024) × (count ≤ 1024) × (length (now ids) ≡ 1024) × (length (now codes) ≡ 1024) × (length (now keys) ≡ 1024) × (length (now places) ≡ 1024) ⌝ }
     ensures { λ r. ⌜ Decides r (RowFits (now (ids .entry)) (now (codes .entry)) (now (keys .entry)) (now (places .entry)) count j) ⌝ }
 {

@@ -9,7 +9,7 @@ ghost use Rattle.shard.specs.Store.{sameRows};
 ghost use Rattle.storecheck.specs.Conditions.{Decides, Rises, Walk, Agrees, Again, Settled, AllSettled};
 
 // Whether an entry behind place i has its id.
-pub fn comes_again(ids: &[u64], count: usize, i: usize) -> bool
+fn comes_again(ids: &[u64], count: usize, i: usize) -> bool
     requires { ⌜ (i < count) × (count ≤ length (now ids)) ⌝ }
     ensures { λ r. ⌜ Decides r (Again (now (ids .entry)) count i) ⌝ }
 {
@@ -25,14 +25,7 @@ pub fn comes_again(ids: &[u64], count: usize, i: usize) -> bool
 }
 
 // Whether entry i agrees with the rows.
-pub fn agrees(
-    ids: &[u64],
-    codes: &[u8],
-    keys: &[u64],
-    places: &[u64],
-    stored: usize,
-    i: usize,
-) -> bool
+fn agrees(ids: &[u64], codes: &[u8], keys: &[u64], places: &[u64], stored: usize, i: usize) -> bool
     requires { ⌜ (i < 1024) × (stored ≤ 1024) × (length (now ids) ≡ 1024) × (length (now codes) ≡ 1024) × (length (now keys) ≡ 1024) × (length (now places) ≡ 1024)
         × Rises (now keys) stored ⌝ }
     ensures { λ r. ⌜ Decides r (Agrees (now (ids .entry)) (now (codes .entry)) (now (keys .entry)) (now (places .entry)) stored i) ⌝ }
@@ -49,7 +42,7 @@ pub fn agrees(
 }
 
 // Whether entry i is settled.
-pub fn is_settled(
+fn is_settled(
     ids: &[u64],
     codes: &[u8],
     keys: &[u64],
@@ -79,7 +72,7 @@ pub fn is_settled(
 
 // Whether every entry is, from the last to the first, so that hints are places of later entries. What they hold at the end is free. Where
 // there are as many rows as entries, each entry is marked, and no hint is kept.
-pub fn all_settled(
+fn all_settled(
     ids: &[u64],
     codes: &[u8],
     keys: &[u64],
