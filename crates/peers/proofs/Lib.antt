@@ -1,3 +1,2 @@
 pub mod OfNamed
-pub mod OfLend
 pub mod OfPeers

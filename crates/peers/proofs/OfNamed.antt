@@ -5,8 +5,6 @@ use mathlib.Core.Bool.{true}
 use mathlib.Core.List.{List}
 use mathlib.Core.Option.{Option, none, some}
 use lib.ListN.{length}
-use native.Mathlib.Omega.{arith}
-use borrow.Author.Tests.{leb-true}
 use Rattle.model.specs.Keys.{Key, Name}
 use Rattle.model.specs.Layout.Format.{fits, value, whole}
 use Rattle.model.specs.Layout.Parts.{u32, nameF, keyF, keyOf}
@@ -17,22 +15,10 @@ use Rattle.rpc.specs.Shown.{keyShown, messageOf, replicatePart, copyPart}
 use Rattle.rpc.specs.declared.ReplicatePart.{ReplicatePart}
 use Rattle.rpc.specs.declared.CopyPart.{CopyPart}
 use Rattle.rpc.specs.declared.Message.the-variants.{Replicate, CopyShard}
-use Rattle.rpc.proofs.Places.{text-length}
-use Rattle.rpc.proofs.Items.{text-bytes}
 use Rattle.rpc.proofs.Decoded.{replicate-decoded, replicate-answered, copy-decoded, copy-answered}
 use Rattle.arrivals.proofs.OfMessages.{replicate-part, copy-part}
-use Rattle.peers.specs.Named.{KeyThere, keyIn}
-
--- a key at the place 1, as it is read
-abbrev pub KeyRead : List ℕ → Key → Type 0
-KeyRead s k = KeyThere s (keyShown 1 k) × (keyIn s (keyShown 1 k) ≡ k)
-
-key-read : (s : List ℕ) → fits keyF s 1 ≡ true → KeyRead s (keyOf (value keyF s 1))
-key-read s e =
-    let f = and-left _ _ e in
-    let l : 1 + 1 + 32 ≤ length s = leb-true _ _ (and-left _ _ f) in
-    let k : length (value nameF s 1) ≤ 32 = rw (text-length 32 s 1 f) (leb-true _ _ (and-left _ _ (and-right _ _ f))) in
-    ((k, omega arith), ap (λ (n : Name). record { collection = n; shard = value u32 s (1 + 1 + 32) }) (text-bytes 32 s 1 f))
+use Rattle.lend.specs.Named.{KeyThere, keyIn}
+use Rattle.lend.proofs.OfKeys.{KeyRead, key-read}
 
 module _ (s : List ℕ) where
   replicate-read : (m : message.Replicated) → message.decodeReplicate s ≡ some m → KeyRead s (m .key)

@@ -39,13 +39,13 @@ use Rattle.header.proofs.OfShards.{call-absent}
 use Rattle.peers.specs.declared.PeerReply.{PeerReply}
 use Rattle.peers.specs.declared.PeerReply.the-variants as P
 use Rattle.peers.specs.declared.PeerAnswer.{PeerAnswer}
-use Rattle.peers.specs.declared.Lent.the-variants as L
-use Rattle.peers.specs.declared.Lent as found
-use Rattle.peers.specs.Named.{keyIn}
-use Rattle.peers.specs.Lend.{Lot, storeIn, storeOf, lentFor, slotOf, Finds, Found, withStore}
+use Rattle.lend.specs.declared.Lent.the-variants as L
+use Rattle.lend.specs.declared.Lent as found
+use Rattle.lend.specs.Named.{keyIn}
+use Rattle.lend.specs.Lend.{Lot, storeIn, storeOf, lentFor, slotOf, Finds, Found, withStore}
 use Rattle.peers.specs.Peers.{word, turnedDown, Serves, ReplicateSlot, ReplicatesAt, CopySlot, CopiesAt}
 use Rattle.peers.proofs.OfNamed.{replicate-key, copy-key}
-use Rattle.peers.proofs.OfLend.{slot-held, call-store, node-view}
+use Rattle.lend.proofs.OfLend.{slot-held, call-store, node-view}
 
 -- the lent store and the header stay
 unchanged : (call : (Key → Bool) → held.Node → Result BackupAnswer held.Node) (lends : ℕ → Type 0) (n : Node) (a : Lot) (w : PeerReply)

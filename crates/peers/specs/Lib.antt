@@ -1,3 +1,1 @@
-pub mod Named
-pub mod Lend
 pub mod Peers

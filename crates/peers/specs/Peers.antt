@@ -18,7 +18,7 @@ use Rattle.header.specs.Answers.{Told, told}
 use Rattle.peers.specs.declared.PeerReply.{PeerReply}
 use Rattle.peers.specs.declared.PeerReply.the-variants as P
 use Rattle.peers.specs.declared.PeerAnswer.{PeerAnswer}
-use Rattle.peers.specs.Lend.{Lot, lentFor, slotOf, Changes}
+use Rattle.lend.specs.Lend.{Lot, lentFor, slotOf, Changes}
 
 -- 'Bytes on the wire', 30 to 33; 'Who is turned down', the number of a refusal
 abbrev pub word : BackupAnswer → PeerReply

@@ -10,9 +10,7 @@ use model::Epoch;
 use model::Offset;
 
 pub mod copy;
-mod named;
 pub mod replicate;
-mod tested;
 
 // The reply that goes back to the primary, 30 to 33, or a refusal's number.
 pub enum PeerReply {
@@ -26,13 +24,6 @@ pub enum PeerReply {
 pub struct PeerAnswer {
     pub answer: PeerReply,
     pub node: Node,
-}
-
-// What the test of a lent state found: it is malformed, or the place of the shard that the call names.
-pub enum Lent {
-    Malformed,
-    Absent,
-    At(usize),
 }
 
 // Internal: the reply of a call on one shard.

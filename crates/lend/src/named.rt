@@ -1,7 +1,7 @@
 // The key that a message names, copied out of it. Internal.
 ghost use mathlib.Core.Path.{_≡_};
 ghost use Rattle.state.specs.Names.{viewKey};
-ghost use Rattle.peers.specs.Named.{KeyThere, keyIn};
+ghost use Rattle.lend.specs.Named.{KeyThere, keyIn};
 use rpc::KeyPart;
 use state::Name;
 use state::ShardKey;

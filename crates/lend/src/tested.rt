@@ -3,43 +3,18 @@
 ghost use mathlib.Core.Path.{_≡_};
 ghost use Prim.Native.Nat.{_<_};
 ghost use Rattle.state.specs.Names.{viewKey};
-ghost use Rattle.peers.specs.Lend.{lot, sizedLot, keptStore, Finds, withStore};
+ghost use Rattle.lend.specs.Lend.{lot, keptStore, Finds, withStore};
 use crate::Lent;
 use header::Kept;
 use header::Node;
 use header::formed::formed_node;
 use header::shards::place_of;
 use node::Held;
-use node::rows::both;
+use replica::fits::lent_fits;
 use state::ShardKey;
-use storecheck::well_formed;
-
-// Whether each column has 1,024 places. The floats have a length of their own.
-pub fn sized(
-    epochs: &[u64],
-    offsets: &[u64],
-    ids: &[u64],
-    codes: &[u8],
-    lengths: &[u8],
-    floats: &[f32],
-    keys: &[u64],
-    places: &[u64],
-) -> bool
-    ensures { λ r. ⌜ r ≡ sizedLot (lot (now (epochs .entry)) (now (offsets .entry)) (now (ids .entry)) (now (codes .entry)) (now (lengths .entry))
-        (now (floats .entry)) (now (keys .entry)) (now (places .entry))) ⌝ }
-{
-    let a = epochs.len() == 1024;
-    let b = offsets.len() == 1024;
-    let c = ids.len() == 1024;
-    let d = codes.len() == 1024;
-    let e = lengths.len() == 1024;
-    let f = keys.len() == 1024;
-    let g = places.len() == 1024;
-    both(a, both(b, both(c, both(d, both(e, both(f, g))))))
-}
 
 // Whether the store is well formed with as many entries and rows as the header says.
-pub fn kept_store(
+fn kept_store(
     x: Kept,
     epochs: &[u64],
     offsets: &[u64],
@@ -53,13 +28,10 @@ pub fn kept_store(
     ensures { λ r. ⌜ r ≡ keptStore (lot (now (epochs .entry)) (now (offsets .entry)) (now (ids .entry)) (now (codes .entry)) (now (lengths .entry))
         (now (floats .entry)) (now (keys .entry)) (now (places .entry))) x ⌝ }
 {
-    if !sized(epochs, offsets, ids, codes, lengths, floats, keys, places) {
-        return false;
-    }
     let h = x.held;
     let count = h.last as usize;
     let stored = x.stored;
-    well_formed(
+    lent_fits(
         epochs,
         offsets,
         ids,

@@ -6,10 +6,10 @@ use mathlib.Core.Path.{_≡_, refl, sym, _∙_, ap}
 use mathlib.Core.List.{List, [], _∷_, _++_}
 use Prim.Native.Nat.{ℕ, _+_, _-_, _*_, _≤_, _<_}
 use lib.ListN.{length, getD, take, drop, set}
-use Rattle.peers.proofs.named.key_of.Statement.{statement}
-use Rattle.peers.proofs.named.key_of.Tie as tie
-use Rattle.peers.proofs.named.key_of.Reads as reads
-use Rattle.peers.proofs.named.key_of.Lts as lts
+use Rattle.lend.proofs.named.key_of.Statement.{statement}
+use Rattle.lend.proofs.named.key_of.Tie as tie
+use Rattle.lend.proofs.named.key_of.Reads as reads
+use Rattle.lend.proofs.named.key_of.Lts as lts
 
 abbrev Inv-loop : tie.InvT-loop
 Inv-loop s p at len bytes₀ i₀ bytes i =

@@ -26,6 +26,7 @@ use Rattle.shard.specs.Table.{zipped, rowsOf, vectorsOf}
 use Rattle.shard.specs.Store.{Sized, wellFormedStore}
 use Rattle.shard.proofs.Columns.{log-length}
 use Rattle.writes.specs.Writes.{viewStored}
+use Rattle.replica.proofs.OfFits.{fits-sized, fits-well}
 use Rattle.header.specs.declared.Kept.{Kept}
 use Rattle.header.specs.declared.Node.{Node}
 use Rattle.header.specs.View.{Stores, viewKept, viewNode, used, otherKey, noKept}
@@ -33,58 +34,18 @@ use Rattle.header.specs.Formed.{lentNode, formedNode, onSlot, slotsFit}
 use Rattle.header.proofs.OfLists.{by-case, map-lead}
 use Rattle.header.proofs.OfFormed.{header-apart, formed-lent}
 use Rattle.header.proofs.OfShards.{shard-some}
-use Rattle.peers.specs.Lend.{Lot, storeIn, storeOf, sizedLot, keptStore, placeOf, lentAt, lentFor, slotOf, Lends, Changes, Absents, Found, keptWith, withStore}
+use Rattle.lend.specs.Lend.{Lot, storeIn, storeOf, keptStore, placeOf, lentAt, lentFor, slotOf, Lends, Changes, Absents, Found, keptWith, withStore}
 
 -- ---- the test
 
-module _ (a : Lot) where
-  -- the seven tests, from the last to the first
-  pub sized-by : (r1 r2 r3 r4 r5 r6 : Bool) → r1 ≡ (eqb (length (a .keys)) 1024 and eqb (length (a .places)) 1024)
-      → r2 ≡ (eqb (length (a .columns .lengths)) 1024 and r1) → r3 ≡ (eqb (length (a .columns .codes)) 1024 and r2)
-      → r4 ≡ (eqb (length (a .columns .ids)) 1024 and r3) → r5 ≡ (eqb (length (a .columns .offsets)) 1024 and r4)
-      → r6 ≡ (eqb (length (a .columns .epochs)) 1024 and r5) → r6 ≡ sizedLot a
-  unfolding sizedLot
-  sized-by r1 r2 r3 r4 r5 r6 e1 e2 e3 e4 e5 e6 =
-      e6 ∙ ap (λ (z : Bool). eqb (length (a .columns .epochs)) 1024 and z)
-      (e5 ∙ ap (λ (z : Bool). eqb (length (a .columns .offsets)) 1024 and z)
-      (e4 ∙ ap (λ (z : Bool). eqb (length (a .columns .ids)) 1024 and z)
-      (e3 ∙ ap (λ (z : Bool). eqb (length (a .columns .codes)) 1024 and z)
-      (e2 ∙ ap (λ (z : Bool). eqb (length (a .columns .lengths)) 1024 and z) e1))))
+module _ (a : Lot) (x : Kept) where
+  kept-is : keptStore a x ≡ true → Sized (storeOf a x)
+  unfolding keptStore
+  kept-is e = fits-sized (storeOf a x) e
 
-  pub sized-lot : (x : Kept) → sizedLot a ≡ true → Sized (storeOf a x)
-  unfolding sizedLot
-  sized-lot x e =
-      let e2 = and-right _ _ e in
-      let e3 = and-right _ _ e2 in
-      let e4 = and-right _ _ e3 in
-      let e5 = and-right _ _ e4 in
-      let e6 = and-right _ _ e5 in
-      record {
-        epochs = eqb-true _ _ (and-left _ _ e);
-        offsets = eqb-true _ _ (and-left _ _ e2);
-        ids = eqb-true _ _ (and-left _ _ e3);
-        codes = eqb-true _ _ (and-left _ _ e4);
-        lengths = eqb-true _ _ (and-left _ _ e5);
-        keys = eqb-true _ _ (and-left _ _ e6);
-        places = eqb-true _ _ (and-right _ _ e6);
-      }
-
-  module _ (x : Kept) where
-    pub kept-unsized : sizedLot a ≡ false → false ≡ keptStore a x
-    unfolding keptStore _and_
-    kept-unsized e = rw e
-
-    pub kept-sized : sizedLot a ≡ true → (b : Bool) → b ≡ wellFormedStore (storeOf a x) → b ≡ keptStore a x
-    unfolding keptStore _and_
-    kept-sized e b q = rw e q
-
-    pub kept-is : keptStore a x ≡ true → Sized (storeOf a x)
-    unfolding keptStore
-    kept-is e = sized-lot x (and-left (sizedLot a) (wellFormedStore (storeOf a x)) e)
-
-    pub kept-well : keptStore a x ≡ true → wellFormedStore (storeOf a x) ≡ true
-    unfolding keptStore
-    kept-well e = and-right (sizedLot a) (wellFormedStore (storeOf a x)) e
+  kept-well : keptStore a x ≡ true → wellFormedStore (storeOf a x) ≡ true
+  unfolding keptStore
+  kept-well e = fits-well (storeOf a x) e
 
 module _ (n : Node) (k : Key) (a : Lot) where
   pub lent-malformed : ((s : Stores) → false ≡ lentNode s n) → (s : Stores) → lentFor s n a k ≡ false

@@ -14,13 +14,14 @@ use Rattle.node.specs.declared.Held.{Held}
 use Rattle.shard.specs.View.{Columns, columns, logOf}
 use Rattle.shard.specs.Table.{rowsOf, vectorsOf}
 use Rattle.shard.specs.Store.{Store, lent, Sized, wellFormedStore}
+use Rattle.replica.specs.Fits.{lentFits}
 use Rattle.header.specs.declared.Kept.{Kept}
 use Rattle.header.specs.declared.Node.{Node}
 use Rattle.header.specs.View.{Stores, used, otherKey, noKept, withKepts}
 use Rattle.header.specs.Formed.{lentNode, formedNode}
 use Rattle.header.specs.Grow.{lowestFree}
-use Rattle.peers.specs.declared.Lent.the-variants as L
-use Rattle.peers.specs.declared.Lent as found
+use Rattle.lend.specs.declared.Lent.the-variants as L
+use Rattle.lend.specs.declared.Lent as found
 
 -- the eight columns of a store; how much of them is used is in the header
 pub record Lot : Type 0 where
@@ -40,20 +41,9 @@ storeOf a x = storeIn a (x .held .last) (x .stored)
 
 -- ---- the test
 
--- each column has 1,024 places, the floats apart
-unfoldable pub sizedLot : Lot → Bool
-sizedLot a =
-    eqb (length (a .columns .epochs)) 1024
-    and eqb (length (a .columns .offsets)) 1024
-    and eqb (length (a .columns .ids)) 1024
-    and eqb (length (a .columns .codes)) 1024
-    and eqb (length (a .columns .lengths)) 1024
-    and eqb (length (a .keys)) 1024
-    and eqb (length (a .places)) 1024
-
 -- the lent store of a shard that is held, with as many entries and rows as the header says
 unfoldable pub keptStore : Lot → Kept → Bool
-keptStore a x = sizedLot a and wellFormedStore (storeOf a x)
+keptStore a x = lentFits (storeOf a x)
 
 -- where the shard of a key stands, or the count
 abbrev pub placeOf : Node → Key → ℕ

@@ -5,19 +5,19 @@ use Rattle.state.specs.Names.{viewKey}
 use Rattle.state.proofs.Tables.{of-field}
 use Rattle.header.specs.Formed.{formedNode}
 use Rattle.header.proofs.OfFormed.{header-few}
-use Rattle.peers.proofs.OfLend.{lent-malformed, absent-short, absent-found, held-found, held-malformed}
+use Rattle.lend.proofs.OfLend.{lent-malformed, absent-short, absent-found, held-found, held-malformed}
 use native.Mathlib.Omega.{arith}
 use mathlib.Core.Path.{_≡_, refl, sym, _∙_, ap}
 use mathlib.Core.List.{List, [], _∷_, _++_}
 use Prim.Native.Nat.{ℕ, _+_, _-_, _*_, _≤_, _<_}
 use lib.ListN.{length, getD, take, drop, set}
-use Rattle.peers.proofs.tested.lent_shard.Statement.{statement}
-use Rattle.peers.proofs.tested.lent_shard.Tie as tie
-use Rattle.peers.proofs.tested.lent_shard.Reads as reads
-use Rattle.peers.proofs.tested.lent_shard.Lts as lts
+use Rattle.lend.proofs.tested.lent_shard.Statement.{statement}
+use Rattle.lend.proofs.tested.lent_shard.Tie as tie
+use Rattle.lend.proofs.tested.lent_shard.Reads as reads
+use Rattle.lend.proofs.tested.lent_shard.Lts as lts
 use Rattle.header.proofs.formed.formed_node.Reads as formed-node-reads
 use Rattle.header.proofs.shards.place_of.Reads as place-of-reads
-use Rattle.peers.proofs.tested.kept_store.Reads as kept-store-reads
+use Rattle.lend.proofs.tested.kept_store.Reads as kept-store-reads
 
 -- the shards in use are in the array
 fits : (c : tie.Start) → formedNode (c .args .n) ≡ true → c .args .n .count ≤ length (c .args .n .held)

@@ -1,0 +1,2 @@
+pub mod OfKeys
+pub mod OfLend
