@@ -1,21 +1,20 @@
 -- Laws of a lent store: its test, how a shard is read with it, and that a call which changes it changes no other shard. Assumes nothing.
-use Prim.Native.Nat.{ℕ, zero, suc, _+_, _<_, _≤_}
+use Prim.Native.Nat.{ℕ, zero, suc, _<_, _≤_}
 use mathlib.Core.Path.{_≡_, refl, sym, ap, subst, _∙_}
 use mathlib.Core.Bool.{Bool, true, false, cond, not}
 use mathlib.Core.List.{List, [], _∷_, map}
 use native.Mathlib.Omega.{arith}
-use lib.Dec.{eqb, leb, ltb}
+use lib.Dec.{eqb, leb}
 use lib.ListN.{length, getD, take, set}
 use lib.Seq.{take-set-lt, length-take-le, getD-take}
 use borrow.Author.Tests.{eqb-true, eqb-false, eq-eqb, lt-ltb, le-ltb, le-leb, lt-leb, not-true}
 use Rattle.model.specs.Lists.{_and_, any, lead}
-use Rattle.model.specs.Limits.{maxHeld}
 use Rattle.model.specs.Keys.{Key}
 use Rattle.model.specs.Log.{Log, Vectors}
 use Rattle.model.specs.Map.Apply.{update}
 use Rattle.model.specs.Node.Held as held
 use Rattle.model.specs.Node.Shards.{Result, gives, ofKey, withHeld, atShard}
-use Rattle.model.proofs.Lists.{by-test, and-true, and-left, and-right, not-both}
+use Rattle.model.proofs.Lists.{by-test, and-left, and-right, not-both}
 use Rattle.model.proofs.Node.Shards.{at-held}
 use Rattle.node.specs.declared.Held.{Held}
 use Rattle.node.specs.View.{viewHeld}
@@ -29,7 +28,7 @@ use Rattle.writes.specs.Writes.{viewStored}
 use Rattle.replica.proofs.OfFits.{fits-sized, fits-well}
 use Rattle.header.specs.declared.Kept.{Kept}
 use Rattle.header.specs.declared.Node.{Node}
-use Rattle.header.specs.View.{Stores, viewKept, viewNode, used, otherKey, noKept}
+use Rattle.header.specs.View.{Stores, viewKept, viewNode, used, noKept}
 use Rattle.header.specs.Formed.{lentNode, formedNode, onSlot, slotsFit}
 use Rattle.header.proofs.OfLists.{by-case, map-lead}
 use Rattle.header.proofs.OfFormed.{header-apart, formed-lent}
