@@ -1,17 +1,13 @@
 -- The key that a decoded message names stands in the bytes, and is the key that model's decoder reads. Assumes nothing.
-use Prim.Native.Nat.{ℕ, _+_, _≤_}
+use Prim.Native.Nat.{ℕ}
 use mathlib.Core.Path.{_≡_, refl, sym, ap, subst, _∙_}
-use mathlib.Core.Bool.{true}
 use mathlib.Core.List.{List}
 use mathlib.Core.Option.{Option, none, some}
-use lib.ListN.{length}
-use Rattle.model.specs.Keys.{Key, Name}
-use Rattle.model.specs.Layout.Format.{fits, value, whole}
-use Rattle.model.specs.Layout.Parts.{u32, nameF, keyF, keyOf}
+use Rattle.model.specs.Layout.Format.{value, whole}
 use Rattle.model.specs.Layout.Message as message
 use Rattle.model.proofs.LayoutLaws.Tests.{and-left, and-right}
 use Rattle.model.proofs.LayoutLaws.Data.{whenever-some}
-use Rattle.rpc.specs.Shown.{keyShown, messageOf, replicatePart, copyPart}
+use Rattle.rpc.specs.Shown.{messageOf, replicatePart, copyPart}
 use Rattle.rpc.specs.declared.ReplicatePart.{ReplicatePart}
 use Rattle.rpc.specs.declared.CopyPart.{CopyPart}
 use Rattle.rpc.specs.declared.Message.the-variants.{Replicate, CopyShard}

@@ -23,7 +23,7 @@ use Rattle.rpc.specs.Shown.{messageOf}
 use Rattle.rpc.specs.declared.ReplicatePart.{ReplicatePart}
 use Rattle.rpc.specs.declared.CopyPart.{CopyPart}
 use Rattle.rpc.specs.declared.Message.the-variants.{Replicate, CopyShard}
-use Rattle.rpc.proofs.Decoded.{Decoded, replicate-decoded, copy-decoded}
+use Rattle.rpc.proofs.Decoded.{replicate-decoded, copy-decoded}
 use Rattle.arrivals.specs.Parts.{opIn, entriesIn}
 use Rattle.arrivals.proofs.OfMessages.{replicate-op, copy-entries}
 use Rattle.backup.specs.declared.Answer.{Answer}
@@ -38,7 +38,6 @@ use Rattle.header.proofs.OfFormed.{header-few}
 use Rattle.header.proofs.OfShards.{call-absent}
 use Rattle.peers.specs.declared.PeerReply.{PeerReply}
 use Rattle.peers.specs.declared.PeerReply.the-variants as P
-use Rattle.peers.specs.declared.PeerAnswer.{PeerAnswer}
 use Rattle.lend.specs.declared.Lent.the-variants as L
 use Rattle.lend.specs.declared.Lent as found
 use Rattle.lend.specs.Named.{keyIn}
