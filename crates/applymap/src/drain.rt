@@ -1,9 +1,8 @@
 // The requests that stand in the bytes at hand, one after the other.
 ghost use Rattle.applymap.specs.Stream.{Sound, DrainedAs};
 use crate::Drained;
-use crate::answer::said_of;
-use crate::lines::line;
 use crate::step::step;
+use lines::print::line;
 use requests::request_at;
 use state::ShardMap;
 
@@ -23,7 +22,7 @@ pub fn drain(map: ShardMap, s: &[u8]) -> Drained
         let done = step(m, r);
         let next = done.map;
         let verdict = done.verdict;
-        line(r.index, said_of(verdict), next.version);
+        line(r.index, verdict, next.version);
         m = next;
         at = read.next;
     }

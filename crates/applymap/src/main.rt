@@ -9,24 +9,9 @@ use input::refill;
 use requests::start::empty_map;
 use state::ShardMap;
 
-mod answer;
 mod drain;
 mod input;
-mod lines;
 mod step;
-
-// The word of a line.
-pub enum Word {
-    Applied,
-    Rejected,
-    Refused,
-}
-
-// What a line says of an answer.
-pub struct Said {
-    pub word: Word,
-    pub reason: u64,
-}
 
 // The map after the requests that stood in the bytes at hand, and the place after the last of them.
 pub struct Drained {

@@ -1,23 +1,8 @@
 // What a record is made of (paper 01, 'Bytes on the wire').
 
 use ieee::order::bits_in_domain;
+use lines::parts::float_of;
 use rpc::Part;
-
-// The first n bytes, or all where there are fewer.
-pub fn first<'a>(s: &'a [u8], n: usize) -> &'a [u8] {
-    if s.len() < n {
-        return s;
-    }
-    &s[..n]
-}
-
-// The first n floats, or all where there are fewer.
-pub fn first_floats<'a>(s: &'a [f32], n: usize) -> &'a [f32] {
-    if s.len() < n {
-        return s;
-    }
-    &s[..n]
-}
 
 // The two bytes at a place as a number; 0 where they are not there.
 pub fn two(s: &[u8], at: usize) -> usize {
@@ -54,14 +39,6 @@ fn component(s: &[u8], at: usize, i: usize) -> u32 {
         return 0;
     }
     num::get4(s, from)
-}
-
-// A float of the domain; 0 for the bits of any other.
-fn float_of(b: u32) -> f32 {
-    if !bits_in_domain(b) {
-        return 0.0;
-    }
-    f32::from_bits(b)
 }
 
 // The floats of a message's vector; whether all of them lie in the domain.

@@ -1,22 +1,22 @@
 // The calls that change nothing: 6 epoch ends, 7 entries from, 8 vector, 9 ids, 10 search, 11 state.
 
 use crate::Held;
-use crate::input::first_floats;
 use crate::input::floats_of;
 use crate::input::long;
 use crate::input::two;
-use crate::lines::hits;
-use crate::lines::line;
-use crate::lines::number;
-use crate::lines::refused;
-use crate::lines::word;
 use crate::shown::ends;
 use crate::shown::entries;
 use crate::shown::listed;
 use crate::shown::place_of;
 use crate::shown::vector;
 use crate::shown::vectors;
-use model::Metric;
+use lines::parts::first_floats;
+use lines::parts::metric_of;
+use lines::words::hits;
+use lines::words::line;
+use lines::words::number;
+use lines::words::refused;
+use lines::words::word;
 use nearest::answer::Found;
 use replica::searches::search;
 use rpc::Message;
@@ -101,13 +101,6 @@ fn vector_by_id(
         return word(b"none\n");
     }
     vector(codes, lengths, floats, keys, places, h.count, i)
-}
-
-fn metric_of(b: u8) -> Metric {
-    if b == 0 {
-        return Metric::Euclidean;
-    }
-    Metric::Angular
 }
 
 fn nearest_to(

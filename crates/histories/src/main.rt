@@ -3,17 +3,17 @@
 // An unknown call or a record that is cut short ends the program. stdin is oracle/stored/history/chosen.in, full.in, random-1.in,
 // random-2.in and random-3.in one after the other, stdout their .out: the answers of the Rust. Append, store, copy, adopt and search
 // are crate replica's exported calls; the others are shown from the columns.
-use input::first;
 use input::two;
-use lines::word;
+use lines::parts::first;
+use lines::words::word;
 use looks::look;
 use moves::entries_or_epoch;
 use moves::make;
 use moves::one_entry;
 use moves::promote;
 
+mod answers;
 mod input;
-mod lines;
 mod looks;
 mod moves;
 mod shown;

@@ -1,10 +1,10 @@
 // The calls that change the replica: 0 make, 1 append, 2 store, 3 copy, 4 adopt, 5 promote.
 
 use crate::Held;
+use crate::answers::answer;
 use crate::input::long;
-use crate::lines::answer;
-use crate::lines::refused;
-use crate::lines::word;
+use lines::words::refused;
+use lines::words::word;
 use model::Epoch;
 use replica::Done;
 use replica::adopts::adopt;

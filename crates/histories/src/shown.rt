@@ -1,9 +1,9 @@
 // What the store holds (paper 01, 'The log'), printed from its columns.
 
-use crate::lines::line;
-use crate::lines::number;
-use crate::lines::row;
-use crate::lines::word;
+use lines::words::line;
+use lines::words::number;
+use lines::words::row;
+use lines::words::word;
 use model::Offset;
 use shard::components;
 

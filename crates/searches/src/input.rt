@@ -1,6 +1,7 @@
 // What a case is made of, as it stands on standard input (paper 01, 'Bytes on the wire').
 
 use ieee::order::bits_in_domain;
+use lines::parts::float_of;
 
 // Whether a vector was read, and whether all of it lies in the domain.
 pub struct QueryRead {
@@ -10,22 +11,6 @@ pub struct QueryRead {
 
 pub fn wide(b: u8) -> usize {
     b as usize
-}
-
-// The first n bytes, or all where there are fewer.
-pub fn first<'a>(s: &'a [u8], n: usize) -> &'a [u8] {
-    if s.len() < n {
-        return s;
-    }
-    &s[..n]
-}
-
-// The first n floats, or all where there are fewer.
-pub fn first_floats<'a>(s: &'a [f32], n: usize) -> &'a [f32] {
-    if s.len() < n {
-        return s;
-    }
-    &s[..n]
 }
 
 // The first two bytes as a number.
@@ -102,14 +87,6 @@ pub fn operation(message: &mut [u8]) -> usize {
         return 0;
     }
     vector(message, 55)
-}
-
-// A float of the domain; 0 for the bits of any other.
-fn float_of(b: u32) -> f32 {
-    if !bits_in_domain(b) {
-        return 0.0;
-    }
-    f32::from_bits(b)
 }
 
 // The floats of n components; whether all of them lie in the domain.

@@ -2,13 +2,15 @@
 // a query, and operations that are appended to an empty replica; for each a line `found C` and C lines with an id and the bits of its
 // distance, or `refused 22`, on standard output. stdin is oracle/stored/search/chosen.in and random.in one after the other, stdout their
 // .out: the answers of the Rust. Every append and the search are crate replica's exported calls.
-use input::first;
 use input::floats_in;
 use input::four;
 use input::operation;
 use input::two;
-use lines::hits;
-use lines::refused;
+use lines::parts::first;
+use lines::parts::first_floats;
+use lines::parts::metric_of;
+use lines::words::hits;
+use lines::words::refused;
 use model::Epoch;
 use model::Metric;
 use nearest::answer::Found;
@@ -17,7 +19,6 @@ use replica::appends::append;
 use replica::searches::search;
 
 mod input;
-mod lines;
 
 // What was played: whether all of it was read, whether all of it was taken, and how many entries and rows there are then.
 struct Played {
@@ -84,13 +85,6 @@ fn play(
         left -= 1;
     }
     p
-}
-
-fn metric_of(b: u8) -> Metric {
-    if b == 0 {
-        return Metric::Euclidean;
-    }
-    Metric::Angular
 }
 
 // The operations of a case, and its answer's lines. False where they do not read.
@@ -173,13 +167,7 @@ fn one() -> bool {
     if 1024 < operations {
         return false;
     }
-    answer(
-        operations,
-        metric,
-        k,
-        input::first_floats(&query, n),
-        q.inside,
-    )
+    answer(operations, metric, k, first_floats(&query, n), q.inside)
 }
 
 // Nothing says that an input ends, so the cases are counted down.

@@ -4,7 +4,7 @@ ghost use mathlib.Core.Bool.{true};
 ghost use Rattle.model.specs.Map.WellFormed.{wellFormedMap};
 ghost use Rattle.state.specs.Counted.{TablesCounted};
 ghost use Rattle.state.specs.View.{viewMap};
-use crate::lines::line;
+use lines::print::line;
 use requests::request_at;
 use settle::settle;
 use state::ShardMap;

@@ -4,16 +4,15 @@
 // all.out: what the oracle printed of the Rust's map. The map is crate settle's; this program shows it.
 ghost use Rattle.state.specs.Counted.{TablesCounted};
 use drain::drain;
+use lines::words::number;
 use nodes::collections;
 use nodes::nodes;
 use requests::start::empty_map;
 use sessions::sessions;
 use shards::shards;
 use state::ShardMap;
-use words::number;
 
 mod drain;
-mod lines;
 mod nodes;
 mod sessions;
 mod shards;

@@ -2,7 +2,7 @@
 ghost use Prim.Native.Nat.{_≤_};
 use crate::words::byte;
 use crate::words::name;
-use crate::words::number;
+use lines::words::number;
 use model::Metric;
 use state::Address;
 use state::CollectionRow;

@@ -1,9 +1,9 @@
 // The sessions of a map, a line for each: what is remembered of a client, with the operands of a rejection.
 ghost use Prim.Native.Nat.{_≤_};
-use crate::lines::reason;
 use crate::words::key;
 use crate::words::name;
-use crate::words::number;
+use lines::reason;
+use lines::words::number;
 use model::DataNodeId;
 use model::Epoch;
 use state::Outcome;

@@ -1,7 +1,7 @@
 // The shards of a map, a line for each: the replicas in their order, the in-sync set by rising id.
 ghost use Prim.Native.Nat.{_≤_};
 use crate::words::key;
-use crate::words::number;
+use lines::words::number;
 use state::Holders;
 use state::InSync;
 use state::Primary;

@@ -4,11 +4,6 @@ use state::Name;
 use state::ShardKey;
 use state::names::name_size;
 
-pub fn number(n: u64) {
-    io::write_all(1, b" ");
-    io::print_decimal(1, n);
-}
-
 pub fn byte(b: u8) {
     io::print_hex(1, b as u64, 2);
 }

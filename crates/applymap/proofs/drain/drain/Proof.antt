@@ -40,24 +40,21 @@ step-requires c κs =
     let r = c .before .before .before .request-at in
     (l .inv .0, r .ensures .within (not-false _ (c .before .if1 .left)))
 
-said-of-requires : tie.Need-said-of-requires Inv-loop μ-loop
-said-of-requires c κs = search needs
-
 line-requires : tie.Need-line-requires Inv-loop μ-loop
 line-requires c κs = search needs
 
 loop-less : tie.Need-loop-less Inv-loop μ-loop
 loop-less c =
-    let r = c .before .before .before .before .before .before .before .before .request-at in
-    omega (arith, r .ensures .passes (not-false _ (c .before .before .before .before .before .before .if1 .left)), r .ensures .inside (not-false _ (c .before .before .before .before .before .before .if1 .left)))
+    let r = c .before .before .before .before .before .before .before .request-at in
+    omega (arith, r .ensures .passes (not-false _ (c .before .before .before .before .before .if1 .left)), r .ensures .inside (not-false _ (c .before .before .before .before .before .if1 .left)))
 
 loop-again : tie.Need-loop-again Inv-loop μ-loop
 loop-again c =
-    let l = c .before .before .before .before .before .before .before .before .before .loop in
-    let a = c .before .before .before .before .before .before .before .before .before .before .before .args in
-    let r = c .before .before .before .before .before .before .before .before .request-at in
-    let d = c .before .before .before .before .step in
-    (d .ensures .sound, r .ensures .inside (not-false _ (c .before .before .before .before .before .before .if1 .left)), stepped-on (a .s .now) (l .at) (r .result) (r .ensures) _ (l .m) (d .result) (not-false _ (c .before .before .before .before .before .before .if1 .left)) (l .inv .2) (d .ensures))
+    let l = c .before .before .before .before .before .before .before .before .loop in
+    let a = c .before .before .before .before .before .before .before .before .before .before .args in
+    let r = c .before .before .before .before .before .before .before .request-at in
+    let d = c .before .before .before .step in
+    (d .ensures .sound, r .ensures .inside (not-false _ (c .before .before .before .before .before .if1 .left)), stepped-on (a .s .now) (l .at) (r .result) (r .ensures) _ (l .m) (d .result) (not-false _ (c .before .before .before .before .before .if1 .left)) (l .inv .2) (d .ensures))
 
 pub drain-spec : {M : Type 1} → statement M
 drain-spec =
@@ -69,7 +66,6 @@ drain-spec =
     request-at-requires
     returns
     step-requires
-    said-of-requires
     line-requires
     loop-less
     loop-again)
