@@ -4,7 +4,7 @@
 pub mod align;
 mod log;
 pub mod replica;
-mod table;
+pub mod table;
 
 use model::Offset;
 ghost use mathlib.Core.Path.{_≡_};

@@ -1,0 +1,3 @@
+pub mod OfVectors
+pub mod OfEnds
+pub mod OfEntries

@@ -1,0 +1,226 @@
+-- Laws of the vector of an id: the row that the table has for it, and the vector that its log gives it. Assumes nothing.
+use Prim.Native.Nat.{ℕ, zero, suc, _≤_, _<_}
+use mathlib.Core.Path.{_≡_, refl, sym, ap, _∙_, subst}
+use mathlib.Core.Bool.{Bool, true, false, not, cond}
+use mathlib.Core.List.{List, [], _∷_, map}
+use mathlib.Core.Option.{Option, none, some}
+use native.Mathlib.Omega.{arith}
+use borrow.Author.Tests.{ltb-true, eq-eqb, ne-eqb}
+use lib.Dec.{eqb, ltb}
+use lib.Ieee.{Float}
+use lib.ListN.{length, take, getD, length-map}
+use Rattle.model.specs.Lists.{_and_, find, filter, lead}
+use Rattle.model.specs.Refusals.{numberOf, malformed}
+use Rattle.model.specs.Nearest.Search.{Vector}
+use Rattle.model.specs.Log.{Log, Vectors, play, lookup}
+use Rattle.model.proofs.Lists.{not-both}
+use Rattle.model.proofs.Log.Numbered.{Numbered}
+use Rattle.shard.specs.Table.{Row, rowsOf, otherRow, playRows, vectorOf, vectorsOf}
+use Rattle.shard.specs.Store.{Store, storeLog, storeRows}
+use Rattle.shard.proofs.Put.{lead-true, lead-false, filter-true, filter-false}
+use Rattle.shard.proofs.Rows.{rows-length, rows-at, rows-lead, no-row}
+use Rattle.shard.proofs.Without.{drop-absent}
+use Rattle.shard.proofs.Tabled.{here, not-here}
+use Rattle.shard.proofs.PlayRows.{rows-vectors}
+use Rattle.shard.proofs.Facts.{Facts, facts, rows-rising, keys-fit, places-fit}
+use Rattle.replica.specs.Fits.{lentFits}
+use Rattle.replica.proofs.OfFits.{fits-sized, fits-well}
+use Rattle.lookups.specs.Vectors.{hasId, componentsOf, vectorIn, rowOfId, standingOf, standingLent, shownAt, Stands, orEmpty, vectorLent, lenLent, emptyLent}
+use Rattle.lookups.specs.declared.vectors.Standing.{Standing}
+use Rattle.lookups.specs.declared.vectors.Standing.the-variants as S
+use Rattle.lookups.specs.declared.vectors.Count.the-variants as C
+use Rattle.lookups.specs.declared.vectors.Emptiness.the-variants as E
+
+-- ---- the row of an id
+
+module _ {ℓ} {A : Type ℓ} (p : A → Bool) (y : A) (ys : List A) where
+  find-true : p y ≡ true → find p (y ∷ ys) ≡ some y
+  unfolding find
+  find-true e = rw e
+
+  find-false : p y ≡ false → find p (y ∷ ys) ≡ find p ys
+  unfolding find
+  find-false e = rw e
+
+module _ (id : ℕ) where
+  abbrev below : Row → Bool
+  below y = ltb (y .id) id
+
+  abbrev Found : List Row → ℕ → Type 0
+  Found l k = k < length l → getD l k no-row .id ≡ id → find (rowOfId id) l ≡ some (getD l k no-row)
+
+  -- the row behind those that stand below, where it is the id's
+  found : (l : List Row) → Found l (lead below l)
+  found [] = λ h q. absurd (nothing (lead below []) h)
+    where
+      nothing : (n : ℕ) → n < 0 → ⊥
+      nothing n h = omega arith
+  found (y ∷ ys) = go (ltb (y .id) id) refl (found ys)
+    where
+      go : (b : Bool) → ltb (y .id) id ≡ b → Found ys (lead below ys) → Found (y ∷ ys) (lead below (y ∷ ys))
+      go true e ih =
+          subst (Found (y ∷ ys)) (sym (lead-true below y ys e))
+          (λ h q.
+          let l = ltb-true (y .id) id e in
+          find-false (rowOfId id) y ys (ne-eqb (y .id) id (λ e. omega arith)) ∙ ih (omega arith) q)
+      go false e ih =
+          subst (Found (y ∷ ys)) (sym (lead-false below y ys e)) (λ h q. find-true (rowOfId id) y ys (eq-eqb (y .id) id q))
+
+  -- none among the rows of other ids
+  none-other : (l : List Row) → find (rowOfId id) (filter (otherRow id) l) ≡ none
+  unfolding find filter
+  none-other [] = refl
+  none-other (y ∷ ys) = go (eqb (y .id) id) refl (none-other ys)
+    where
+      go : (b : Bool) → eqb (y .id) id ≡ b → find (rowOfId id) (filter (otherRow id) ys) ≡ none
+          → find (rowOfId id) (filter (otherRow id) (y ∷ ys)) ≡ none
+      go true e ih = ap (find (rowOfId id)) (filter-false (otherRow id) y ys (rw e)) ∙ ih
+      go false e ih =
+          ap (find (rowOfId id)) (filter-true (otherRow id) y ys (rw e))
+          ∙ find-false (rowOfId id) y (filter (otherRow id) ys) e ∙ ih
+
+-- ---- its vector
+
+module _ (l : Log) (id : ℕ) where
+  abbrev vectorAt : Option Row → Option Vector
+  vectorAt none = none
+  vectorAt (some r) = some (vectorOf l r)
+
+  find-rows : (rs : List Row) → find (hasId id) (vectorsOf l rs) ≡ vectorAt (find (rowOfId id) rs)
+  unfolding find vectorsOf vectorOf
+  find-rows [] = refl
+  find-rows (r ∷ rs) = go (eqb (r .id) id) refl (find-rows rs)
+    where
+      go : (b : Bool) → eqb (r .id) id ≡ b → find (hasId id) (vectorsOf l rs) ≡ vectorAt (find (rowOfId id) rs)
+          → find (hasId id) (vectorsOf l (r ∷ rs)) ≡ vectorAt (find (rowOfId id) (r ∷ rs))
+      go true e ih = rw e
+      go false e ih = rw e ih
+
+  shown-row : (r : Option Row) → shownAt l (standingOf r) ≡ componentsOf (vectorAt r)
+  unfolding vectorOf
+  shown-row none = refl
+  shown-row (some r) = refl
+
+  -- a lookup at the offset that the log played gives the id is the vector that it gives the id
+  pub shown : Numbered l → shownAt l (standingOf (find (rowOfId id) (playRows l))) ≡ vectorIn id (play l)
+  unfolding vectorIn
+  shown h =
+      shown-row (find (rowOfId id) (playRows l))
+      ∙ ap componentsOf (sym (find-rows (playRows l)))
+      ∙ ap (λ (vs : Vectors). componentsOf (find (hasId id) vs)) (rows-vectors l h)
+
+-- ---- a store that passed the test (24)
+
+module _ (s : Store) (f : lentFits s ≡ true) where
+  of-store : Facts s
+  of-store = facts s (fits-well s f)
+
+  hk : s .stored ≤ length (s .keys)
+  hk = keys-fit s of-store (fits-sized s f)
+
+  hp : s .stored ≤ length (s .places)
+  hp = places-fit s of-store (fits-sized s f)
+
+  -- as many vectors as rows
+  held : length (play (storeLog s)) ≡ s .stored
+  unfolding vectorsOf
+  held =
+      ap length (sym (rows-vectors (storeLog s) (of-store .numbered)))
+      ∙ length-map (playRows (storeLog s)) (vectorOf (storeLog s))
+      ∙ ap length (sym (of-store .rows))
+      ∙ rows-length (s .keys) (s .places) (s .stored) hk hp
+
+  module _ (id at : ℕ) (isAt : at ≡ lead (λ k. ltb k id) (take (s .stored) (s .keys)))
+      (b : Bool) (e : b ≡ (ltb at (s .stored) and eqb (getD (s .keys) at 0) id)) where
+    place-of : at ≡ lead (below id) (storeRows s)
+    place-of = isAt ∙ sym (rows-lead (s .keys) (s .places) (s .stored) hk hp id)
+
+    row-there : b ≡ true → standingOf (find (rowOfId id) (storeRows s)) ≡ S.At (record { 0 = getD (s .places) at 0 })
+    row-there t =
+        let h = here at (s .stored) (getD (s .keys) at 0) id b e t in
+        let r = rows-at (s .keys) (s .places) (s .stored) hk hp at no-row (h .0) in
+        ap standingOf
+        (subst (Found id (storeRows s)) (sym place-of) (found id (storeRows s))
+        (subst (λ (n : ℕ). at < n) (sym (rows-length (s .keys) (s .places) (s .stored) hk hp)) (h .0))
+        (ap (λ (x : Row). x .id) r ∙ h .1)
+        ∙ ap some r)
+
+    row-absent : b ≡ false → standingOf (find (rowOfId id) (storeRows s)) ≡ S.Missing
+    row-absent q =
+        ap standingOf
+        (ap (find (rowOfId id))
+        (drop-absent (s .keys) (s .places) (s .stored) hk hp (rows-rising s of-store) id at isAt
+        (not-here at (s .stored) (getD (s .keys) at 0) id b e q))
+        ∙ none-other id (storeRows s))
+
+-- ---- what each call answers, one law for each way out
+
+module _ (s : Store) where
+  module _ (id : ℕ) where
+    abbrev standing : Standing
+    standing = standingOf (find (rowOfId id) (playRows (storeLog s)))
+
+    standing-by : (b : Bool) → lentFits s ≡ b → standingLent s id ≡ cond (not b) (S.Refused (numberOf malformed)) standing
+    unfolding standingLent
+    standing-by b e = ap (λ (x : Bool). cond (not x) (S.Refused (numberOf malformed)) standing) e
+
+    pub stands-malformed : lentFits s ≡ false → Stands s id (S.Refused 24)
+    stands-malformed e = record { answer = sym (standing-by false e); vector = λ t. not-both (lentFits s) t e }
+
+    stands : lentFits s ≡ true → (r : Standing) → standingOf (find (rowOfId id) (storeRows s)) ≡ r → Stands s id r
+    stands f r e =
+        let p : r ≡ standing = sym e ∙ ap (λ (rs : List Row). standingOf (find (rowOfId id) rs)) (of-store s f .rows) in
+        record {
+          answer = p ∙ sym (standing-by true f);
+          vector = λ t. ap (shownAt (storeLog s)) p ∙ shown (storeLog s) id (of-store s f .numbered);
+        }
+
+    module _ (f : lentFits s ≡ true) (at : ℕ) (isAt : at ≡ lead (λ k. ltb k id) (take (s .stored) (s .keys)))
+        (b : Bool) (e : b ≡ (ltb at (s .stored) and eqb (getD (s .keys) at 0) id)) where
+      pub stands-at : b ≡ true → Stands s id (S.At (record { 0 = getD (s .places) at 0 }))
+      stands-at t = stands f (S.At (record { 0 = getD (s .places) at 0 })) (row-there s f id at isAt b e t)
+
+      pub stands-missing : b ≡ false → Stands s id S.Missing
+      stands-missing q = stands f S.Missing (row-absent s f id at isAt b e q)
+
+    abbrev vector : List Float
+    vector = orEmpty (vectorIn id (play (storeLog s)))
+
+    -- the lookup at the answered offset is the vector; any other answer has none
+    vector-by : (r : Standing) → Stands s id r → orEmpty (shownAt (storeLog s) r) ≡ vectorLent s id
+    unfolding vectorLent
+    vector-by r d = go (lentFits s) refl
+      where
+        go : (b : Bool) → lentFits s ≡ b → orEmpty (shownAt (storeLog s) r) ≡ cond (not (lentFits s)) [] vector
+        go true e = ap orEmpty (d .vector e) ∙ sym (ap (λ (x : Bool). cond (not x) [] vector) e)
+        go false e =
+            ap (λ (x : Standing). orEmpty (shownAt (storeLog s) x)) (d .answer ∙ standing-by false e)
+            ∙ sym (ap (λ (x : Bool). cond (not x) [] vector) e)
+
+    pub vector-there : (o : ℕ) → Stands s id (S.At (record { 0 = o })) → lookup (storeLog s) o ≡ vectorLent s id
+    vector-there o d = vector-by (S.At (record { 0 = o })) d
+
+    pub vector-none : (r : Standing) → ((o : ℕ) → r ≡ S.At (record { 0 = o }) → ⊥) → Stands s id r → [] ≡ vectorLent s id
+    vector-none (S.At o) n d = absurd (n (o .0) refl)
+    vector-none S.Missing n d = vector-by S.Missing d
+    vector-none (S.Refused x) n d = vector-by (S.Refused x) d
+
+  pub len-malformed : lentFits s ≡ false → C.Refused 24 ≡ lenLent s
+  unfolding lenLent
+  len-malformed e = rw e
+
+  pub len-told : lentFits s ≡ true → C.Vectors (s .stored) ≡ lenLent s
+  unfolding lenLent
+  len-told f = rw (f, held s f)
+
+  pub empty-malformed : lentFits s ≡ false → E.Refused 24 ≡ emptyLent s
+  unfolding emptyLent
+  empty-malformed e = rw e
+
+  pub empty-told : lentFits s ≡ true → s .stored ≡ 0 → E.Empty ≡ emptyLent s
+  unfolding emptyLent
+  empty-told f z = rw (f, held s f, eq-eqb (s .stored) 0 z)
+
+  pub empty-filled : lentFits s ≡ true → (s .stored ≡ 0 → ⊥) → E.Filled ≡ emptyLent s
+  unfolding emptyLent
+  empty-filled f z = rw (f, held s f, ne-eqb (s .stored) 0 z)
