@@ -1,2 +1,3 @@
 pub mod OfNamed
+pub mod OfSlots
 pub mod OfPeers

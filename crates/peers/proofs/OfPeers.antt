@@ -1,22 +1,23 @@
 -- Laws of the primary's messages at a node, one for each way out. Assumes nothing.
-use Prim.Native.Nat.{ℕ, _<_}
+use Prim.Native.Nat.{ℕ, _<_, _≤_}
 use native.Mathlib.Omega.{arith}
 use mathlib.Core.Path.{_≡_, refl, sym, ap, subst, _∙_}
 use mathlib.Core.Bool.{Bool, true, false, cond, not}
 use mathlib.Core.List.{List, map}
 use mathlib.Core.Option.{none, some}
-use lib.ListN.{getD}
+use lib.ListN.{length, getD}
 use Rattle.model.specs.Lists.{every}
 use Rattle.model.specs.Keys.{Key}
 use Rattle.model.specs.Refusals.{outsideDomain, malformed}
 use Rattle.model.specs.Layout.Message as message
 use Rattle.model.specs.Layout.Parts.{WireOp, WireEntry}
 use Rattle.model.specs.Node.Held as held
-use Rattle.model.specs.Node.Shards.{Result, gives, atShard}
+use Rattle.model.specs.Node.Shards.{Result, gives, shardOf, atShard}
 use Rattle.model.specs.Node.Wire.{opInDomain, entryInDomain, storedOp, storedEntry}
 use Rattle.model.specs.Node.Backup.{BackupAnswer, backupRefused, unheld, replicateHeld, onReplicate, copyHeld, onCopy}
 use Rattle.model.specs.Node.Calls as calls
 use Rattle.model.proofs.Lists.{not-both}
+use Rattle.model.proofs.Node.Shards.{at-absent}
 use Rattle.node.specs.declared.Held.{Held}
 use Rattle.shard.specs.Store.{Store}
 use Rattle.rpc.specs.Shown.{messageOf}
@@ -32,10 +33,11 @@ use Rattle.backup.specs.declared.Backed.{Backed}
 use Rattle.backup.specs.Backs.{answered, Backs, Replicates, CopiesShard}
 use Rattle.backup.specs.Backs as backs
 use Rattle.header.specs.declared.Node.{Node}
-use Rattle.header.specs.View.{Stores, viewNode, noKept}
+use Rattle.header.specs.View.{Stores, viewNode, used, noKept}
+use Rattle.header.specs.Formed.{slotsFit}
 use Rattle.header.specs.Answers.{told}
-use Rattle.header.proofs.OfFormed.{header-few}
-use Rattle.header.proofs.OfShards.{call-absent}
+use Rattle.header.proofs.OfFormed.{header-few, header-apart}
+use Rattle.header.proofs.OfShards.{shard-none, shard-some}
 use Rattle.peers.specs.declared.PeerReply.{PeerReply}
 use Rattle.peers.specs.declared.PeerReply.the-variants as P
 use Rattle.lend.specs.declared.Lent.the-variants as L
@@ -45,14 +47,16 @@ use Rattle.lend.specs.Lend.{Lot, storeIn, storeOf, lentFor, slotOf, Finds, Foun
 use Rattle.peers.specs.Peers.{word, turnedDown, Serves, ReplicateSlot, ReplicatesAt, CopySlot, CopiesAt}
 use Rattle.peers.proofs.OfNamed.{replicate-key, copy-key}
 use Rattle.lend.proofs.OfLend.{slot-held, call-store, node-view}
+use Rattle.peers.proofs.OfSlots.{slots-kept}
 
 -- the lent store and the header stay
-unchanged : (call : (Key → Bool) → held.Node → Result BackupAnswer held.Node) (lends : ℕ → Type 0) (n : Node) (a : Lot) (w : PeerReply)
+pub unchanged : (call : (Key → Bool) → held.Node → Result BackupAnswer held.Node) (lends : ℕ → Type 0) (n : Node) (a : Lot) (w : PeerReply)
     → ((s : Stores) → record { answer = w; node = viewNode s n } ≡ told word (call (lentFor s n a) (viewNode s n)))
     → Serves call lends n a a (record { answer = w; node = n })
 unchanged call lends n a w e = record {
   same = λ s t slot l c. ap (λ (v : held.Node). record { answer = w; node = v }) (node-view s t slot a c n) ∙ e s;
   kept = λ z. refl;
+  slots = header-apart n;
 }
 
 -- a reply is turned down where the answer is
@@ -67,20 +71,20 @@ turned-as A.NoRoom e = refl
 abbrev lotOf : Store → Lot
 lotOf s = record { columns = s .columns; keys = s .keys; places = s .places }
 
--- ---- a message that was read: 22 unless `fine`, 24 unless the lent state passes, then `does` at the shard of the key
+-- ---- a message that was read: 22 unless `fine`, 24 unless the lent state passes, then `rest`, which at a held shard of the key is `does`
 
-abbrev atOf : (Key → Bool) → held.Node → Key → Bool → (held.Held → Result BackupAnswer held.Held) → Result BackupAnswer held.Node
-atOf lent v k fine does =
-    cond (not fine) (gives (backupRefused outsideDomain) v)
-    (cond (not (lent k)) (gives (backupRefused malformed) v) (atShard v k unheld does))
+abbrev pub atOf : (Key → Bool) → held.Node → Key → Bool → Result BackupAnswer held.Node → Result BackupAnswer held.Node
+atOf lent v k fine rest =
+    cond (not fine) (gives (backupRefused outsideDomain) v) (cond (not (lent k)) (gives (backupRefused malformed) v) rest)
 
-pub record Reading (call : (Key → Bool) → held.Node → Result BackupAnswer held.Node) (lends : ℕ → Type 0) (n : Node)
-    (key : Key) (fine : Bool) (does : held.Held → Result BackupAnswer held.Held) : Type 0 where
-  pub shape : (lent : Key → Bool) (v : held.Node) → call lent v ≡ atOf lent v key fine does
+pub record Reading (call : (Key → Bool) → held.Node → Result BackupAnswer held.Node) (lends : ℕ → Type 0) (n : Node) (key : Key) (fine : Bool)
+    (rest : held.Node → Result BackupAnswer held.Node) (does : held.Held → Result BackupAnswer held.Held) : Type 0 where
+  pub shape : (lent : Key → Bool) (v : held.Node) → call lent v ≡ atOf lent v key fine (rest v)
+  pub there : (v : held.Node) (h : held.Held) → shardOf v key ≡ some h → rest v ≡ atShard v key unheld does
   pub slot : (i : ℕ) → lends i → i ≡ slotOf n key
 
-module _ (call : (Key → Bool) → held.Node → Result BackupAnswer held.Node) (lends : ℕ → Type 0) (n : Node) (a : Lot)
-    (key : Key) (fine : Bool) (does : held.Held → Result BackupAnswer held.Held) (z : Reading call lends n key fine does) where
+module _ (call : (Key → Bool) → held.Node → Result BackupAnswer held.Node) (lends : ℕ → Type 0) (n : Node) (a : Lot) (key : Key) (fine : Bool)
+    (rest : held.Node → Result BackupAnswer held.Node) (does : held.Held → Result BackupAnswer held.Held) (z : Reading call lends n key fine rest does) where
   pub outside : (b : Bool) → b ≡ fine → b ≡ false → Serves call lends n a a (record { answer = P.Refused 22; node = n })
   outside b q e = unchanged call lends n a (P.Refused 22) (λ s. rw (z .shape (lentFor s n a) (viewNode s n)) (rw (← q) (rw e)))
 
@@ -96,11 +100,28 @@ module _ (call : (Key → Bool) → held.Node → Result BackupAnswer held.Node)
         let bad = subst (Finds n key a) e finds-key in
         unchanged call lends n a (P.Refused 24) (λ s. rw (z .shape (lentFor s n a) (viewNode s n)) (rw fits (rw (bad s))))
 
-    pub gone : f ≡ L.Absent → Serves call lends n a a (record { answer = P.StaleEpoch (record { 0 = 0 }); node = n })
-    gone e =
+    -- a shard that is not held: no store changes
+    pub absent : f ≡ L.Absent → (w : PeerReply) (p : Node)
+        → (n .count ≤ length (n .held) → (s : Stores) → shardOf (viewNode s n) key ≡ none
+        → record { answer = w; node = viewNode s p } ≡ told word (rest (viewNode s n)))
+        → (slotsFit (used n) ≡ true → slotsFit (used p) ≡ true)
+        → Serves call lends n a a (record { answer = w; node = p })
+    absent e w p d apart =
         let g = subst (Finds n key a) e finds-key in
-        unchanged call lends n a (P.StaleEpoch (record { 0 = 0 }))
-        (λ s. rw (z .shape (lentFor s n a) (viewNode s n)) (rw fits (rw (g .lent s) (ap (told word) (call-absent s n key (g .inside) _ refl unheld does (g .gone))))))
+        record {
+          same = λ s t slot l c.
+              rw (z .shape (lentFor s n a) (viewNode s n)) (rw fits (rw (g .lent s)
+              (ap (λ (v : held.Node). record { answer = w; node = v }) (node-view s t slot a c p)
+              ∙ d (g .inside) s (shard-none s n key (g .inside) _ refl (g .gone)))));
+          kept = λ y. refl;
+          slots = λ y. apart (header-apart n y);
+        }
+
+    pub gone : f ≡ L.Absent → ((v : held.Node) → rest v ≡ atShard v key unheld does)
+        → Serves call lends n a a (record { answer = P.StaleEpoch (record { 0 = 0 }); node = n })
+    gone e same =
+        absent e (P.StaleEpoch (record { 0 = 0 })) n
+        (λ h s o. ap (told word) (sym (same (viewNode s n) ∙ at-absent (viewNode s n) key unheld does o))) (λ y. y)
 
     module _ (at : ℕ) (e : f ≡ L.At at) where
       found-key : Found n key a at
@@ -129,8 +150,11 @@ module _ (call : (Key → Bool) → held.Node → Result BackupAnswer held.Node)
                 ∙ ap (λ (x : Node). record { answer = word (answered (r .answer)); node = viewNode t x }) q′
                 ∙ ap (told word)
                 (call-store s t slot a b c n key at (g .is) (g .inside) (g .under) (g .formed) (sym (z .slot slot l ∙ slot-held n key at (g .is) (g .under)))
-                unheld does (answered (r .answer)) (r .held) (r .stored) (d .same _)))));
+                unheld does (answered (r .answer)) (r .held) (r .stored) (d .same _)
+                ∙ sym (z .there (viewNode s n) _ (shard-some s n key (g .inside) at (g .is) (g .under)))))));
             kept = λ y. ap lotOf (d .kept (turned-as (r .answer) (sym (ap turnedDown o) ∙ y)) .0);
+            slots = λ y.
+                ap (λ (x : Node). slotsFit (used x)) q′ ∙ slots-kept n at (r .held) (r .stored) (g .inside) (g .under) ∙ header-apart n y;
           }
 
 -- ---- Replicate
@@ -145,6 +169,7 @@ module _ (n : Node) (m : List ℕ) where
     r = replicate-decoded m p i .read
 
     pub replicate-reads : Reading (λ lent v. calls.replicateWith lent v m) (ReplicateSlot n m) n (keyIn m (p .key)) (opInDomain (opIn m (p .op)))
+        (λ v. atShard v (keyIn m (p .key)) unheld (replicateHeld (r .epoch) (r .offset) (storedOp (r .op))))
         (replicateHeld (r .epoch) (r .offset) (storedOp (r .op)))
     unfolding calls.replicateWith onReplicate
     replicate-reads =
@@ -153,8 +178,9 @@ module _ (n : Node) (m : List ℕ) where
         record {
           shape = λ lent v.
               rw d
-              (ap (λ (o : WireOp). atOf lent v (r .key) (opInDomain o) does) (sym (replicate-op m p i r d))
-              ∙ ap (λ (k : Key). atOf lent v k (opInDomain (opIn m (p .op))) does) (sym (replicate-key m p i r d)));
+              (ap (λ (o : WireOp). atOf lent v (r .key) (opInDomain o) (atShard v (r .key) unheld does)) (sym (replicate-op m p i r d))
+              ∙ ap (λ (k : Key). atOf lent v k (opInDomain (opIn m (p .op))) (atShard v k unheld does)) (sym (replicate-key m p i r d)));
+          there = λ v h e. refl;
           slot = λ j l. l r d ∙ ap (slotOf n) (sym (replicate-key m p i r d));
         }
 
@@ -173,6 +199,7 @@ module _ (n : Node) (m : List ℕ) where
     copied = copy-decoded m p i .read
 
     pub copy-reads : Reading (λ lent v. calls.copyWith lent v m) (CopySlot n m) n (keyIn m (p .key)) (every entryInDomain (entriesIn m (p .entries)))
+        (λ v. atShard v (keyIn m (p .key)) unheld (copyHeld (copied .epoch) (map storedEntry (copied .entries))))
         (copyHeld (copied .epoch) (map storedEntry (copied .entries)))
     unfolding calls.copyWith onCopy
     copy-reads =
@@ -181,8 +208,9 @@ module _ (n : Node) (m : List ℕ) where
         record {
           shape = λ lent v.
               rw d
-              (ap (λ (o : List WireEntry). atOf lent v (copied .key) (every entryInDomain o) does) (sym (copy-entries m p i copied d))
-              ∙ ap (λ (k : Key). atOf lent v k (every entryInDomain (entriesIn m (p .entries))) does) (sym (copy-key m p i copied d)));
+              (ap (λ (o : List WireEntry). atOf lent v (copied .key) (every entryInDomain o) (atShard v (copied .key) unheld does)) (sym (copy-entries m p i copied d))
+              ∙ ap (λ (k : Key). atOf lent v k (every entryInDomain (entriesIn m (p .entries))) (atShard v k unheld does)) (sym (copy-key m p i copied d)));
+          there = λ v h e. refl;
           slot = λ j l. l copied d ∙ ap (slotOf n) (sym (copy-key m p i copied d));
         }
 

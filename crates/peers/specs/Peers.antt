@@ -13,7 +13,8 @@ use Rattle.model.specs.Node.Shards.{Result}
 use Rattle.model.specs.Node.Backup.{BackupAnswer, replied, backupRefused}
 use Rattle.model.specs.Node.Calls as calls
 use Rattle.header.specs.declared.Node.{Node}
-use Rattle.header.specs.View.{Stores, viewNode}
+use Rattle.header.specs.View.{Stores, viewNode, used}
+use Rattle.header.specs.Formed.{formedNode, slotsFit}
 use Rattle.header.specs.Answers.{Told, told}
 use Rattle.peers.specs.declared.PeerReply.{PeerReply}
 use Rattle.peers.specs.declared.PeerReply.the-variants as P
@@ -40,10 +41,12 @@ abbrev pub viewPeer : Stores → PeerAnswer → Told PeerReply
 viewPeer t r = record { answer = r .answer; node = viewNode t (r .node) }
 
 -- a call with the columns a, which leaves b, in a slot of which `lends` says that it is the named shard's: whatever the other stores hold,
--- they stay, and the lent one becomes the definition's. Turned down, it leaves every place of the columns as it was, the free ones too
+-- they stay, and the lent one becomes the definition's. Turned down, it leaves every place of the columns as it was, the free ones too.
+-- No two shards come to have one store
 pub record Serves (call : (Key → Bool) → held.Node → Result BackupAnswer held.Node) (lends : ℕ → Type 0) (n : Node) (a b : Lot) (r : PeerAnswer) : Type 0 where
   pub same : (s t : Stores) (slot : ℕ) → lends slot → Changes s t slot a b → viewPeer t r ≡ told word (call (lentFor s n a) (viewNode s n))
   pub kept : turnedDown (r .answer) ≡ true → b ≡ a
+  pub slots : formedNode n ≡ true → slotsFit (used (r .node)) ≡ true
 
 -- 20: the slot of the shard that the message names
 abbrev pub ReplicateSlot : Node → List ℕ → ℕ → Type 0
