@@ -1,0 +1,3 @@
+pub mod OfNamed
+pub mod OfBegin
+pub mod OfAnnounces

@@ -1,0 +1,67 @@
+-- Laws of a shard that NewEpoch begins: it aligns nothing, and is put in under the message's epoch and metric. Assumes nothing.
+use Prim.Native.Nat.{ℕ, _<_, _≤_}
+use native.Mathlib.Omega.{arith}
+use mathlib.Core.Path.{_≡_, sym, ap, _∙_}
+use mathlib.Core.Bool.{false}
+use mathlib.Core.List.{List, [], map}
+use mathlib.Core.Option.{none}
+use lib.Dec.{ltb}
+use lib.ListN.{length}
+use borrow.Author.Tests.{le-leb, lt-leb, le-ltb}
+use Rattle.model.specs.Lists.{put}
+use Rattle.model.specs.Limits.{maxHeld}
+use Rattle.model.specs.Keys.{Key}
+use Rattle.model.specs.Log.{End, adopted, keep}
+use Rattle.model.specs.Layout.Message.{replyAdopted}
+use Rattle.model.specs.Node.Held as held
+use Rattle.model.specs.Node.Shards.{Result, gives, withHeld, withReplica, heldBelow, demoted, begun}
+use Rattle.model.specs.Node.Backup.{BackupAnswer, replied, newEpochHeld}
+use Rattle.model.specs.declared.Metric.{Metric}
+use Rattle.node.specs.declared.Held.{Held}
+use Rattle.node.specs.View.{viewHeld}
+use Rattle.serve.specs.Headers.{Begins, Realigns}
+use Rattle.state.specs.declared.ShardKey.{ShardKey}
+use Rattle.state.specs.Names.{viewKey}
+use Rattle.state.proofs.Tables.{used-size}
+use Rattle.header.specs.declared.Node.{Node}
+use Rattle.header.specs.View.{viewKept, viewNode, used}
+use Rattle.header.specs.Answers.{told}
+use Rattle.header.specs.Grow.{Inserts}
+use Rattle.peers.specs.declared.PeerReply.the-variants as P
+use Rattle.peers.specs.Peers.{word}
+use Rattle.newepoch.specs.Announces.{BeginsAt}
+
+-- a log of no entries is aligned whatever the table says, and no epoch is below 0
+aligns-none : (k : Key) (metric : Metric) (epoch end : ℕ) (table : List End) (fresh h : Held) → Begins metric fresh → Realigns fresh epoch 0 h
+    → newEpochHeld epoch end table (begun k metric) ≡ gives (replied (replyAdopted 0)) (viewHeld k [] [] h)
+unfolding newEpochHeld adopted keep
+aligns-none k metric epoch end table fresh h b r =
+    let low : ltb epoch 0 ≡ false = le-ltb epoch 0 (omega arith) in
+    rw low
+    (ap (λ (x : held.Held). gives {S = held.Held} (replied (replyAdopted 0)) x)
+    (sym (r .same k [] [] [] []
+    ∙ ap (λ (x : held.Held). demoted (withReplica x (record { epoch = epoch; metric = x .replica .metric; log = []; vectors = [] }))) (b .same k))))
+
+module _ (n : Node) (key : ShardKey) (epoch : ℕ) (metric : Metric) where
+  -- 23
+  pub ninth : 8 ≤ n .count → BeginsAt n (viewKey key) epoch metric (record { answer = P.Refused 23; node = n })
+  ninth over = record {
+    same = λ le s none end table.
+        let size = used-size (viewKept s) (n .held) (n .count) le in
+        rw (le-leb maxHeld (length (map (viewKept s) (used n))) (omega arith));
+    slots = λ y. y;
+  }
+
+  pub begins : n .count < 8 → (fresh h : Held) → Begins metric fresh → Realigns fresh epoch 0 h → (r : Node) → Inserts n key h r
+      → BeginsAt n (viewKey key) epoch metric (record { answer = P.Adopted (record { 0 = 0 }); node = r })
+  begins room fresh h b a r i = record {
+    same = λ le s none end table.
+        let size = used-size (viewKept s) (n .held) (n .count) le in
+        let k = viewKey key in
+        rw (lt-leb maxHeld (length (map (viewKept s) (used n))) (omega arith))
+        (ap (λ (v : held.Node). record { answer = P.Adopted (record { 0 = 0 }); node = v }) (i .same s (a .last) none)
+        ∙ ap (λ (x : Result BackupAnswer held.Held).
+        told word (gives (x .answer) (withHeld (viewNode s n) (put heldBelow (x .after) (map (viewKept s) (used n))))))
+        (sym (aligns-none k metric epoch end table fresh h b a)));
+    slots = i .slots;
+  }
