@@ -13,7 +13,7 @@ use Rattle.model.specs.Log.{Op, Entry, ShardReplica, append, push, lastOffset}
 use Rattle.model.specs.Node.Held as held
 use Rattle.model.specs.Node.Shards.{Result, gives, leadsAt, withReplica}
 use Rattle.model.specs.Node.Client.{WriteAnswer, accepted, writeRefused, ackCount, overfull, writeHeld}
-use Rattle.model.proofs.Lists.{by-test}
+use Rattle.model.proofs.Lists.{by-test, not-both}
 use Rattle.model.proofs.Log.Store.{push-length}
 use Rattle.node.specs.declared.Held.{Held}
 use Rattle.node.specs.View.{viewHeld}
@@ -66,6 +66,7 @@ module _ (h : Held) (s : Store) (count : s .count ≡ h .last) (epoch : ℕ) (le
       → ((x : held.Held) → writtenAs a x ≡ writeAs a op x) → (stored : ℕ) → Writes h s s epoch lease least op (record { admit = a; stored = stored; held = h })
   writes-refused a d w z same stored = record {
     same = λ k. same (viewStored k h s) ∙ sym (d k (storeLog s) (vectorsOf (storeLog s) (storeRows s)) op (log-length s ∙ count));
+    kept = λ q. (refl, refl);
     well = w;
     sized = z;
   }
@@ -98,6 +99,7 @@ module _ (h : Held) (s : Store) (count : s .count ≡ h .last) (epoch : ℕ) (le
           λ k.
           (ap (λ (r : ShardReplica). gives {S = held.Held} (accepted (lastOffset r)) (withReplica (viewStored k h s) r)) (pushed-is k)
           ∙ sym (d k (storeLog s) (vectorsOf (storeLog s) (storeRows s)) op (log-length s ∙ count)));
+      kept = λ q. not-both false q refl;
       well = p .well;
       sized = p .sized;
     }

@@ -1,7 +1,7 @@
 -- What a Write on one held shard with its lent store promises: the definition's answer, and the definition's shard with its log and
 -- vectors, read from the store at exit, whatever the shard's key is. Definitions only.
 use Prim.Native.Nat.{ℕ}
-use mathlib.Core.Bool.{Bool, true}
+use mathlib.Core.Bool.{Bool, true, false}
 use mathlib.Core.Path.{_≡_}
 use Rattle.model.specs.Keys.{Key}
 use Rattle.model.specs.Refusals.{notPrimary, noLease, tooFewInSync, noRoom}
@@ -29,7 +29,17 @@ writtenAs A.NoLease h = gives (client.writeRefused noLease) h
 writtenAs A.TooFew h = gives (client.writeRefused tooFewInSync) h
 writtenAs A.NoRoom h = gives (client.writeRefused noRoom) h
 
+-- 18, 19, 20, 23
+abbrev pub turnedDown : Admit → Bool
+turnedDown A.Yes = false
+turnedDown (A.NotPrimary e) = true
+turnedDown A.NoLease = true
+turnedDown A.TooFew = true
+turnedDown A.NoRoom = true
+
+-- refused, the call leaves every place of the store and of the shard as it was, the free ones too
 pub record Writes (h : Held) (s t : Store) (epoch : ℕ) (lease : Bool) (least : ℕ) (op : Op) (r : Written) : Type 0 where
   pub same : (k : Key) → writtenAs (r .admit) (viewStored k (r .held) t) ≡ client.writeHeld lease least epoch op (viewStored k h s)
+  pub kept : turnedDown (r .admit) ≡ true → (t ≡ s) × (r .held ≡ h)
   pub well : wellFormedStore t ≡ true
   pub sized : Sized t

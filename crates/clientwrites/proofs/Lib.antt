@@ -1,0 +1,2 @@
+pub mod OfNamed
+pub mod OfWrites
