@@ -11,7 +11,7 @@ use Rattle.model.specs.Keys.{Key}
 use Rattle.model.specs.Refusals.{Refusal, unknownShard, notPrimary, noLease, tooFewInSync, undecodable, outsideDomain, noRoom, malformed, lastEpoch, noWorker, numberOf}
 use Rattle.model.specs.Layout.Message.{Query, decodeSearch}
 use Rattle.model.specs.Node.Held as held
-use Rattle.model.specs.Node.Shards.{Result}
+use Rattle.model.specs.Node.Shards.{Result, gives}
 use Rattle.model.specs.Node.Client as client
 use Rattle.model.specs.Node.Refused.{counted, countSearch}
 use Rattle.model.specs.Node.Calls as calls
@@ -121,14 +121,14 @@ SearchesHeld h s epoch lease k q o p r =
     (key : Key) → Tells o p r (client.searchHeld lease (room o) epoch k q (viewStored key h s) .answer)
 
 -- 24, then the call
-abbrev pub testedSearch : Bool → held.Node → (clock room : ℕ) → Key → (epoch k : ℕ) → List Float → client.SearchAnswer
+abbrev pub testedSearch : Bool → held.Node → (clock room : ℕ) → Key → (epoch k : ℕ) → List Float → Result client.SearchAnswer held.Node
 testedSearch lent v clock room key epoch k q =
-    cond (not lent) (client.searchRefused malformed) (client.onSearch v clock room key epoch k q .answer)
+    cond (not lent) (gives (client.searchRefused malformed) v) (client.onSearch v clock room key epoch k q)
 
 -- at the shard of a key
 abbrev pub SearchesNamed : Node → Lot → Key → (clock epoch k : ℕ) → List Float → (o p : Output) → SearchAnswer → Type 0
 SearchesNamed n a key clock epoch k q o p r =
-    (s : Stores) → Lends s (slotOf n key) a → Tells o p r (testedSearch (lentFor s n a key) (viewNode s n) clock (room o) key epoch k q)
+    (s : Stores) → Lends s (slotOf n key) a → Tells o p r (testedSearch (lentFor s n a key) (viewNode s n) clock (room o) key epoch k q .answer)
 
 -- what the bytes were read as
 abbrev pub IsSearch : List ℕ → SearchPart → Type 0

@@ -3,7 +3,6 @@
 // the header nor the store comes back, and every column is lent for reading.
 ghost use mathlib.Core.Path.{_≡_};
 ghost use Rattle.model.specs.Node.Refused.{counted};
-ghost use Rattle.rpc.specs.Shown.{messageOf};
 ghost use Rattle.lend.specs.Lend.{lot};
 ghost use Rattle.clientsearches.specs.Searches.{output, turnedDown, IsSearch, Searches, SearchesAt};
 use header::Node;
@@ -33,15 +32,25 @@ pub struct NodeSearched {
     pub refused: u32,
 }
 
+// Whether an answer is a refusal.
+fn is_refused(answer: SearchAnswer) -> bool
+    ensures { λ r. ⌜ r ≡ turnedDown answer ⌝ }
+{
+    match answer {
+        SearchAnswer::Found(_) => false,
+        SearchAnswer::NotPrimary(_) => true,
+        SearchAnswer::Refused(_) => true,
+    }
+}
+
 // The count after an answer: one more for a refusal of any number.
 fn count_after(answer: SearchAnswer, before: u32) -> u32
     ensures { λ r. ⌜ r ≡ counted before (turnedDown answer) ⌝ }
 {
-    match answer {
-        SearchAnswer::Found(_) => before,
-        SearchAnswer::NotPrimary(_) => next_count(before),
-        SearchAnswer::Refused(_) => next_count(before),
+    if is_refused(answer) {
+        return next_count(before);
     }
+    before
 }
 
 // A message that was read: 21 a time above 2^62, 22, then the search at the shard that it names.

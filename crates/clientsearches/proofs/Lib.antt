@@ -1,0 +1,4 @@
+pub mod OfQuery
+pub mod OfNamed
+pub mod OfHeld
+pub mod OfSearches
