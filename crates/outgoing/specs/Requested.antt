@@ -12,10 +12,6 @@ use Rattle.model.specs.Node.Held as held
 use Rattle.model.specs.Node.Worker as worker
 use Rattle.model.specs.Node.Calls as calls
 use Rattle.model.specs.declared.Metric.{Metric}
-use Rattle.node.specs.declared.Held.{Held}
-use Rattle.node.specs.View.{viewHeld}
-use Rattle.shard.specs.Store.{Store, storeLog, storeRows}
-use Rattle.shard.specs.Table.{vectorsOf}
 use Rattle.outgoing.specs.declared.Request.{Request}
 use Rattle.outgoing.specs.declared.Request.the-variants as R
 use Rattle.outgoing.specs.declared.Form.{Form}
@@ -45,10 +41,6 @@ formOf F.OlderAsCopy = worker.olderAsCopy
 
 abbrev pub keyNamed : List ℕ → ℕ → Key
 keyNamed name shard = record { collection = name; shard = shard }
-
--- a held shard with its store, under the key k
-abbrev pub viewStored : Key → Held → Store → held.Held
-viewStored k h s = viewHeld k (storeLog s) (vectorsOf (storeLog s) (storeRows s)) h
 
 -- 'The node', 'Rules of a run', Messages: the request of the worker's step at a shard
 unfoldable pub requestOn : worker.Form → (epoch peer : ℕ) → Metric → held.Held → Option worker.Message

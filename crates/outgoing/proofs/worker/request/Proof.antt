@@ -10,7 +10,8 @@ use Rattle.shard.specs.View.{columns}
 use Rattle.shard.specs.Store.{lent, Store, storeLog}
 use Rattle.shard.proofs.Columns.{log-length}
 use Rattle.shard.proofs.Facts.{facts}
-use Rattle.outgoing.specs.Requested.{formOf, keyNamed, requestOn, Requested, viewStored}
+use Rattle.writes.specs.Writes.{viewStored}
+use Rattle.outgoing.specs.Requested.{formOf, keyNamed, requestOn, Requested}
 use Rattle.outgoing.proofs.OfAnswer.{nothing}
 use Rattle.outgoing.proofs.OfEntry.{sendable}
 use Rattle.outgoing.proofs.OfStep.{Word, align-at, byWord, request-by, send-within}
