@@ -1,0 +1,104 @@
+-- Laws of the request of a worker's step at a node, one for each way out. Assumes nothing.
+use Prim.Native.Nat.{ℕ, _-_, _<_, _≤_}
+use native.Mathlib.Nat.{sub-zero}
+use native.Mathlib.Omega.{arith}
+use mathlib.Core.Path.{_≡_, refl, sym, ap, subst, _∙_}
+use mathlib.Core.Bool.{true, false}
+use mathlib.Core.List.{List}
+use lib.ListN.{length, getD, take}
+use borrow.Author.Tests.{leb-true}
+use Rattle.model.specs.Keys.{Key}
+use Rattle.model.specs.Limits.{maxName}
+use Rattle.model.specs.Node.Worker as worker
+use Rattle.model.specs.Node.Calls as calls
+use Rattle.model.specs.declared.Metric.{Metric}
+use Rattle.model.proofs.Lists.{and-left}
+use Rattle.state.specs.Names.{viewKey}
+use Rattle.state.proofs.Tables.{every-at}
+use Rattle.shard.specs.Store.{Store}
+use Rattle.writes.specs.Writes.{viewStored}
+use Rattle.outgoing.specs.declared.Request.{Request}
+use Rattle.outgoing.specs.declared.Request.the-variants as R
+use Rattle.outgoing.specs.Requested.{answerOf, leftOf, keyNamed, requestOn, Requested}
+use Rattle.outgoing.proofs.OfStep.{request-of}
+use Rattle.header.specs.declared.Kept.{Kept}
+use Rattle.header.specs.declared.Node.{Node}
+use Rattle.header.specs.View.{Stores, viewKept, viewNode, noKept}
+use Rattle.header.specs.Formed.{keptFits}
+use Rattle.header.proofs.OfFormed.{header-few, header-fit}
+use Rattle.header.proofs.OfShards.{shard-none, shard-some}
+use Rattle.lend.specs.declared.Lent.the-variants as L
+use Rattle.lend.specs.declared.Lent as found
+use Rattle.lend.specs.Lend.{Lot, storeOf, lentFor, slotOf, Lends, Finds, Found}
+use Rattle.lend.proofs.OfLend.{slot-held, lends-view}
+use Rattle.workers.specs.Requests.{Requests}
+
+-- a shard that passed has its name within the array
+pub kept-named : (x : Kept) → keptFits x ≡ true → x .key .collection .len ≤ 32
+unfolding keptFits
+kept-named x e = leb-true (x .key .collection .len) maxName (and-left _ _ e)
+
+-- the request goes under the shard's key
+pub under-key : (x : Kept) (s : Store) (form : worker.Form) (epoch peer : ℕ) (metric : Metric) (before after : List ℕ) (r : Request)
+    → Requested (requestOn form epoch peer metric (viewStored (keyNamed (take (x .key .collection .len - 0) (x .key .collection .bytes)) (x .key .shard)) (x .held) s)) before after r
+    → Requested (requestOn form epoch peer metric (viewStored (viewKey (x .key)) (x .held) s)) before after r
+under-key x s form epoch peer metric before after r d =
+    subst (λ (i : ℕ). Requested (requestOn form epoch peer metric (viewStored (keyNamed (take i (x .key .collection .bytes)) (x .key .shard)) (x .held) s)) before after r)
+    (sub-zero (x .key .collection .len)) d
+
+module _ (n : Node) (a : Lot) (k : Key) (f : found.Lent) (finds : Finds n k a f) where
+  module _ (epoch peer : ℕ) (metric : Metric) (form : worker.Form) (out : List ℕ) where
+    pub unfit : f ≡ L.Malformed → Requests n a k epoch peer metric form out out (R.Refused 24)
+    unfolding calls.requestWith
+    unfit e =
+        let bad = subst (Finds n k a) e finds in
+        record { answer = λ s l. rw (bad s); bytes = λ s l. rw (bad s) }
+
+    pub gone : f ≡ L.Absent → Requests n a k epoch peer metric form out out R.Unsent
+    unfolding calls.requestWith calls.requestOf worker.onRequest worker.onStep
+    gone e =
+        let g = subst (Finds n k a) e finds in
+        record {
+          answer = λ s l. rw (g .lent s) (rw (shard-none s n k (g .inside) _ refl (g .gone)));
+          bytes = λ s l. rw (g .lent s) (rw (shard-none s n k (g .inside) _ refl (g .gone)));
+        }
+
+  module _ (at : ℕ) (e : f ≡ L.At at) where
+    pub found-at : Found n k a at
+    found-at = subst (Finds n k a) e finds
+
+    pub found-few : at < 8
+    found-few =
+        let g = found-at in
+        let few = header-few n (g .formed) in
+        let under = g .under in
+        omega arith
+
+    -- what the shard and its store have passed
+    pub found-fits : keptFits (getD (n .held) at noKept) ≡ true
+    found-fits =
+        let g = found-at in
+        every-at keptFits (n .held) (n .count) at noKept (g .inside) (header-fit n (g .formed)) (g .under)
+
+    module _ (epoch peer : ℕ) (metric : Metric) (form : worker.Form) (before : List ℕ) where
+      abbrev x : Kept
+      x = getD (n .held) at noKept
+
+      asked : (s : Stores) → Lends s (slotOf n k) a
+          → calls.writtenIn (length before) (requestOn form epoch peer metric (viewStored (viewKey (x .key)) (x .held) (storeOf a x)))
+          ≡ calls.requestWith (lentFor s n a) (viewNode s n) (length before) k epoch peer metric form
+      unfolding calls.requestWith
+      asked s l =
+          let g = found-at in
+          let own : x .slot ≡ slotOf n k = sym (slot-held n k at (g .is) (g .under)) in
+          rw (g .lent s)
+          (ap (calls.writtenIn (length before))
+          (ap (requestOn form epoch peer metric) (sym (lends-view s (slotOf n k) a l x own))
+          ∙ sym (request-of (viewNode s n) k (viewKept s x) epoch peer metric form (shard-some s n k (g .inside) at (g .is) (g .under)))))
+
+      pub sent : (after : List ℕ) (r : Request) → Requested (requestOn form epoch peer metric (viewStored (viewKey (x .key)) (x .held) (storeOf a x))) before after r
+          → Requests n a k epoch peer metric form before after r
+      sent after r d = record {
+        answer = λ s l. d .answer ∙ ap answerOf (asked s l);
+        bytes = λ s l. d .bytes ∙ ap (λ (w : calls.RequestAnswer). leftOf w before) (asked s l);
+      }
