@@ -1,3 +1,4 @@
+pub mod OfRows
 pub mod OfVectors
 pub mod OfEnds
 pub mod OfEntries

@@ -1,23 +1,19 @@
--- Laws of the vector of an id: the row that the table has for it, and the vector that its log gives it. Assumes nothing.
-use Prim.Native.Nat.{ℕ, zero, suc, _≤_, _<_}
+-- What the calls on a replica's vectors answer, one law for each way out. Assumes nothing.
+use Prim.Native.Nat.{ℕ, _≤_, _<_}
 use mathlib.Core.Path.{_≡_, refl, sym, ap, _∙_, subst}
 use mathlib.Core.Bool.{Bool, true, false, not, cond}
-use mathlib.Core.List.{List, [], _∷_, map}
-use mathlib.Core.Option.{Option, none, some}
-use native.Mathlib.Omega.{arith}
-use borrow.Author.Tests.{ltb-true, eq-eqb, ne-eqb}
+use mathlib.Core.List.{List, []}
+use mathlib.Core.Option.{some}
+use borrow.Author.Tests.{eq-eqb, ne-eqb}
 use lib.Dec.{eqb, ltb}
 use lib.Ieee.{Float}
 use lib.ListN.{length, take, getD, length-map}
-use Rattle.model.specs.Lists.{_and_, find, filter, lead}
+use Rattle.model.specs.Lists.{_and_, find, lead}
 use Rattle.model.specs.Refusals.{numberOf, malformed}
-use Rattle.model.specs.Nearest.Search.{Vector}
-use Rattle.model.specs.Log.{Log, Vectors, play, lookup}
+use Rattle.model.specs.Log.{play, lookup}
 use Rattle.model.proofs.Lists.{not-both}
-use Rattle.model.proofs.Log.Numbered.{Numbered}
-use Rattle.shard.specs.Table.{Row, rowsOf, otherRow, playRows, vectorOf, vectorsOf}
+use Rattle.shard.specs.Table.{Row, playRows, vectorOf, vectorsOf}
 use Rattle.shard.specs.Store.{Store, storeLog, storeRows}
-use Rattle.shard.proofs.Put.{lead-true, lead-false, filter-true, filter-false}
 use Rattle.shard.proofs.Rows.{rows-length, rows-at, rows-lead, no-row}
 use Rattle.shard.proofs.Without.{drop-absent}
 use Rattle.shard.proofs.Tabled.{here, not-here}
@@ -25,89 +21,12 @@ use Rattle.shard.proofs.PlayRows.{rows-vectors}
 use Rattle.shard.proofs.Facts.{Facts, facts, rows-rising, keys-fit, places-fit}
 use Rattle.replica.specs.Fits.{lentFits}
 use Rattle.replica.proofs.OfFits.{fits-sized, fits-well}
-use Rattle.lookups.specs.Vectors.{hasId, componentsOf, vectorIn, rowOfId, standingOf, standingLent, shownAt, Stands, orEmpty, vectorLent, lenLent, emptyLent}
+use Rattle.lookups.specs.Vectors.{vectorIn, rowOfId, standingOf, standingLent, shownAt, Stands, orEmpty, vectorLent, lenLent, emptyLent}
 use Rattle.lookups.specs.declared.vectors.Standing.{Standing}
 use Rattle.lookups.specs.declared.vectors.Standing.the-variants as S
 use Rattle.lookups.specs.declared.vectors.Count.the-variants as C
 use Rattle.lookups.specs.declared.vectors.Emptiness.the-variants as E
-
--- ---- the row of an id
-
-module _ {ℓ} {A : Type ℓ} (p : A → Bool) (y : A) (ys : List A) where
-  find-true : p y ≡ true → find p (y ∷ ys) ≡ some y
-  unfolding find
-  find-true e = rw e
-
-  find-false : p y ≡ false → find p (y ∷ ys) ≡ find p ys
-  unfolding find
-  find-false e = rw e
-
-module _ (id : ℕ) where
-  abbrev below : Row → Bool
-  below y = ltb (y .id) id
-
-  abbrev Found : List Row → ℕ → Type 0
-  Found l k = k < length l → getD l k no-row .id ≡ id → find (rowOfId id) l ≡ some (getD l k no-row)
-
-  -- the row behind those that stand below, where it is the id's
-  found : (l : List Row) → Found l (lead below l)
-  found [] = λ h q. absurd (nothing (lead below []) h)
-    where
-      nothing : (n : ℕ) → n < 0 → ⊥
-      nothing n h = omega arith
-  found (y ∷ ys) = go (ltb (y .id) id) refl (found ys)
-    where
-      go : (b : Bool) → ltb (y .id) id ≡ b → Found ys (lead below ys) → Found (y ∷ ys) (lead below (y ∷ ys))
-      go true e ih =
-          subst (Found (y ∷ ys)) (sym (lead-true below y ys e))
-          (λ h q.
-          let l = ltb-true (y .id) id e in
-          find-false (rowOfId id) y ys (ne-eqb (y .id) id (λ e. omega arith)) ∙ ih (omega arith) q)
-      go false e ih =
-          subst (Found (y ∷ ys)) (sym (lead-false below y ys e)) (λ h q. find-true (rowOfId id) y ys (eq-eqb (y .id) id q))
-
-  -- none among the rows of other ids
-  none-other : (l : List Row) → find (rowOfId id) (filter (otherRow id) l) ≡ none
-  unfolding find filter
-  none-other [] = refl
-  none-other (y ∷ ys) = go (eqb (y .id) id) refl (none-other ys)
-    where
-      go : (b : Bool) → eqb (y .id) id ≡ b → find (rowOfId id) (filter (otherRow id) ys) ≡ none
-          → find (rowOfId id) (filter (otherRow id) (y ∷ ys)) ≡ none
-      go true e ih = ap (find (rowOfId id)) (filter-false (otherRow id) y ys (rw e)) ∙ ih
-      go false e ih =
-          ap (find (rowOfId id)) (filter-true (otherRow id) y ys (rw e))
-          ∙ find-false (rowOfId id) y (filter (otherRow id) ys) e ∙ ih
-
--- ---- its vector
-
-module _ (l : Log) (id : ℕ) where
-  abbrev vectorAt : Option Row → Option Vector
-  vectorAt none = none
-  vectorAt (some r) = some (vectorOf l r)
-
-  find-rows : (rs : List Row) → find (hasId id) (vectorsOf l rs) ≡ vectorAt (find (rowOfId id) rs)
-  unfolding find vectorsOf vectorOf
-  find-rows [] = refl
-  find-rows (r ∷ rs) = go (eqb (r .id) id) refl (find-rows rs)
-    where
-      go : (b : Bool) → eqb (r .id) id ≡ b → find (hasId id) (vectorsOf l rs) ≡ vectorAt (find (rowOfId id) rs)
-          → find (hasId id) (vectorsOf l (r ∷ rs)) ≡ vectorAt (find (rowOfId id) (r ∷ rs))
-      go true e ih = rw e
-      go false e ih = rw e ih
-
-  shown-row : (r : Option Row) → shownAt l (standingOf r) ≡ componentsOf (vectorAt r)
-  unfolding vectorOf
-  shown-row none = refl
-  shown-row (some r) = refl
-
-  -- a lookup at the offset that the log played gives the id is the vector that it gives the id
-  pub shown : Numbered l → shownAt l (standingOf (find (rowOfId id) (playRows l))) ≡ vectorIn id (play l)
-  unfolding vectorIn
-  shown h =
-      shown-row (find (rowOfId id) (playRows l))
-      ∙ ap componentsOf (sym (find-rows (playRows l)))
-      ∙ ap (λ (vs : Vectors). componentsOf (find (hasId id) vs)) (rows-vectors l h)
+use Rattle.lookups.proofs.OfRows.{below, Found, found, none-other, shown}
 
 -- ---- a store that passed the test (24)
 
