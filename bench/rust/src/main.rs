@@ -6,9 +6,10 @@ mod measure;
 mod shard;
 
 fn main() {
-    let parts: [(&str, fn()); 3] = [
+    let parts: [(&str, fn()); 4] = [
         ("search", shard::search),
         ("append", shard::append),
+        ("adopt", shard::adopt),
         ("apply", map::apply),
     ];
     let asked: Vec<String> = std::env::args().skip(1).collect();

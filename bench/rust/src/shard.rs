@@ -1,4 +1,4 @@
-//! One replica: nearest objects, append. The engine's calls test the lent store (24) each time; that
+//! One replica: nearest objects, append, adopt. The engine's calls test the lent store (24) each time; that
 //! test is also timed alone.
 
 use datanode::shard::ShardReplica;
@@ -11,78 +11,79 @@ use crate::measure;
 const ENTRIES: usize = 1024;
 const LENGTH: usize = 32;
 
-unsafe extern "C" {
-    fn engine_store_test(
-        epochs: *const u64,
-        n0: usize,
-        offsets: *const u64,
-        n1: usize,
-        ids: *const u64,
-        n2: usize,
-        codes: *const u8,
-        n3: usize,
-        lengths: *const u8,
-        n4: usize,
-        floats: *const f32,
-        n5: usize,
-        keys: *const u64,
-        n6: usize,
-        places: *const u64,
-        n7: usize,
-        count: usize,
-        stored: usize,
-    ) -> bool;
-    fn engine_search(
-        epochs: *const u64,
-        n0: usize,
-        offsets: *const u64,
-        n1: usize,
-        ids: *const u64,
-        n2: usize,
-        codes: *const u8,
-        n3: usize,
-        lengths: *const u8,
-        n4: usize,
-        floats: *const f32,
-        n5: usize,
-        keys: *const u64,
-        n6: usize,
-        places: *const u64,
-        n7: usize,
-        count: usize,
-        stored: usize,
+/// The engine's calls on one replica: each is lent the eight columns, with their lengths, and both
+/// counts, before its own operands. `const` or `mut`: whether it may write to the columns.
+macro_rules! engine {
+    ($($access:tt fn $name:ident($($operand:ident: $type:ty),*) -> $answer:ty;)*) => {
+        unsafe extern "C" {
+            $(fn $name(
+                epochs: *$access u64,
+                epochs_len: usize,
+                offsets: *$access u64,
+                offsets_len: usize,
+                ids: *$access u64,
+                ids_len: usize,
+                codes: *$access u8,
+                codes_len: usize,
+                lengths: *$access u8,
+                lengths_len: usize,
+                floats: *$access f32,
+                floats_len: usize,
+                keys: *$access u64,
+                keys_len: usize,
+                places: *$access u64,
+                places_len: usize,
+                count: usize,
+                stored: usize,
+                $($operand: $type),*
+            ) -> $answer;)*
+        }
+    };
+}
+
+engine! {
+    const fn engine_store_test() -> bool;
+    const fn engine_search(
         angular: bool,
         query: *const f32,
-        n8: usize,
+        query_len: usize,
         k: u32,
         found: *mut u64,
-        n9: usize,
+        found_len: usize,
         distances: *mut f32,
-        n10: usize,
+        distances_len: usize
     ) -> u64;
-    fn engine_append(
-        epochs: *mut u64,
-        n0: usize,
-        offsets: *mut u64,
-        n1: usize,
-        ids: *mut u64,
-        n2: usize,
-        codes: *mut u8,
-        n3: usize,
-        lengths: *mut u8,
-        n4: usize,
-        floats: *mut f32,
-        n5: usize,
-        keys: *mut u64,
-        n6: usize,
-        places: *mut u64,
-        n7: usize,
-        count: usize,
-        stored: usize,
-        own: u64,
-        message: *const u8,
-        n8: usize,
-    ) -> u64;
+    mut fn engine_append(own: u64, message: *const u8, message_len: usize) -> u64;
+    mut fn engine_adopt(own: u64, message: *const u8, message_len: usize) -> u64;
+}
+
+/// A call on a store, by `as_ptr` or `as_mut_ptr`, with the call's own operands.
+macro_rules! lend {
+    ($call:ident, $store:expr, $pointer:ident $(, $operand:expr)*) => {
+        unsafe {
+            $call(
+                $store.epochs.$pointer(),
+                $store.epochs.len(),
+                $store.offsets.$pointer(),
+                $store.offsets.len(),
+                $store.ids.$pointer(),
+                $store.ids.len(),
+                $store.codes.$pointer(),
+                $store.codes.len(),
+                $store.lengths.$pointer(),
+                $store.lengths.len(),
+                $store.floats.$pointer(),
+                $store.floats.len(),
+                $store.keys.$pointer(),
+                $store.keys.len(),
+                $store.places.$pointer(),
+                $store.places.len(),
+                $store.count,
+                $store.stored,
+                $($operand),*
+            )
+        }
+    };
 }
 
 /// The engine's store of one replica, lent to each call.
@@ -117,28 +118,7 @@ impl Store {
     }
 
     fn test(&self) -> bool {
-        unsafe {
-            engine_store_test(
-                self.epochs.as_ptr(),
-                ENTRIES,
-                self.offsets.as_ptr(),
-                ENTRIES,
-                self.ids.as_ptr(),
-                ENTRIES,
-                self.codes.as_ptr(),
-                ENTRIES,
-                self.lengths.as_ptr(),
-                ENTRIES,
-                self.floats.as_ptr(),
-                self.floats.len(),
-                self.keys.as_ptr(),
-                ENTRIES,
-                self.places.as_ptr(),
-                ENTRIES,
-                self.count,
-                self.stored,
-            )
-        }
+        lend!(engine_store_test, self, as_ptr)
     }
 
     fn search(
@@ -149,67 +129,35 @@ impl Store {
         found: &mut [u64],
         distances: &mut [f32],
     ) -> u64 {
-        unsafe {
-            engine_search(
-                self.epochs.as_ptr(),
-                ENTRIES,
-                self.offsets.as_ptr(),
-                ENTRIES,
-                self.ids.as_ptr(),
-                ENTRIES,
-                self.codes.as_ptr(),
-                ENTRIES,
-                self.lengths.as_ptr(),
-                ENTRIES,
-                self.floats.as_ptr(),
-                self.floats.len(),
-                self.keys.as_ptr(),
-                ENTRIES,
-                self.places.as_ptr(),
-                ENTRIES,
-                self.count,
-                self.stored,
-                angular,
-                query.as_ptr(),
-                query.len(),
-                k,
-                found.as_mut_ptr(),
-                found.len(),
-                distances.as_mut_ptr(),
-                distances.len(),
-            )
-        }
+        lend!(
+            engine_search,
+            self,
+            as_ptr,
+            angular,
+            query.as_ptr(),
+            query.len(),
+            k,
+            found.as_mut_ptr(),
+            found.len(),
+            distances.as_mut_ptr(),
+            distances.len()
+        )
     }
 
-    fn append(&mut self, message: &[u8]) {
-        let rows = unsafe {
-            engine_append(
-                self.epochs.as_mut_ptr(),
-                ENTRIES,
-                self.offsets.as_mut_ptr(),
-                ENTRIES,
-                self.ids.as_mut_ptr(),
-                ENTRIES,
-                self.codes.as_mut_ptr(),
-                ENTRIES,
-                self.lengths.as_mut_ptr(),
-                ENTRIES,
-                self.floats.as_mut_ptr(),
-                self.floats.len(),
-                self.keys.as_mut_ptr(),
-                ENTRIES,
-                self.places.as_mut_ptr(),
-                ENTRIES,
-                self.count,
-                self.stored,
-                1,
-                message.as_ptr(),
-                message.len(),
-            )
-        };
+    fn append(&mut self, own: u64, message: &[u8]) {
+        let (at, n) = (message.as_ptr(), message.len());
+        let rows = lend!(engine_append, self, as_mut_ptr, own, at, n);
         assert!(rows < 2000, "the engine refused a write of the benchmark");
         self.count += 1;
         self.stored = rows as usize;
+    }
+
+    fn adopt(&mut self, own: u64, message: &[u8]) {
+        let (at, n) = (message.as_ptr(), message.len());
+        let left = lend!(engine_adopt, self, as_mut_ptr, own, at, n);
+        assert!(left > 0, "the engine refused an epoch of the benchmark");
+        self.count = left as usize / 2048;
+        self.stored = left as usize % 2048;
     }
 }
 
@@ -224,25 +172,34 @@ fn writes(rng: &mut Rng) -> Vec<(u64, Vec<f32>)> {
     (0..ENTRIES).map(|_| (rng.next(), vector(rng))).collect()
 }
 
+fn key() -> Key {
+    Key {
+        name: b"stars".to_vec(),
+        shard: 0,
+    }
+}
+
 fn message(id: u64, vector: &[f32]) -> Vec<u8> {
     let vector = vector.iter().map(|f| f.to_bits()).collect();
     wire::write(&Message::Write {
-        key: Key {
-            name: b"stars".to_vec(),
-            shard: 0,
-        },
+        key: key(),
         epoch: 1,
         op: Op::Put { id, vector },
     })
 }
 
+/// The upsert of one write.
+fn upsert((id, vector): &(u64, Vec<f32>)) -> WriteOp {
+    WriteOp::Upsert {
+        id: *id,
+        vector: vector.clone(),
+    }
+}
+
 fn replica(metric: Metric, writes: &[(u64, Vec<f32>)]) -> ShardReplica {
     let mut replica = ShardReplica::new(Epoch(1), metric);
-    for (id, vector) in writes {
-        replica.append(WriteOp::Upsert {
-            id: *id,
-            vector: vector.clone(),
-        });
+    for write in writes {
+        replica.append(upsert(write));
     }
     replica
 }
@@ -267,7 +224,7 @@ pub fn search() {
     let mut store = Store::new();
     writes
         .iter()
-        .for_each(|(id, v)| store.append(&message(*id, v)));
+        .for_each(|(id, v)| store.append(1, &message(*id, v)));
     let queries: Vec<Vec<f32>> = (0..16).map(|_| vector(&mut rng)).collect();
     measure::head("Search of 1,024 vectors of 32 floats, the test of the lent store included");
     for (metric, angular) in [(Metric::Euclidean, false), (Metric::Angular, true)] {
@@ -307,7 +264,7 @@ pub fn append() {
     );
     for count in [0, 256, 512, 1023] {
         let mut store = Store::new();
-        messages[..count].iter().for_each(|m| store.append(m));
+        messages[..count].iter().for_each(|m| store.append(1, m));
         let replica = replica(Metric::Euclidean, &writes[..count]);
         let (last, (id, v)) = (&messages[count], &writes[count]);
         let mut peer = replica.clone();
@@ -317,7 +274,7 @@ pub fn append() {
             &format!("{count} entries"),
             1.0,
             &mut || {
-                store.append(last);
+                store.append(1, last);
                 (store.count, store.stored) = (start, rows);
                 store.keys[..rows].copy_from_slice(&keys.0[..rows]);
                 store.places[..rows].copy_from_slice(&keys.1[..rows]);
@@ -342,5 +299,80 @@ pub fn append() {
     }
     println!(
         "\nThe Rust's log grows by up to 512 entries before it is put back; putting back is a part of both times."
+    );
+}
+
+/// The Rust's side of an adoption: the message read, then the log aligned.
+fn adopt_peer(peer: &mut ShardReplica, message: &[u8]) -> u64 {
+    let Some(Message::NewEpoch {
+        epoch,
+        end_offset,
+        epochs,
+        ..
+    }) = wire::read(message)
+    else {
+        unreachable!()
+    };
+    let table: Vec<(Epoch, u64)> = epochs.iter().map(|(e, end)| (Epoch(*e), *end)).collect();
+    peer.adopt(Epoch(epoch), end_offset, &table).unwrap()
+}
+
+/// A log of `kept` entries and one more, which a NewEpoch message of the epoch cuts: the table of the
+/// others is made anew. Epochs rise with each entry, or all are 1.
+fn adopt_one(name: &str, writes: &[(u64, Vec<f32>)], kept: usize, rising: bool) {
+    let epoch_of = |i: usize| if rising { i as u64 + 1 } else { 1 };
+    let own = epoch_of(kept) + 1;
+    let mut store = Store::new();
+    let mut peer = ShardReplica::new(Epoch(1), Metric::Euclidean);
+    for (i, write) in writes[..kept].iter().enumerate() {
+        store.append(epoch_of(i), &message(write.0, &write.1));
+        peer.promote(Epoch(epoch_of(i)));
+        peer.append(upsert(write));
+    }
+    peer.promote(Epoch(own));
+    let epochs = peer.epoch_ends().iter().map(|(e, o)| (e.0, *o)).collect();
+    let news = wire::write(&Message::NewEpoch {
+        key: key(),
+        epoch: own,
+        end_offset: kept as u64,
+        epochs,
+        metric: 0,
+    });
+    let last = &writes[kept];
+    store.append(own, &message(last.0, &last.1));
+    let (before, rows) = (store.clone(), store.stored);
+    let row = measure::row(
+        name,
+        1.0,
+        &mut || {
+            store.adopt(own, &news);
+            std::hint::black_box(store.count);
+            (store.count, store.stored) = (before.count, rows);
+            store.keys[..rows].copy_from_slice(&before.keys[..rows]);
+            store.places[..rows].copy_from_slice(&before.places[..rows]);
+        },
+        &mut || {
+            peer.append(upsert(last));
+            std::hint::black_box(adopt_peer(&mut peer, &news));
+        },
+    );
+    store.adopt(own, &news);
+    assert_eq!(store.count as u64, peer.last_offset(), "entries kept");
+    same(&store, &peer, false, &last.1, ENTRIES as u32);
+    measure::print(&row);
+}
+
+pub fn adopt() {
+    let mut rng = Rng::new(13);
+    let writes = writes(&mut rng);
+    measure::head(
+        "Adopt of a log with one entry more than so many: the last is cut, the table made anew; decoding and the test of the lent store included",
+    );
+    for kept in [16, 256, 512, 1023] {
+        adopt_one(&format!("{kept} entries"), &writes, kept, false);
+    }
+    adopt_one("1,023 entries of as many epochs", &writes, 1023, true);
+    println!(
+        "\nPutting back is a part of both times: the two columns of the table for the engine, one append for the Rust."
     );
 }

@@ -3,6 +3,7 @@ use model::Epoch;
 use model::Metric;
 use nearest::answer::Found;
 use replica::Answer;
+use replica::adopts::adopt;
 use replica::appends::append;
 use replica::fits::lent_fits;
 use replica::searches::search;
@@ -127,4 +128,56 @@ pub extern "C" fn engine_append(
         return r.stored as u64;
     }
     2000
+}
+
+fn is_adopted(a: Answer) -> bool {
+    match a {
+        Answer::Adopted(_) => true,
+        _ => false,
+    }
+}
+
+// How many entries a NewEpoch message leaves, times 2,048, with how many rows the table has then; 0 for a refusal.
+#[no_mangle]
+pub extern "C" fn engine_adopt(
+    epochs: &[u64],
+    offsets: &[u64],
+    ids: &[u64],
+    codes: &[u8],
+    lengths: &[u8],
+    floats: &[f32],
+    keys: &mut [u64],
+    places: &mut [u64],
+    count: usize,
+    stored: usize,
+    own: u64,
+    message: &[u8],
+) -> u64 {
+    let r = adopt(
+        epochs,
+        offsets,
+        ids,
+        codes,
+        lengths,
+        floats,
+        keys,
+        places,
+        count,
+        stored,
+        Epoch(own),
+        message,
+    );
+    let a = r.answer;
+    let kept = r.count;
+    let rows = r.stored;
+    if !is_adopted(a) {
+        return 0;
+    }
+    if 1024 < kept {
+        return 0;
+    }
+    if 1024 < rows {
+        return 0;
+    }
+    (kept * 2048 + rows) as u64
 }
