@@ -1,5 +1,5 @@
 // One shard as it is inspected (node.rs, dump; rpc/lib.rs, ShardDump): a header by value, the store of that shard, and an output for the ids
-// that have a vector. It changes neither. The test of what is lent is `lend`'s.
+// that have a vector. Header and store stay as they are. The test of what is lent is `lend`'s.
 ghost use mathlib.Core.Path.{_≡_};
 ghost use Prim.Native.Nat.{_≤_};
 ghost use lib.ListN.{length};

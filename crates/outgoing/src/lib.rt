@@ -6,8 +6,8 @@ mod entry;
 mod lone;
 pub mod worker;
 
-// Nothing to send (Stop, Wait), how many bytes were written from the output's start, or the number of a refusal: 23 where the output is short
-// of the request, which then stays as it was.
+// Nothing to send (Stop, Wait), how many bytes were written from the output's start, or the number of a refusal: 24, which `workers` tells, or
+// 23 where the output is short of the request. Refused, the output stays as it was.
 pub enum Request {
     Unsent,
     Written(usize),
