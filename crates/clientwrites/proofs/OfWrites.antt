@@ -6,7 +6,7 @@ use mathlib.Core.Bool.{Bool, true, false, cond, not}
 use mathlib.Core.List.{List, [], _∷_}
 use mathlib.Core.Option.{none, some}
 use lib.Dec.{eqb}
-use lib.ListN.{length, getD, set}
+use lib.ListN.{getD, set}
 use Rattle.model.specs.Keys.{Key}
 use Rattle.model.specs.Refusals.{unknownShard, outsideDomain, malformed}
 use Rattle.model.specs.Log.{Op, lastOffset}
@@ -25,11 +25,9 @@ use Rattle.node.proofs.OfFormed.{formed-few}
 use Rattle.serve.specs.View.{viewExpiry}
 use Rattle.serve.specs.declared.Admit.{Admit}
 use Rattle.serve.specs.declared.Admit.the-variants as A
-use Rattle.shard.specs.Store.{Store, storeLog}
+use Rattle.shard.specs.Store.{Store}
 use Rattle.shard.proofs.Columns.{log-length}
-use Rattle.rpc.specs.Shown.{messageOf}
 use Rattle.rpc.specs.declared.WritePart.{WritePart}
-use Rattle.rpc.specs.declared.Message.the-variants.{Write}
 use Rattle.rpc.proofs.Decoded.{write-decoded}
 use Rattle.arrivals.specs.Parts.{opIn}
 use Rattle.arrivals.proofs.OfMessages.{write-part, write-op}
@@ -37,21 +35,19 @@ use Rattle.state.specs.Names.{viewKey}
 use Rattle.writes.specs.declared.Written.{Written}
 use Rattle.writes.specs.Writes.{viewStored, writtenAs, Writes}
 use Rattle.writes.specs.Writes as writes
-use Rattle.header.specs.declared.Kept.{Kept}
 use Rattle.header.specs.declared.Node.{Node}
 use Rattle.header.specs.View.{Stores, viewNode, noKept, withKepts}
-use Rattle.header.specs.Answers.{Told, told}
+use Rattle.header.specs.Answers.{told}
 use Rattle.header.proofs.OfFormed.{header-few, shard-formed}
 use Rattle.header.proofs.OfShards.{call-absent}
 use Rattle.lend.specs.declared.Lent.the-variants as L
 use Rattle.lend.specs.declared.Lent as found
 use Rattle.lend.specs.Named.{keyIn}
-use Rattle.lend.specs.Lend.{Lot, storeIn, storeOf, lentFor, slotOf, Finds, Found, keptWith, withStore}
+use Rattle.lend.specs.Lend.{Lot, storeIn, storeOf, lentFor, slotOf, Finds, Found, withStore}
 use Rattle.lend.proofs.OfLend.{slot-held, call-store, node-view}
 use Rattle.clientwrites.specs.declared.WriteReply.{WriteReply}
 use Rattle.clientwrites.specs.declared.WriteReply.the-variants as R
 use Rattle.clientwrites.specs.declared.NodeWritten.{NodeWritten}
-use Rattle.clientwrites.specs.declared.WriteAnswer.{WriteAnswer}
 use Rattle.clientwrites.specs.ClientWrites.{writeWord, turnedDown, numberIn, replyAs, IsWrite, WritesMessage, WriteSlot, Serves, WritesAt}
 use Rattle.clientwrites.proofs.OfNamed.{write-key}
 
@@ -213,10 +209,12 @@ module _ (n : Node) (a : Lot) (clock least : ℕ) (m : List ℕ) where
 
           pub served : (b : Lot) (lease : Bool) → lease ≡ leasedNow → (r : Written)
               → WritesMessage m lease least (getD (n .held) at noKept .held) (storeOf a (getD (n .held) at noKept)) (storeIn b (r .held .last) (r .stored)) r
-              → (w : WriteReply) → w ≡ replyAs (r .admit) (r .held .last) → (v : Node) → v ≡ withStore n at (r .held) (r .stored)
+              → (w : WriteReply) (last : ℕ) → w ≡ replyAs (r .admit) last → last ≡ r .held .last
+              → (v : Node) → v ≡ withStore n at (r .held) (r .stored)
               → Serves n a b clock least m (record { answer = w; node = v })
-          served b lease lq r d w o v q′ =
+          served b lease lq r d w last o′ lr v q′ =
               let g = found-key in
+              let o : w ≡ replyAs (r .admit) (r .held .last) = o′ ∙ ap (replyAs (r .admit)) lr in
               let x = getD (n .held) at noKept in
               let t₁ = storeIn b (r .held .last) (r .stored) in
               let y = viewStored (viewKey (x .key)) (r .held) t₁ in

@@ -24,7 +24,7 @@ use Rattle.writes.specs.declared.Written.{Written}
 use Rattle.writes.specs.Writes.{Writes}
 use Rattle.header.specs.declared.Node.{Node}
 use Rattle.header.specs.View.{Stores, viewNode}
-use Rattle.header.specs.Answers.{Told, told}
+use Rattle.header.specs.Answers.{told}
 use Rattle.lend.specs.Lend.{Lot, lentFor, slotOf, Changes}
 use Rattle.clientwrites.specs.declared.WriteReply.{WriteReply}
 use Rattle.clientwrites.specs.declared.WriteReply.the-variants as R
