@@ -1,0 +1,104 @@
+-- Demand 3, of the calls themselves: in every run of the engine's calls that the rules allow, from every engine that is read as fresh, each
+-- acknowledged write stands in the log of every node that the map lists in sync, with its offset and its operation, and that node's
+-- vectors are its log played from the start. Assumes nothing.
+use mathlib.Core.Path.{_≡_, refl, sym, ap, subst, _∙_}
+use mathlib.Core.Bool.{true, false}
+use mathlib.Core.List.{List, [], _∷_}
+use mathlib.Core.Option.{Option, none, some}
+use Prim.Native.Nat.{ℕ}
+use Rattle.model.specs.Lists.{nth}
+use Rattle.run.specs.State.{State, Offer, Outcome, setRequests, setReplies, setOffers, setOutcomes}
+use Rattle.run.specs.Event.{
+  Event,
+  command,
+  mapShown,
+  leaseGranted,
+  clientWrites,
+  clientSearches,
+  nodeWaits,
+  workerSteps,
+  requestArrives,
+  requestLost,
+  replyArrives,
+  replyLost,
+  offerArrives,
+  offerLost,
+  offerTimesOut,
+  outcomeArrives,
+  outcomeLost,
+  outcomeTimesOut,
+}
+use Rattle.run.specs.Rules.{allowed}
+use Rattle.run.specs.Step.{step, onRequestLost, onReplyLost, onOfferLost, givenUp, onOfferTimeout, onOutcomeLost, late, onOutcomeTimeout}
+use Rattle.run.specs.Fresh.{Fresh}
+use Rattle.run.specs.Claim.{Durable}
+use Rattle.run.proofs.Demand3 as model
+use Rattle.durable.specs.Engine.{Engine, seen, host}
+use Rattle.durable.specs.Calls.{Called, Calls}
+use Rattle.durable.proofs.Simulated.{Simulated, nothing, one, then}
+use Rattle.durable.proofs.Seen.{Beside, hosted}
+use Rattle.durable.proofs.OnMap.{told-beside, on-command, on-offer}
+use Rattle.durable.proofs.OnNode.{on-shown, on-grant, on-wait, on-reply, on-outcome}
+use Rattle.durable.proofs.OnArrivals.{on-arrival}
+use Rattle.durable.proofs.OnClients.{on-write, on-search}
+use Rattle.durable.proofs.OnWorkers.{on-work}
+
+-- ---- what is no call
+
+given-beside : (s : State) (i : ℕ) (o : Option Offer) → Beside s (givenUp s i o)
+unfolding givenUp setOffers
+given-beside s i none = record { map = refl; nodes = refl; clients = refl }
+given-beside s i (some o) = let b = told-beside s o false in record { map = b .map; nodes = b .nodes; clients = b .clients }
+
+late-beside : (s : State) (i : ℕ) (o : Option Outcome) → Beside s (late s i o)
+unfolding late setOutcomes
+late-beside s i none = record { map = refl; nodes = refl; clients = refl }
+late-beside s i (some o) = record { map = refl; nodes = refl; clients = refl }
+
+module _ (e f : Engine) where
+  -- an event that is the host's alone
+  beside : (v : Event) (deed : State → State) → allowed (seen e) v ≡ true → step (seen e) v ≡ deed (seen e) → Beside (seen e) (deed (seen e))
+      → f ≡ host e deed → Simulated (seen e) (seen f)
+  beside v deed may d b q = one (seen e) (seen f) v may (d ∙ sym (ap seen q ∙ hosted e deed b))
+
+  -- every event of the engine is a run of `run`: the same event, or, where the lent test refused a call, one that does without it
+  pub simulated : (v : Event) → allowed (seen e) v ≡ true → Called e v f → Simulated (seen e) (seen f)
+  unfolding step Called onRequestLost onReplyLost onOfferLost onOutcomeLost onOfferTimeout onOutcomeTimeout setRequests setReplies setOffers setOutcomes
+  simulated (command m) may c = on-command e f m may c
+  simulated (mapShown n fresh) may c = on-shown e f n fresh may c
+  simulated (leaseGranted n i sent lease) may c = on-grant e f n i sent lease may c
+  simulated (clientWrites n now least m) may c = on-write e f n now least m may c
+  simulated (clientSearches n now space m) may c = on-search e f n now space m c
+  simulated (nodeWaits i now timeout) may c = on-wait e f i now timeout may c
+  simulated (workerSteps n k epoch peer metric space) may c = on-work e f n k epoch peer metric space may c
+  simulated (requestArrives from to i) may c = on-arrival e f from to i may c
+  simulated (requestLost from to i) may c =
+      beside (requestLost from to i) (λ s. onRequestLost s from to i) may refl (record { map = refl; nodes = refl; clients = refl }) c
+  simulated (replyArrives i) may c = on-reply e f i may c
+  simulated (replyLost i) may c =
+      beside (replyLost i) (λ s. onReplyLost s i) may refl (record { map = refl; nodes = refl; clients = refl }) c
+  simulated (offerArrives i index seq) may c = on-offer e f i index seq may c
+  simulated (offerLost i) may c =
+      beside (offerLost i) (λ s. onOfferLost s i) may refl (record { map = refl; nodes = refl; clients = refl }) c
+  simulated (offerTimesOut i) may c =
+      beside (offerTimesOut i) (λ s. onOfferTimeout s i) may refl (given-beside (seen e) i (nth (seen e .offers) i)) c
+  simulated (outcomeArrives i) may c = on-outcome e f i may c
+  simulated (outcomeLost i) may c =
+      beside (outcomeLost i) (λ s. onOutcomeLost s i) may refl (record { map = refl; nodes = refl; clients = refl }) c
+  simulated (outcomeTimesOut i) may c =
+      beside (outcomeTimesOut i) (λ s. onOutcomeTimeout s i) may refl (late-beside (seen e) i (nth (seen e .outcomes) i)) c
+
+-- ---- the run
+
+pub runs : (e f : Engine) (vs : List Event) → Calls e vs f → Simulated (seen e) (seen f)
+unfolding Calls
+runs e f [] c = nothing (seen e) (seen f) (sym (ap seen c))
+runs e f (v ∷ vs) c =
+    let g = c .0 in
+    then (seen e) (seen g) (seen f) (simulated e g v (c .1) (c .2)) (runs g f vs (c .3))
+
+-- demand 3
+pub durable : (e f : Engine) (vs : List Event) → Fresh (seen e) → Calls e vs f → Durable (seen f)
+durable e f vs fresh c =
+    let r = runs e f vs c in
+    subst Durable (r .ends) (model.durable (seen e) fresh (r .events) (r .may))

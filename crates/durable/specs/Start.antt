@@ -1,0 +1,54 @@
+-- How a host begins a run, by the contracts of the calls that it makes: the map is what Register and Create left, and every holder of its
+-- shard has been shown it; nothing else has happened. Definitions only.
+use Prim.Native.Nat.{ℕ}
+use mathlib.Core.Path.{_≡_}
+use mathlib.Core.Bool.{true, false}
+use mathlib.Core.List.{[]}
+use mathlib.Core.Option.{some}
+use Rattle.model.specs.Lists.{nth}
+use Rattle.model.specs.Map.Tables.{ShardInfo}
+use Rattle.model.specs.Map.Change.{holds}
+use Rattle.model.specs.Layout.Writable.{U64}
+use Rattle.model.specs.declared.Replica.{Replica}
+use Rattle.run.specs.Fresh.{Created}
+use Rattle.state.specs.View.{viewMap}
+use Rattle.mapcheck.specs.Lent.{wellFormedLent}
+use Rattle.serve.specs.declared.Expiry.the-variants.{Never}
+use Rattle.header.specs.declared.Node.{Node}
+use Rattle.shown.specs.declared.NodeShown.{NodeShown}
+use Rattle.hears.specs.Hears.{HearsMap}
+use Rattle.durable.specs.Engine.{Engine}
+
+-- a header in which nothing has happened: no shard is in use, no lease was granted, no map is known. Its array is free
+pub record New (x : Node) (me under : ℕ) : Type 0 where
+  pub id : x .id .0 ≡ me
+  pub incarnation : x .incarnation ≡ under
+  pub expiry : x .expiry ≡ Never
+  pub version : x .version ≡ 0
+  pub count : x .count ≡ 0
+
+-- a holder's header after it was shown the map: `hears::show::show`, on a new one
+pub record ShownFirst (e : Engine) (me incarnation : ℕ) : Type 0 where
+  pub new : Node
+  pub made : New new me incarnation
+  pub fresh : ℕ
+  pub answer : NodeShown
+  pub promised : HearsMap new (e .map) fresh answer
+  pub node : e .nodes me ≡ answer .node
+
+-- the map is one that `mapcheck::well_formed` passes; what it is read as is a map with one shard, as Create leaves it. Stores are free
+pub record Begun (e : Engine) : Type 0 where
+  pub shard : ShardInfo
+  pub tested : wellFormedLent (e .map) ≡ true
+  pub created : Created (viewMap (e .map)) shard
+  pub incarnation : ℕ → ℕ
+  pub listed : (r : Replica) (place : ℕ) → nth (shard .replicas) place ≡ some r → incarnation (r .node .0) ≡ r .incarnation
+  pub holders : (n : ℕ) → holds n (shard .replicas) ≡ true → ShownFirst e n (incarnation n)
+  pub others : (n : ℕ) → holds n (shard .replicas) ≡ false → New (e .nodes n) n (incarnation n)
+  pub clients : (n : ℕ) → U64 (e .clients n)
+  pub requests : (a b : ℕ) → e .requests a b ≡ []
+  pub replies : e .replies ≡ []
+  pub offers : e .offers ≡ []
+  pub outcomes : e .outcomes ≡ []
+  pub accepted : e .accepted ≡ []
+  pub acknowledged : e .acknowledged ≡ []
