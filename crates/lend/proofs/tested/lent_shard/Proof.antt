@@ -30,31 +30,60 @@ formed-node-requires : tie.Need-formed-node-requires
 formed-node-requires c κs = search needs
 
 returns : tie.Need-returns
-returns c = lent-malformed (c .before .before .before .before .before .before .before .before .before .before .args .n) (viewKey (c .before .before .before .before .before .before .before .before .before .before .args .key)) _ (λ s. sym (not-true _ (c .if1 .taken)) ∙ c .before .formed-node .ensures .same s)
+returns c =
+    let a = c .before .before .before .before .before .before .before .before .before .before .args in
+    lent-malformed (a .n) (viewKey (a .key)) _ (λ s. sym (not-true _ (c .if1 .taken)) ∙ c .before .formed-node .ensures .same s)
 
 place-of-requires : tie.Need-place-of-requires
-place-of-requires c κs = header-few (c .before .before .before .before .before .before .before .before .before .before .before .args .n) (sym (c .before .before .formed-node .ensures .plain) ∙ not-false _ (c .before .if1 .left))
+place-of-requires c κs =
+    let s = c .before .before .before .before .before .before .before .before .before .before .before in
+    let e = sym (c .before .before .formed-node .ensures .plain) ∙ not-false _ (c .before .if1 .left) in
+    header-few (s .args .n) e
 
 returns-2 : tie.Need-returns-2
-returns-2 c = absent-short (c .before .before .before .before .before .before .before .before .before .before .before .before .before .before .args .n) (viewKey (c .before .before .before .before .before .before .before .before .before .before .before .before .before .before .args .key)) _ (sym (c .before .before .before .before .before .formed-node .ensures .plain) ∙ not-false _ (c .before .before .before .before .if1 .left)) (c .before .before .place-of .result) (c .before .before .place-of .ensures) (fits (c .before .before .before .before .before .before .before .before .before .before .before .before .before .before) (sym (c .before .before .before .before .before .formed-node .ensures .plain) ∙ not-false _ (c .before .before .before .before .if1 .left))) (c .before .if2 .taken) (c .if3 .taken)
+returns-2 c =
+    let s = c .before .before .before .before .before .before .before .before .before .before .before .before .before .before in
+    let e = sym (c .before .before .before .before .before .formed-node .ensures .plain) ∙ not-false _ (c .before .before .before .before .if1 .left) in
+    let p = c .before .before .place-of in
+    absent-short (s .args .n) (viewKey (s .args .key)) _ e (p .result) (p .ensures) (fits s e) (c .before .if2 .taken) (c .if3 .taken)
 
 returns-3 : tie.Need-returns-3
-returns-3 c = absent-found (c .before .before .before .before .before .before .before .before .before .before .before .before .before .before .args .n) (viewKey (c .before .before .before .before .before .before .before .before .before .before .before .before .before .before .args .key)) _ (sym (c .before .before .before .before .before .formed-node .ensures .plain) ∙ not-false _ (c .before .before .before .before .if1 .left)) (c .before .before .place-of .result) (c .before .before .place-of .ensures) (fits (c .before .before .before .before .before .before .before .before .before .before .before .before .before .before) (sym (c .before .before .before .before .before .formed-node .ensures .plain) ∙ not-false _ (c .before .before .before .before .if1 .left))) (c .before .if2 .taken) (c .if3 .left)
+returns-3 c =
+    let s = c .before .before .before .before .before .before .before .before .before .before .before .before .before .before in
+    let e = sym (c .before .before .before .before .before .formed-node .ensures .plain) ∙ not-false _ (c .before .before .before .before .if1 .left) in
+    let p = c .before .before .place-of in
+    absent-found (s .args .n) (viewKey (s .args .key)) _ e (p .result) (p .ensures) (fits s e) (c .before .if2 .taken) (c .if3 .left)
 
 mul-x : tie.Need-mul-x
-mul-x c = let few = header-few (c .before .before .before .before .before .before .before .before .before .before .before .before .before .args .n) (sym (c .before .before .before .before .formed-node .ensures .plain) ∙ not-false _ (c .before .before .before .if1 .left)) in search needs
+mul-x c =
+    let s = c .before .before .before .before .before .before .before .before .before .before .before .before .before in
+    let e = sym (c .before .before .before .before .formed-node .ensures .plain) ∙ not-false _ (c .before .before .before .if1 .left) in
+    let few = header-few (s .args .n) e in
+    search needs
 
 array-copy-out-x : tie.Need-array-copy-out-x
-array-copy-out-x c = let few = header-few (c .before .before .before .before .before .before .before .before .before .before .before .before .before .args .n) (sym (c .before .before .before .before .formed-node .ensures .plain) ∙ not-false _ (c .before .before .before .if1 .left)) in search needs
+array-copy-out-x c =
+    let s = c .before .before .before .before .before .before .before .before .before .before .before .before .before in
+    let e = sym (c .before .before .before .before .formed-node .ensures .plain) ∙ not-false _ (c .before .before .before .if1 .left) in
+    let few = header-few (s .args .n) e in
+    search needs
 
 kept-store-requires : tie.Need-kept-store-requires
 kept-store-requires c κs = search needs
 
 returns-4 : tie.Need-returns-4
-returns-4 c = held-found (c .before .before .before .before .before .before .before .before .before .before .before .before .before .before .before .before .args .n) (viewKey (c .before .before .before .before .before .before .before .before .before .before .before .before .before .before .before .before .args .key)) _ (sym (c .before .before .before .before .before .before .before .formed-node .ensures .plain) ∙ not-false _ (c .before .before .before .before .before .before .if1 .left)) (c .before .before .before .before .place-of .result) (c .before .before .before .before .place-of .ensures) (fits (c .before .before .before .before .before .before .before .before .before .before .before .before .before .before .before .before) (sym (c .before .before .before .before .before .before .before .formed-node .ensures .plain) ∙ not-false _ (c .before .before .before .before .before .before .if1 .left))) (c .before .before .before .if2 .left) (sym (c .before .kept-store .ensures) ∙ c .if4 .taken)
+returns-4 c =
+    let s = c .before .before .before .before .before .before .before .before .before .before .before .before .before .before .before .before in
+    let e = sym (c .before .before .before .before .before .before .before .formed-node .ensures .plain) ∙ not-false _ (c .before .before .before .before .before .before .if1 .left) in
+    let p = c .before .before .before .before .place-of in
+    held-found (s .args .n) (viewKey (s .args .key)) _ e (p .result) (p .ensures) (fits s e) (c .before .before .before .if2 .left) (sym (c .before .kept-store .ensures) ∙ c .if4 .taken)
 
 returns-5 : tie.Need-returns-5
-returns-5 c = held-malformed (c .before .before .before .before .before .before .before .before .before .before .before .before .before .before .before .before .args .n) (viewKey (c .before .before .before .before .before .before .before .before .before .before .before .before .before .before .before .before .args .key)) _ (sym (c .before .before .before .before .before .before .before .formed-node .ensures .plain) ∙ not-false _ (c .before .before .before .before .before .before .if1 .left)) (c .before .before .before .before .place-of .result) (c .before .before .before .before .place-of .ensures) (fits (c .before .before .before .before .before .before .before .before .before .before .before .before .before .before .before .before) (sym (c .before .before .before .before .before .before .before .formed-node .ensures .plain) ∙ not-false _ (c .before .before .before .before .before .before .if1 .left))) (c .before .before .before .if2 .left) (sym (c .before .kept-store .ensures) ∙ c .if4 .left)
+returns-5 c =
+    let s = c .before .before .before .before .before .before .before .before .before .before .before .before .before .before .before .before in
+    let e = sym (c .before .before .before .before .before .before .before .formed-node .ensures .plain) ∙ not-false _ (c .before .before .before .before .before .before .if1 .left) in
+    let p = c .before .before .before .before .place-of in
+    held-malformed (s .args .n) (viewKey (s .args .key)) _ e (p .result) (p .ensures) (fits s e) (c .before .before .before .if2 .left) (sym (c .before .kept-store .ensures) ∙ c .if4 .left)
 
 pub lent-shard-spec : {M : Type 1} → statement M
 lent-shard-spec =

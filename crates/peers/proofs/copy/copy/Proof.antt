@@ -29,7 +29,10 @@ enum-known-p c = search needs
 
 returns : tie.Need-returns
 returns c =
-    copy-undecoded (c .before .before .before .before .before .before .before .before .before .before .before .args .n) (c .before .before .before .before .before .before .before .before .before .before .before .args .message .now) _ (copy-missed (c .before .before .before .before .before .before .before .before .before .before .before .args .message .now) (λ q e. let shown = c .before .decode .ensures ∙ e in miss (0 ∷ 1 ∷ 2 ∷ 3 ∷ 5 ∷ 6 ∷ 7 ∷ 8 ∷ 9 ∷ 10 ∷ []) 4 tt (rw shown at (c .match .keys2))))
+    let a = c .before .before .before .before .before .before .before .before .before .before .before .args in
+    copy-undecoded (a .n) (a .message .now) _
+    (copy-missed (a .message .now)
+    (λ q e. let shown = c .before .decode .ensures ∙ e in miss (0 ∷ 1 ∷ 2 ∷ 3 ∷ 5 ∷ 6 ∷ 7 ∷ 8 ∷ 9 ∷ 10 ∷ []) 4 tt (rw shown at (c .match .keys2))))
 
 entries-in-domain-requires : tie.Need-entries-in-domain-requires
 entries-in-domain-requires c κs =
@@ -37,7 +40,10 @@ entries-in-domain-requires c κs =
 
 returns-2 : tie.Need-returns-2
 returns-2 c =
-    outside _ _ (c .before .before .before .before .before .before .before .before .before .before .before .before .before .before .before .before .args .n) _ _ _ _ _ (copy-reads (c .before .before .before .before .before .before .before .before .before .before .before .before .before .before .before .before .args .n) (c .before .before .before .before .before .before .before .before .before .before .before .before .before .before .before .before .args .message .now) _ (sym (c .before .before .before .before .before .before .decode .ensures) ∙ c .before .before .before .before .p .given .1)) (c .before .entries-in-domain .result) (c .before .entries-in-domain .ensures) (not-true _ (c .if1 .taken))
+    let a = c .before .before .before .before .before .before .before .before .before .before .before .before .before .before .before .before .args in
+    let i = sym (c .before .before .before .before .before .before .decode .ensures) ∙ c .before .before .before .before .p .given .1 in
+    let d = c .before .entries-in-domain in
+    outside _ _ (a .n) _ _ _ _ _ (copy-reads (a .n) (a .message .now) _ i) (d .result) (d .ensures) (not-true _ (c .if1 .taken))
 
 key-of-requires : tie.Need-key-of-requires
 key-of-requires c κs =
@@ -75,7 +81,13 @@ same-length-8 c = search needs
 
 returns-3 : tie.Need-returns-3
 returns-3 c =
-    unfit _ _ (c .before .before .before .before .before .before .before .before .before .before .before .before .before .before .before .before .before .before .before .before .before .before .before .before .before .before .before .before .before .args .n) _ _ _ _ _ (copy-reads (c .before .before .before .before .before .before .before .before .before .before .before .before .before .before .before .before .before .before .before .before .before .before .before .before .before .before .before .before .before .args .n) (c .before .before .before .before .before .before .before .before .before .before .before .before .before .before .before .before .before .before .before .before .before .before .before .before .before .before .before .before .before .args .message .now) _ (sym (c .before .before .before .before .before .before .before .before .before .before .before .before .before .before .before .before .before .before .before .decode .ensures) ∙ c .before .before .before .before .before .before .before .before .before .before .before .before .before .before .before .before .before .p .given .1)) (c .before .before .before .before .before .before .before .before .before .before .before .before .before .before .entries-in-domain .result) (c .before .before .before .before .before .before .before .before .before .before .before .before .before .before .entries-in-domain .ensures) (not-false _ (c .before .before .before .before .before .before .before .before .before .before .before .before .before .if1 .left)) _ (c .before .before .before .before .before .before .before .before .before .before .before .key-of .ensures) (c .before .before .lent-shard .result) (c .before .before .lent-shard .ensures) (c .enum-told .given .1)
+    let l = c .before .before in
+    let a = l .before .before .before .before .before .before .before .before .before .before .before .before .before .before .before .before .before .before .before .before .before .before .before .before .before .before .before .args in
+    let i = sym (l .before .before .before .before .before .before .before .before .before .before .before .before .before .before .before .before .before .decode .ensures) ∙ l .before .before .before .before .before .before .before .before .before .before .before .before .before .before .before .p .given .1 in
+    let d = l .before .before .before .before .before .before .before .before .before .before .before .before .entries-in-domain in
+    unfit _ _ (a .n) _ _ _ _ _ (copy-reads (a .n) (a .message .now) _ i)
+    (d .result) (d .ensures) (not-false _ (l .before .before .before .before .before .before .before .before .before .before .before .if1 .left)) _ (l .before .before .before .before .before .before .before .before .before .key-of .ensures) (l .lent-shard .result) (l .lent-shard .ensures)
+    (c .enum-told .given .1)
 
 enum-told-2 : tie.Need-enum-told-2
 enum-told-2 c = search needs
@@ -106,29 +118,62 @@ same-length-16 c = search needs
 
 returns-4 : tie.Need-returns-4
 returns-4 c =
-    gone _ _ (c .before .before .before .before .before .before .before .before .before .before .before .before .before .before .before .before .before .before .before .before .before .before .before .before .before .before .before .before .before .args .n) _ _ _ _ _ (copy-reads (c .before .before .before .before .before .before .before .before .before .before .before .before .before .before .before .before .before .before .before .before .before .before .before .before .before .before .before .before .before .args .n) (c .before .before .before .before .before .before .before .before .before .before .before .before .before .before .before .before .before .before .before .before .before .before .before .before .before .before .before .before .before .args .message .now) _ (sym (c .before .before .before .before .before .before .before .before .before .before .before .before .before .before .before .before .before .before .before .decode .ensures) ∙ c .before .before .before .before .before .before .before .before .before .before .before .before .before .before .before .before .before .p .given .1)) (c .before .before .before .before .before .before .before .before .before .before .before .before .before .before .entries-in-domain .result) (c .before .before .before .before .before .before .before .before .before .before .before .before .before .before .entries-in-domain .ensures) (not-false _ (c .before .before .before .before .before .before .before .before .before .before .before .before .before .if1 .left)) _ (c .before .before .before .before .before .before .before .before .before .before .before .key-of .ensures) (c .before .before .lent-shard .result) (c .before .before .lent-shard .ensures) (c .enum-told2 .given .1) (λ v. refl)
+    let l = c .before .before in
+    let a = l .before .before .before .before .before .before .before .before .before .before .before .before .before .before .before .before .before .before .before .before .before .before .before .before .before .before .before .args in
+    let i = sym (l .before .before .before .before .before .before .before .before .before .before .before .before .before .before .before .before .before .decode .ensures) ∙ l .before .before .before .before .before .before .before .before .before .before .before .before .before .before .before .p .given .1 in
+    let d = l .before .before .before .before .before .before .before .before .before .before .before .before .entries-in-domain in
+    gone _ _ (a .n) _ _ _ _ _ (copy-reads (a .n) (a .message .now) _ i)
+    (d .result) (d .ensures) (not-false _ (l .before .before .before .before .before .before .before .before .before .before .before .if1 .left)) _ (l .before .before .before .before .before .before .before .before .before .key-of .ensures) (l .lent-shard .result) (l .lent-shard .ensures)
+    (c .enum-told2 .given .1) (λ v. refl)
 
 enum-known-found : tie.Need-enum-known-found
 enum-known-found c = search needs
 
 mul-x : tie.Need-mul-x
 mul-x c =
-    let few = found-few _ _ (c .before .before .before .before .before .before .before .before .before .before .before .before .before .before .before .before .before .before .before .before .before .before .before .before .before .before .before .before .before .before .before .args .n) _ _ _ _ _ (copy-reads (c .before .before .before .before .before .before .before .before .before .before .before .before .before .before .before .before .before .before .before .before .before .before .before .before .before .before .before .before .before .before .before .args .n) (c .before .before .before .before .before .before .before .before .before .before .before .before .before .before .before .before .before .before .before .before .before .before .before .before .before .before .before .before .before .before .before .args .message .now) _ (sym (c .before .before .before .before .before .before .before .before .before .before .before .before .before .before .before .before .before .before .before .before .before .decode .ensures) ∙ c .before .before .before .before .before .before .before .before .before .before .before .before .before .before .before .before .before .before .before .p .given .1)) (c .before .before .before .before .before .before .before .before .before .before .before .before .before .before .before .before .entries-in-domain .result) (c .before .before .before .before .before .before .before .before .before .before .before .before .before .before .before .before .entries-in-domain .ensures) (not-false _ (c .before .before .before .before .before .before .before .before .before .before .before .before .before .before .before .if1 .left)) _ (c .before .before .before .before .before .before .before .before .before .before .before .before .before .key-of .ensures) (c .before .before .before .before .lent-shard .result) (c .before .before .before .before .lent-shard .ensures) _ (c .before .before .found .given .1) in search needs
+    let l = c .before .before .before .before in
+    let a = l .before .before .before .before .before .before .before .before .before .before .before .before .before .before .before .before .before .before .before .before .before .before .before .before .before .before .before .args in
+    let i = sym (l .before .before .before .before .before .before .before .before .before .before .before .before .before .before .before .before .before .decode .ensures) ∙ l .before .before .before .before .before .before .before .before .before .before .before .before .before .before .before .p .given .1 in
+    let d = l .before .before .before .before .before .before .before .before .before .before .before .before .entries-in-domain in
+    let few = found-few _ _ (a .n) _ _ _ _ _ (copy-reads (a .n) (a .message .now) _ i)
+    (d .result) (d .ensures) (not-false _ (l .before .before .before .before .before .before .before .before .before .before .before .if1 .left)) _ (l .before .before .before .before .before .before .before .before .before .key-of .ensures) (l .lent-shard .result) (l .lent-shard .ensures)
+    _ (c .before .before .found .given .1) in
+    search needs
 
 array-copy-out-x : tie.Need-array-copy-out-x
 array-copy-out-x c =
-    let few = found-few _ _ (c .before .before .before .before .before .before .before .before .before .before .before .before .before .before .before .before .before .before .before .before .before .before .before .before .before .before .before .before .before .before .before .args .n) _ _ _ _ _ (copy-reads (c .before .before .before .before .before .before .before .before .before .before .before .before .before .before .before .before .before .before .before .before .before .before .before .before .before .before .before .before .before .before .before .args .n) (c .before .before .before .before .before .before .before .before .before .before .before .before .before .before .before .before .before .before .before .before .before .before .before .before .before .before .before .before .before .before .before .args .message .now) _ (sym (c .before .before .before .before .before .before .before .before .before .before .before .before .before .before .before .before .before .before .before .before .before .decode .ensures) ∙ c .before .before .before .before .before .before .before .before .before .before .before .before .before .before .before .before .before .before .before .p .given .1)) (c .before .before .before .before .before .before .before .before .before .before .before .before .before .before .before .before .entries-in-domain .result) (c .before .before .before .before .before .before .before .before .before .before .before .before .before .before .before .before .entries-in-domain .ensures) (not-false _ (c .before .before .before .before .before .before .before .before .before .before .before .before .before .before .before .if1 .left)) _ (c .before .before .before .before .before .before .before .before .before .before .before .before .before .key-of .ensures) (c .before .before .before .before .lent-shard .result) (c .before .before .before .before .lent-shard .ensures) _ (c .before .before .found .given .1) in search needs
+    let l = c .before .before .before .before in
+    let a = l .before .before .before .before .before .before .before .before .before .before .before .before .before .before .before .before .before .before .before .before .before .before .before .before .before .before .before .args in
+    let i = sym (l .before .before .before .before .before .before .before .before .before .before .before .before .before .before .before .before .before .decode .ensures) ∙ l .before .before .before .before .before .before .before .before .before .before .before .before .before .before .before .p .given .1 in
+    let d = l .before .before .before .before .before .before .before .before .before .before .before .before .entries-in-domain in
+    let few = found-few _ _ (a .n) _ _ _ _ _ (copy-reads (a .n) (a .message .now) _ i)
+    (d .result) (d .ensures) (not-false _ (l .before .before .before .before .before .before .before .before .before .before .before .if1 .left)) _ (l .before .before .before .before .before .before .before .before .before .key-of .ensures) (l .lent-shard .result) (l .lent-shard .ensures)
+    _ (c .before .before .found .given .1) in
+    search needs
 
 copy-held-requires : tie.Need-copy-held-requires
 copy-held-requires c κs =
-    let f = found-at _ _ (c .before .before .before .before .before .before .before .before .before .before .before .before .before .before .before .before .before .before .before .before .before .before .before .before .before .before .before .before .before .before .before .before .before .before .before .before .before .before .before .before .before .args .n) _ _ _ _ _ (copy-reads (c .before .before .before .before .before .before .before .before .before .before .before .before .before .before .before .before .before .before .before .before .before .before .before .before .before .before .before .before .before .before .before .before .before .before .before .before .before .before .before .before .before .args .n) (c .before .before .before .before .before .before .before .before .before .before .before .before .before .before .before .before .before .before .before .before .before .before .before .before .before .before .before .before .before .before .before .before .before .before .before .before .before .before .before .before .before .args .message .now) _ (sym (c .before .before .before .before .before .before .before .before .before .before .before .before .before .before .before .before .before .before .before .before .before .before .before .before .before .before .before .before .before .before .before .decode .ensures) ∙ c .before .before .before .before .before .before .before .before .before .before .before .before .before .before .before .before .before .before .before .before .before .before .before .before .before .before .before .before .before .p .given .1)) (c .before .before .before .before .before .before .before .before .before .before .before .before .before .before .before .before .before .before .before .before .before .before .before .before .before .before .entries-in-domain .result) (c .before .before .before .before .before .before .before .before .before .before .before .before .before .before .before .before .before .before .before .before .before .before .before .before .before .before .entries-in-domain .ensures) (not-false _ (c .before .before .before .before .before .before .before .before .before .before .before .before .before .before .before .before .before .before .before .before .before .before .before .before .before .if1 .left)) _ (c .before .before .before .before .before .before .before .before .before .before .before .before .before .before .before .before .before .before .before .before .before .before .before .key-of .ensures) (c .before .before .before .before .before .before .before .before .before .before .before .before .before .before .lent-shard .result) (c .before .before .before .before .before .before .before .before .before .before .before .before .before .before .lent-shard .ensures) _ (c .before .before .before .before .before .before .before .before .before .before .before .before .found .given .1) in ((sym (c .before .before .before .before .before .before .before .before .before .before .before .before .before .before .before .before .before .before .before .before .before .before .before .before .before .before .before .before .before .before .before .decode .ensures) ∙ c .before .before .before .before .before .before .before .before .before .before .before .before .before .before .before .before .before .before .before .before .before .before .before .before .before .before .before .before .before .p .given .1), sym (c .before .before .before .before .before .before .before .before .before .before .before .before .before .before .before .before .before .before .before .before .before .before .before .before .before .before .entries-in-domain .ensures) ∙ not-false _ (c .before .before .before .before .before .before .before .before .before .before .before .before .before .before .before .before .before .before .before .before .before .before .before .before .before .if1 .left), f .sized, f .well)
+    let l = c .before .before .before .before .before .before .before .before .before .before .before .before .before .before in
+    let a = l .before .before .before .before .before .before .before .before .before .before .before .before .before .before .before .before .before .before .before .before .before .before .before .before .before .before .before .args in
+    let i = sym (l .before .before .before .before .before .before .before .before .before .before .before .before .before .before .before .before .before .decode .ensures) ∙ l .before .before .before .before .before .before .before .before .before .before .before .before .before .before .before .p .given .1 in
+    let d = l .before .before .before .before .before .before .before .before .before .before .before .before .entries-in-domain in
+    let f = found-at _ _ (a .n) _ _ _ _ _ (copy-reads (a .n) (a .message .now) _ i)
+    (d .result) (d .ensures) (not-false _ (l .before .before .before .before .before .before .before .before .before .before .before .if1 .left)) _ (l .before .before .before .before .before .before .before .before .before .key-of .ensures) (l .lent-shard .result) (l .lent-shard .ensures)
+    _ (c .before .before .before .before .before .before .before .before .before .before .before .before .found .given .1) in
+    (i, sym (d .ensures) ∙ not-false _ (l .before .before .before .before .before .before .before .before .before .before .before .if1 .left), f .sized, f .well)
 
 reply-of-requires : tie.Need-reply-of-requires
 reply-of-requires c κs = search needs
 
 put-back-requires : tie.Need-put-back-requires
 put-back-requires c κs =
-    found-few _ _ (c .before .before .before .before .before .before .before .before .before .before .before .before .before .before .before .before .before .before .before .before .before .before .before .before .before .before .before .before .before .before .before .before .before .before .before .before .before .before .before .before .before .before .before .before .before .before .before .before .before .before .before .before .before .before .before .before .before .before .before .before .args .n) _ _ _ _ _ (copy-reads (c .before .before .before .before .before .before .before .before .before .before .before .before .before .before .before .before .before .before .before .before .before .before .before .before .before .before .before .before .before .before .before .before .before .before .before .before .before .before .before .before .before .before .before .before .before .before .before .before .before .before .before .before .before .before .before .before .before .before .before .before .args .n) (c .before .before .before .before .before .before .before .before .before .before .before .before .before .before .before .before .before .before .before .before .before .before .before .before .before .before .before .before .before .before .before .before .before .before .before .before .before .before .before .before .before .before .before .before .before .before .before .before .before .before .before .before .before .before .before .before .before .before .before .before .args .message .now) _ (sym (c .before .before .before .before .before .before .before .before .before .before .before .before .before .before .before .before .before .before .before .before .before .before .before .before .before .before .before .before .before .before .before .before .before .before .before .before .before .before .before .before .before .before .before .before .before .before .before .before .before .before .decode .ensures) ∙ c .before .before .before .before .before .before .before .before .before .before .before .before .before .before .before .before .before .before .before .before .before .before .before .before .before .before .before .before .before .before .before .before .before .before .before .before .before .before .before .before .before .before .before .before .before .before .before .before .p .given .1)) (c .before .before .before .before .before .before .before .before .before .before .before .before .before .before .before .before .before .before .before .before .before .before .before .before .before .before .before .before .before .before .before .before .before .before .before .before .before .before .before .before .before .before .before .before .before .entries-in-domain .result) (c .before .before .before .before .before .before .before .before .before .before .before .before .before .before .before .before .before .before .before .before .before .before .before .before .before .before .before .before .before .before .before .before .before .before .before .before .before .before .before .before .before .before .before .before .before .entries-in-domain .ensures) (not-false _ (c .before .before .before .before .before .before .before .before .before .before .before .before .before .before .before .before .before .before .before .before .before .before .before .before .before .before .before .before .before .before .before .before .before .before .before .before .before .before .before .before .before .before .before .before .if1 .left)) _ (c .before .before .before .before .before .before .before .before .before .before .before .before .before .before .before .before .before .before .before .before .before .before .before .before .before .before .before .before .before .before .before .before .before .before .before .before .before .before .before .before .before .before .key-of .ensures) (c .before .before .before .before .before .before .before .before .before .before .before .before .before .before .before .before .before .before .before .before .before .before .before .before .before .before .before .before .before .before .before .before .before .lent-shard .result) (c .before .before .before .before .before .before .before .before .before .before .before .before .before .before .before .before .before .before .before .before .before .before .before .before .before .before .before .before .before .before .before .before .before .lent-shard .ensures) _ (c .before .before .before .before .before .before .before .before .before .before .before .before .before .before .before .before .before .before .before .before .before .before .before .before .before .before .before .before .before .before .before .found .given .1)
+    let l = c .before .before .before .before .before .before .before .before .before .before .before .before .before .before .before .before .before .before .before .before .before .before .before .before .before .before .before .before .before .before .before .before .before in
+    let a = l .before .before .before .before .before .before .before .before .before .before .before .before .before .before .before .before .before .before .before .before .before .before .before .before .before .before .before .args in
+    let i = sym (l .before .before .before .before .before .before .before .before .before .before .before .before .before .before .before .before .before .decode .ensures) ∙ l .before .before .before .before .before .before .before .before .before .before .before .before .before .before .before .p .given .1 in
+    let d = l .before .before .before .before .before .before .before .before .before .before .before .before .entries-in-domain in
+    found-few _ _ (a .n) _ _ _ _ _ (copy-reads (a .n) (a .message .now) _ i)
+    (d .result) (d .ensures) (not-false _ (l .before .before .before .before .before .before .before .before .before .before .before .if1 .left)) _ (l .before .before .before .before .before .before .before .before .before .key-of .ensures) (l .lent-shard .result) (l .lent-shard .ensures)
+    _ (c .before .before .before .before .before .before .before .before .before .before .before .before .before .before .before .before .before .before .before .before .before .before .before .before .before .before .before .before .before .before .before .found .given .1)
 
 same-length-17 : tie.Need-same-length-17
 same-length-17 c = search needs
@@ -156,7 +201,16 @@ same-length-24 c = search needs
 
 returns-5 : tie.Need-returns-5
 returns-5 c =
-    served _ _ (c .before .before .before .before .before .before .before .before .before .before .before .before .before .before .before .before .before .before .before .before .before .before .before .before .before .before .before .before .before .before .before .before .before .before .before .before .before .before .before .before .before .before .before .before .before .before .before .before .before .before .before .before .before .before .before .before .before .before .before .before .before .args .n) _ _ _ _ _ (copy-reads (c .before .before .before .before .before .before .before .before .before .before .before .before .before .before .before .before .before .before .before .before .before .before .before .before .before .before .before .before .before .before .before .before .before .before .before .before .before .before .before .before .before .before .before .before .before .before .before .before .before .before .before .before .before .before .before .before .before .before .before .before .before .args .n) (c .before .before .before .before .before .before .before .before .before .before .before .before .before .before .before .before .before .before .before .before .before .before .before .before .before .before .before .before .before .before .before .before .before .before .before .before .before .before .before .before .before .before .before .before .before .before .before .before .before .before .before .before .before .before .before .before .before .before .before .before .before .args .message .now) _ (sym (c .before .before .before .before .before .before .before .before .before .before .before .before .before .before .before .before .before .before .before .before .before .before .before .before .before .before .before .before .before .before .before .before .before .before .before .before .before .before .before .before .before .before .before .before .before .before .before .before .before .before .before .decode .ensures) ∙ c .before .before .before .before .before .before .before .before .before .before .before .before .before .before .before .before .before .before .before .before .before .before .before .before .before .before .before .before .before .before .before .before .before .before .before .before .before .before .before .before .before .before .before .before .before .before .before .before .before .p .given .1)) (c .before .before .before .before .before .before .before .before .before .before .before .before .before .before .before .before .before .before .before .before .before .before .before .before .before .before .before .before .before .before .before .before .before .before .before .before .before .before .before .before .before .before .before .before .before .before .entries-in-domain .result) (c .before .before .before .before .before .before .before .before .before .before .before .before .before .before .before .before .before .before .before .before .before .before .before .before .before .before .before .before .before .before .before .before .before .before .before .before .before .before .before .before .before .before .before .before .before .before .entries-in-domain .ensures) (not-false _ (c .before .before .before .before .before .before .before .before .before .before .before .before .before .before .before .before .before .before .before .before .before .before .before .before .before .before .before .before .before .before .before .before .before .before .before .before .before .before .before .before .before .before .before .before .before .if1 .left)) _ (c .before .before .before .before .before .before .before .before .before .before .before .before .before .before .before .before .before .before .before .before .before .before .before .before .before .before .before .before .before .before .before .before .before .before .before .before .before .before .before .before .before .before .before .key-of .ensures) (c .before .before .before .before .before .before .before .before .before .before .before .before .before .before .before .before .before .before .before .before .before .before .before .before .before .before .before .before .before .before .before .before .before .before .lent-shard .result) (c .before .before .before .before .before .before .before .before .before .before .before .before .before .before .before .before .before .before .before .before .before .before .before .before .before .before .before .before .before .before .before .before .before .before .lent-shard .ensures) _ (c .before .before .before .before .before .before .before .before .before .before .before .before .before .before .before .before .before .before .before .before .before .before .before .before .before .before .before .before .before .before .before .before .found .given .1) _ (c .before .before .before .before .before .before .before .before .before .before .before .before .before .before .before .before .before .before .before .copy-held .result) (copy-backs (c .before .before .before .before .before .before .before .before .before .before .before .before .before .before .before .before .before .before .before .before .before .before .before .before .before .before .before .before .before .before .before .before .before .before .before .before .before .before .before .before .before .before .before .before .before .before .before .before .before .before .before .before .before .before .before .before .before .before .before .before .before .args .n) (c .before .before .before .before .before .before .before .before .before .before .before .before .before .before .before .before .before .before .before .before .before .before .before .before .before .before .before .before .before .before .before .before .before .before .before .before .before .before .before .before .before .before .before .before .before .before .before .before .before .before .before .before .before .before .before .before .before .before .before .before .before .args .message .now) _ (sym (c .before .before .before .before .before .before .before .before .before .before .before .before .before .before .before .before .before .before .before .before .before .before .before .before .before .before .before .before .before .before .before .before .before .before .before .before .before .before .before .before .before .before .before .before .before .before .before .before .before .before .before .decode .ensures) ∙ c .before .before .before .before .before .before .before .before .before .before .before .before .before .before .before .before .before .before .before .before .before .before .before .before .before .before .before .before .before .before .before .before .before .before .before .before .before .before .before .before .before .before .before .before .before .before .before .before .before .p .given .1) _ _ _ _ (c .before .before .before .before .before .before .before .before .before .before .before .before .before .before .before .before .before .before .before .copy-held .ensures)) (c .before .before .reply-of .result) (c .before .before .reply-of .ensures) (c .put-back .result) (c .put-back .ensures)
+    let l = c .before .before .before .before .before .before .before .before .before .before .before .before .before .before .before .before .before .before .before .before .before .before .before .before .before .before .before .before .before .before .before .before .before .before in
+    let a = l .before .before .before .before .before .before .before .before .before .before .before .before .before .before .before .before .before .before .before .before .before .before .before .before .before .before .before .args in
+    let i = sym (l .before .before .before .before .before .before .before .before .before .before .before .before .before .before .before .before .before .decode .ensures) ∙ l .before .before .before .before .before .before .before .before .before .before .before .before .before .before .before .p .given .1 in
+    let d = l .before .before .before .before .before .before .before .before .before .before .before .before .entries-in-domain in
+    let b = c .before .before .before .before .before .before .before .before .before .before .before .before .before .before .before .before .before .before .before .copy-held in
+    served _ _ (a .n) _ _ _ _ _ (copy-reads (a .n) (a .message .now) _ i)
+    (d .result) (d .ensures) (not-false _ (l .before .before .before .before .before .before .before .before .before .before .before .if1 .left)) _ (l .before .before .before .before .before .before .before .before .before .key-of .ensures) (l .lent-shard .result) (l .lent-shard .ensures)
+    _ (c .before .before .before .before .before .before .before .before .before .before .before .before .before .before .before .before .before .before .before .before .before .before .before .before .before .before .before .before .before .before .before .before .found .given .1)
+    _ (b .result) (copy-backs (a .n) (a .message .now) _ i _ _ _ _ (b .ensures))
+    (c .before .before .reply-of .result) (c .before .before .reply-of .ensures) (c .put-back .result) (c .put-back .ensures)
 
 pub copy-spec : {M : Type 1} → statement M
 copy-spec =
