@@ -4,10 +4,9 @@ use crate::Held;
 use crate::input::floats_of;
 use crate::input::long;
 use crate::input::two;
-use crate::shown::ends;
 use crate::shown::entries;
 use crate::shown::listed;
-use crate::shown::place_of;
+use crate::shown::pairs;
 use crate::shown::vector;
 use crate::shown::vectors;
 use lines::parts::first_floats;
@@ -17,6 +16,12 @@ use lines::words::line;
 use lines::words::number;
 use lines::words::refused;
 use lines::words::word;
+use lookups::ends::Told;
+use lookups::ends::epoch_ends;
+use lookups::vectors::Count;
+use lookups::vectors::Emptiness;
+use lookups::vectors::is_empty;
+use lookups::vectors::len;
 use nearest::answer::Found;
 use replica::searches::search;
 use rpc::Message;
@@ -84,7 +89,11 @@ fn entries_from(
     true
 }
 
+// No vector is empty, so that an empty part says that the id has none.
 fn vector_by_id(
+    epochs: &[u64],
+    offsets: &[u64],
+    ids: &[u64],
     codes: &[u8],
     lengths: &[u8],
     floats: &[f32],
@@ -96,11 +105,57 @@ fn vector_by_id(
     if s.len() != 8 {
         return refused(21);
     }
-    let i = place_of(keys, h.stored, long(s));
-    if h.stored <= i {
+    let id = long(s);
+    let v = lookups::vectors::vector(
+        epochs,
+        offsets,
+        ids,
+        codes,
+        lengths,
+        floats,
+        keys,
+        places,
+        h.count,
+        h.stored,
+        id,
+    );
+    if v.len() == 0 {
         return word(b"none\n");
     }
-    vector(codes, lengths, floats, keys, places, h.count, i)
+    vector(id, v)
+}
+
+fn ends(
+    epochs: &[u64],
+    offsets: &[u64],
+    ids: &[u64],
+    codes: &[u8],
+    lengths: &[u8],
+    floats: &[f32],
+    keys: &[u64],
+    places: &[u64],
+    h: Held,
+) -> bool {
+    let mut froms = [0u64; 1024];
+    let mut last = [0u64; 1024];
+    let told = epoch_ends(
+        epochs,
+        offsets,
+        ids,
+        codes,
+        lengths,
+        floats,
+        keys,
+        places,
+        h.count,
+        h.stored,
+        &mut froms,
+        &mut last,
+    );
+    match told {
+        Told::Pairs(n) => pairs(&froms, &last, n),
+        Told::Refused(x) => refused(x),
+    }
 }
 
 fn nearest_to(
@@ -178,18 +233,37 @@ fn searched(
     )
 }
 
-// Epoch, metric, last offset, how many vectors, and whether there are none.
+// How many vectors there are.
+fn size(c: Count) {
+    match c {
+        Count::Vectors(n) => number(n as u64),
+        Count::Refused(x) => {
+            refused(x);
+        }
+    }
+}
+
+// Whether there are none.
+fn emptiness(e: Emptiness) {
+    match e {
+        Emptiness::Empty => {
+            word(b" 1\n");
+        }
+        Emptiness::Filled => {
+            word(b" 0\n");
+        }
+        Emptiness::Refused(x) => {
+            refused(x);
+        }
+    }
+}
+
+// Epoch, metric, last offset.
 fn state_line(h: Held) {
     word(b"replica");
     number(h.epoch);
     number(h.metric as u64);
     number(h.count as u64);
-    number(h.stored as u64);
-    if h.stored == 0 {
-        word(b" 1\n");
-    } else {
-        word(b" 0\n");
-    }
 }
 
 fn state(
@@ -204,6 +278,30 @@ fn state(
     h: Held,
 ) -> bool {
     state_line(h);
+    size(len(
+        epochs,
+        offsets,
+        ids,
+        codes,
+        lengths,
+        floats,
+        keys,
+        places,
+        h.count,
+        h.stored,
+    ));
+    emptiness(is_empty(
+        epochs,
+        offsets,
+        ids,
+        codes,
+        lengths,
+        floats,
+        keys,
+        places,
+        h.count,
+        h.stored,
+    ));
     let count = h.count;
     entries(
         epochs,
@@ -237,7 +335,18 @@ pub fn look(
         return entries_from(epochs, offsets, ids, codes, lengths, floats, h.count, s);
     }
     if call == 8 {
-        return vector_by_id(codes, lengths, floats, keys, places, h, s);
+        return vector_by_id(
+            epochs,
+            offsets,
+            ids,
+            codes,
+            lengths,
+            floats,
+            keys,
+            places,
+            h,
+            s,
+        );
     }
     if call == 10 {
         return searched(
@@ -257,10 +366,20 @@ pub fn look(
         return refused(21);
     }
     if call == 6 {
-        return ends(epochs, offsets, h.count);
+        return ends(
+            epochs,
+            offsets,
+            ids,
+            codes,
+            lengths,
+            floats,
+            keys,
+            places,
+            h,
+        );
     }
     if call == 9 {
-        return listed(keys, h.stored);
+        return listed(replica::reads::ids(keys, h.stored));
     }
     state(
         epochs,

@@ -1,8 +1,8 @@
 // Replays the oracle's stored histories of a log (paper 01, 'The log', 'Nearest objects'; shard.rs, ShardReplica): calls on one
 // replica on standard input, each a number u8, a length u16 and as many bytes of operands, and what each answers on standard output.
 // An unknown call or a record that is cut short ends the program. stdin is oracle/stored/history/chosen.in, full.in, random-1.in,
-// random-2.in and random-3.in one after the other, stdout their .out: the answers of the Rust. Append, store, copy, adopt and search
-// are crate replica's exported calls; the others are shown from the columns.
+// random-2.in and random-3.in one after the other, stdout their .out: the answers of the Rust. Append, store, copy, adopt, promote, search and ids
+// are crate replica's exported calls, epoch ends, vector, len and is_empty crate lookups'; entries are shown from the columns.
 use input::two;
 use lines::parts::first;
 use lines::words::word;

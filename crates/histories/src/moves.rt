@@ -34,25 +34,18 @@ pub fn make(h: Held, s: &[u8]) -> Held {
     }
 }
 
-// The later of two epochs.
-fn later(a: u64, b: u64) -> u64 {
-    if a < b {
-        return b;
-    }
-    a
-}
-
 pub fn promote(h: Held, s: &[u8]) -> Held {
     if s.len() != 8 {
         refused(21);
         return h;
     }
     word(b"ok\n");
+    let epoch = replica::reads::promote(Epoch(h.epoch), Epoch(long(s)));
     Held {
         more: true,
         made: h.made,
         metric: h.metric,
-        epoch: later(h.epoch, long(s)),
+        epoch: epoch.0,
         count: h.count,
         stored: h.stored,
     }

@@ -7,63 +7,21 @@ use lines::words::word;
 use model::Offset;
 use shard::components;
 
-// Whether the entry at i is the last of its epoch's row.
-fn is_end(epochs: &[u64], count: usize, i: usize) -> bool {
-    if count <= i {
-        return false;
-    }
-    if count - i == 1 {
-        return true;
-    }
-    if epochs.len() <= i {
-        return false;
-    }
-    if epochs.len() - i == 1 {
-        return true;
-    }
-    epochs[i] != epochs[i + 1]
-}
-
-fn ends_count(epochs: &[u64], count: usize) -> usize {
-    let mut n: usize = 0;
+// Each epoch with the offset of its last entry, of so many pairs.
+pub fn pairs(epochs: &[u64], ends: &[u64], n: usize) -> bool {
+    line(b"ends", n as u64);
     let mut i: usize = 0;
-    while i < count {
-        if i < n {
-            return n;
+    while i < n {
+        if epochs.len() <= i {
+            return false;
         }
-        if is_end(epochs, count, i) {
-            n += 1;
-            i += 1;
-        } else {
-            i += 1;
+        if ends.len() <= i {
+            return false;
         }
-    }
-    n
-}
-
-fn end_line(epochs: &[u64], offsets: &[u64], i: usize) {
-    if epochs.len() <= i {
-        return;
-    }
-    if offsets.len() <= i {
-        return;
-    }
-    io::print_decimal(1, epochs[i]);
-    number(offsets[i]);
-    word(b"\n");
-}
-
-// Each epoch with the offset of its last entry.
-pub fn ends(epochs: &[u64], offsets: &[u64], count: usize) -> bool {
-    line(b"ends", ends_count(epochs, count) as u64);
-    let mut i: usize = 0;
-    while i < count {
-        if is_end(epochs, count, i) {
-            end_line(epochs, offsets, i);
-            i += 1;
-        } else {
-            i += 1;
-        }
+        io::print_decimal(1, epochs[i]);
+        number(ends[i]);
+        word(b"\n");
+        i += 1;
     }
     true
 }
@@ -127,23 +85,16 @@ pub fn entries(
     }
 }
 
-// The place of an id, or how many there are.
-pub fn place_of(keys: &[u64], stored: usize, id: u64) -> usize {
-    let mut i: usize = 0;
-    while i < stored {
-        if keys.len() <= i {
-            return stored;
-        }
-        if keys[i] == id {
-            return i;
-        }
-        i += 1;
-    }
-    stored
+// An id with its vector.
+pub fn vector(id: u64, components: &[f32]) -> bool {
+    word(b"vector");
+    number(id);
+    row(components);
+    word(b"\n")
 }
 
-// An id with its vector, which is that of the entry that its place names.
-pub fn vector(
+// A row of the table: its vector is that of the entry which its place names.
+fn table_row(
     codes: &[u8],
     lengths: &[u8],
     floats: &[f32],
@@ -158,10 +109,10 @@ pub fn vector(
     if places.len() <= i {
         return false;
     }
-    word(b"vector");
-    number(keys[i]);
-    row(components(codes, lengths, floats, count, Offset(places[i])));
-    word(b"\n")
+    vector(
+        keys[i],
+        components(codes, lengths, floats, count, Offset(places[i])),
+    )
 }
 
 pub fn vectors(
@@ -175,20 +126,18 @@ pub fn vectors(
 ) {
     let mut i: usize = 0;
     while i < stored {
-        vector(codes, lengths, floats, keys, places, count, i);
+        table_row(codes, lengths, floats, keys, places, count, i);
         i += 1;
     }
 }
 
-pub fn listed(keys: &[u64], stored: usize) -> bool {
+// Ids that have a vector.
+pub fn listed(ids: &[u64]) -> bool {
     word(b"ids");
-    number(stored as u64);
+    number(ids.len() as u64);
     let mut i: usize = 0;
-    while i < stored {
-        if keys.len() <= i {
-            return false;
-        }
-        number(keys[i]);
+    while i < ids.len() {
+        number(ids[i]);
         i += 1;
     }
     word(b"\n")

@@ -1,14 +1,16 @@
--- Each turn is on one row more.
+-- Each turn is on one id more.
 use borrow.Author.Needs.{needs}
-use Prim.Native.Nat.{_-_}
+use native.Mathlib.Omega.{arith}
+use Prim.Native.Nat.{_-_, _≤_}
+use lib.ListN.{length}
 use Rattle.histories.proofs.shown.listed.Statement.{statement}
 use Rattle.histories.proofs.shown.listed.Tie as tie
 
 abbrev Inv-loop : tie.InvT-loop
-Inv-loop keys stored i₀ t5 i = Unit {0}
+Inv-loop ids i₀ t5 i = i ≤ length ids
 
 abbrev μ-loop : tie.MeasureT-loop
-μ-loop keys stored i₀ t5 i = stored - i
+μ-loop ids i₀ t5 i = length ids - i
 
 slice-aggregate-word : tie.Need-slice-aggregate-word Inv-loop μ-loop
 slice-aggregate-word c = search needs
@@ -20,10 +22,7 @@ number-requires : tie.Need-number-requires Inv-loop μ-loop
 number-requires c κs = search needs
 
 loop-holds : tie.Need-loop-holds Inv-loop μ-loop
-loop-holds c = tt
-
-returns : tie.Need-returns Inv-loop μ-loop
-returns c = search needs
+loop-holds c = omega arith
 
 mul-number : tie.Need-mul-number Inv-loop μ-loop
 mul-number c = search needs
@@ -41,7 +40,7 @@ loop-less : tie.Need-loop-less Inv-loop μ-loop
 loop-less c = search needs
 
 loop-again : tie.Need-loop-again Inv-loop μ-loop
-loop-again c = tt
+loop-again c = search needs
 
 slice-aggregate-word-2 : tie.Need-slice-aggregate-word-2 Inv-loop μ-loop
 slice-aggregate-word-2 c = search needs
@@ -49,8 +48,8 @@ slice-aggregate-word-2 c = search needs
 word-requires-2 : tie.Need-word-requires-2 Inv-loop μ-loop
 word-requires-2 c κs = search needs
 
-returns-2 : tie.Need-returns-2 Inv-loop μ-loop
-returns-2 c = search needs
+returns : tie.Need-returns Inv-loop μ-loop
+returns c = search needs
 
 pub listed-spec : {M : Type 1} → statement M
 listed-spec =
@@ -62,7 +61,6 @@ listed-spec =
     word-requires
     number-requires
     loop-holds
-    returns
     mul-number
     shared-slice-read-number
     number-requires-2
@@ -71,4 +69,4 @@ listed-spec =
     loop-again
     slice-aggregate-word-2
     word-requires-2
-    returns-2)
+    returns)

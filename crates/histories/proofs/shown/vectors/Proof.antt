@@ -13,8 +13,8 @@ abbrev μ-loop : tie.MeasureT-loop
 loop-holds : tie.Need-loop-holds Inv-loop μ-loop
 loop-holds c = tt
 
-vector-requires : tie.Need-vector-requires Inv-loop μ-loop
-vector-requires c κs = search needs
+table-row-requires : tie.Need-table-row-requires Inv-loop μ-loop
+table-row-requires c κs = search needs
 
 add-i : tie.Need-add-i Inv-loop μ-loop
 add-i c = search needs
@@ -31,4 +31,4 @@ returns c = search needs
 pub vectors-spec : {M : Type 1} → statement M
 vectors-spec =
     tie.close
-    (tie.spec Inv-loop μ-loop loop-holds vector-requires add-i loop-less loop-again returns)
+    (tie.spec Inv-loop μ-loop loop-holds table-row-requires add-i loop-less loop-again returns)
