@@ -1,27 +1,36 @@
--- A run that begins by the calls: nodes 1 and 2 hold one shard, with maps, headers and stores as arrays of the code's own lengths. So the
--- theorem is of engines that there are. Assumes nothing.
+-- A run of the calls that the checker follows: node 1 alone holds a shard; it was shown the map, is granted a lease, takes a Write and
+-- acknowledges it. Maps, headers and stores are arrays of the code's own lengths. So the theorem is of engines and runs that there are.
+-- Assumes nothing.
 use Prim.Native.Nat.{ℕ, zero, suc, _-_, _<_}
 use native.Mathlib.Omega.{arith}
-use mathlib.Core.Path.{_≡_, refl}
+use mathlib.Core.Path.{_≡_, refl, sym, ap, subst, _∙_}
 use mathlib.Core.Bool.{true, false}
 use mathlib.Core.List.{List, [], _∷_, _++_}
-use mathlib.Core.Option.{some}
-use lib.ListN.{length}
+use mathlib.Core.Option.{Option, some}
+use lib.ListN.{length, set}
 use lib.Ieee.{nan}
 use borrow.Author.Tests.{ne-eqb}
+use Rattle.model.specs.Keys.{Key}
 use Rattle.model.specs.Lists.{nth, any}
 use Rattle.model.specs.Log.{Log}
-use Rattle.model.specs.Map.Tables.{NodeInfo}
+use Rattle.model.specs.Map.Tables.{NodeInfo, ShardInfo}
 use Rattle.model.specs.Map.Change.{holds}
+use Rattle.model.specs.Layout.Parts.{wireDelete}
+use Rattle.model.specs.Layout.Message as message
+use Rattle.model.specs.Node.Held as held
+use Rattle.model.specs.Node.Calls as calls
 use Rattle.model.specs.declared.DataNodeId.{DataNodeId}
 use Rattle.model.specs.declared.Replica.{Replica}
-use Rattle.model.specs.declared.Peer.{Peer}
-use Rattle.model.specs.declared.Role.the-variants.{Backup, Primary}
+use Rattle.model.specs.declared.Role.the-variants.{Primary}
 use Rattle.model.specs.declared.Metric.the-variants.{Euclidean}
-use Rattle.model.proofs.Lists.{none-some, not-both}
+use Rattle.model.proofs.Lists.{none-some, some-same, not-both, and-true}
+use Rattle.run.specs.State.{Write}
+use Rattle.run.specs.Event.{Event, leaseGranted, clientWrites, nodeWaits}
 use Rattle.run.specs.Fresh.{Created, Fresh}
+use Rattle.run.specs.Claim.{inSyncAt, Durable, Stands}
+use Rattle.run.specs.Claim as claim
 use Rattle.run.proofs.Cases.Opened.{opened}
-use Rattle.run.proofs.Cases.Start.{info}
+use Rattle.run.proofs.Cases.Start as run
 use Rattle.state.specs.declared.Name.{Name}
 use Rattle.state.specs.declared.ShardKey.{ShardKey}
 use Rattle.state.specs.declared.NodeRow.{NodeRow}
@@ -35,20 +44,36 @@ use Rattle.state.specs.View.{viewMap}
 use Rattle.mapcheck.specs.Lent.{tableCounted, counted, wellFormedLent}
 use Rattle.node.specs.View.{noPeer}
 use Rattle.node.specs.declared.Held.{Held}
-use Rattle.serve.specs.declared.Expiry.the-variants.{Never}
+use Rattle.node.specs.declared.WaitAnswer.the-variants as W
+use Rattle.serve.specs.declared.Expiry.{Expiry}
+use Rattle.serve.specs.declared.Expiry.the-variants.{Never, At}
+use Rattle.shard.specs.View.{firsts, opOf, entryOf, logOf}
+use Rattle.shard.specs.Table.{zipped, rowsOf, vectorsOf, playRows, playRowsFrom}
+use Rattle.shard.specs.Store.{wellFormedStore, everyBelow, sameRows}
+use Rattle.replica.specs.Fits.{sized, lentFits}
 use Rattle.header.specs.declared.Kept.{Kept}
 use Rattle.header.specs.declared.Node.{Node}
-use Rattle.header.specs.View.{noKept}
-use Rattle.header.specs.Formed.{slotsFit, lentNode}
+use Rattle.header.specs.declared.NodeGranted.{NodeGranted}
+use Rattle.header.specs.declared.NodeWaited.{NodeWaited}
+use Rattle.header.specs.declared.GrantAnswer.the-variants as G
+use Rattle.header.specs.View.{Stores, viewNode, noKept}
+use Rattle.header.specs.Formed.{slotsFit, countsFit, lentNode}
+use Rattle.header.specs.Answers.{GrantsNode, WaitsNode, told}
 use Rattle.shown.specs.declared.Start.{Start}
 use Rattle.shown.specs.declared.NodeShown.{NodeShown}
 use Rattle.shown.specs.declared.ShownAnswer.the-variants as S
 use Rattle.shown.specs.Shows.{viewStarts}
 use Rattle.hears.specs.Hears.{HearsMap}
-use Rattle.lend.specs.Lend.{Lot, lot}
-use Rattle.durable.specs.Engine.{Engine, seen}
+use Rattle.lend.specs.Lend.{Lot, lot, keptStore, placeOf, lentAt, lentFor, slotOf}
+use Rattle.clientwrites.specs.declared.WriteAnswer.{WriteAnswer}
+use Rattle.clientwrites.specs.declared.WriteReply.the-variants as C
+use Rattle.clientwrites.specs.ClientWrites.{writeWord, WriteSlot, SameWrite, WritesAt}
+use Rattle.model.specs.Node.Refused as refused
+use Rattle.durable.specs.Engine.{Engine, seen, withNode, withStore, host}
+use Rattle.durable.specs.Calls.{writeSaid, waitSaid, Waits, Called, Calls}
 use Rattle.durable.specs.Start.{New, ShownFirst, Begun}
 use Rattle.durable.proofs.Start.{begun-fresh}
+use Rattle.durable.proofs.Durable.{durable}
 
 -- an array: the rows in use, and the rest filled up
 unfoldable fill : {A : Type 0} → ℕ → A → List A
@@ -69,137 +94,200 @@ key = record { collection = name; shard = 0 }
 abbrev node : ℕ → DataNodeId
 node n = record { 0 = n }
 
-abbrev replica : ℕ → Replica
-replica n = record { node = node n; incarnation = 4 }
+abbrev copies : List Replica
+copies = record { node = node 1; incarnation = 4 } ∷ []
 
-abbrev registered : ℕ → NodeRow
-registered n = record { node = node n; address = record { bytes = fill 64 0; len = 0 }; incarnation = 4; alive = true }
+abbrev registered : NodeRow
+registered = record { node = node 1; address = record { bytes = fill 64 0; len = 0 }; incarnation = 4; alive = true }
 
 abbrev collection : CollectionRow
-collection = record { name = name; spec = record { dimension = 1; metric = Euclidean; shards = 1; replication = 2 } }
+collection = record { name = name; spec = record { dimension = 1; metric = Euclidean; shards = 1; replication = 1 } }
 
 abbrev shard : ShardRow
 shard = record {
   key = key;
-  replicas = record { items = array 8 (replica 0) (replica 1 ∷ replica 2 ∷ []); count = 2 };
+  replicas = record { items = array 8 (record { node = node 0; incarnation = 0 }) copies; count = 1 };
   primary = primary.At (node 1);
-  insync = record { items = array 8 (node 0) (node 1 ∷ node 2 ∷ []); count = 2 };
+  insync = record { items = array 8 (node 0) (node 1 ∷ []); count = 1 };
   epoch = record { 0 = 1 };
 }
 
 abbrev session : SessionRow
-session = record { client = 9; seq = 3; outcome = outcome.Applied; key = key }
+session = record { client = 9; seq = 2; outcome = outcome.Applied; key = key }
 
-abbrev first-map : ShardMap
-first-map = record {
-  version = 3;
-  nodes = record { items = array 32 (registered 0) (registered 1 ∷ registered 2 ∷ []); count = 2 };
+abbrev map : ShardMap
+map = record {
+  version = 2;
+  nodes = record { items = array 32 registered (registered ∷ []); count = 1 };
   collections = record { items = array 16 collection (collection ∷ []); count = 1 };
   shards = record { items = array 64 shard (shard ∷ []); count = 1 };
   sessions = record { items = array 64 session (session ∷ []); count = 1 };
 }
 
--- it passes the test
-tested : wellFormedLent first-map ≡ true
+tested : wellFormedLent map ≡ true
 unfolding opened fill wellFormedLent counted tableCounted
 tested = refl
 
-alive : ℕ → NodeInfo
-alive n = record { node = n; address = []; incarnation = 4; alive = true }
+-- its one shard, as it is read
+abbrev info : ShardInfo
+info = record { key = run.key; replicas = copies; primary = some 1; insync = node 1 ∷ []; epoch = 1 }
 
-is-created : Created (viewMap first-map) info
-unfolding opened fill alive
+abbrev alive : NodeInfo
+alive = record { node = 1; address = []; incarnation = 4; alive = true }
+
+is-created : Created (viewMap map) info
+unfolding opened fill
 is-created = record {
   wellFormed = refl;
   only = refl;
   key = ((omega arith, refl), omega arith);
   metric = (Euclidean, refl);
-  distinct = (refl, (refl, tt));
-  live = ((alive 1, refl, refl, refl), omega arith, ((alive 2, refl, refl, refl), omega arith, tt));
+  distinct = (refl, tt);
+  live = ((alive, refl, refl, refl), omega arith, tt);
   first = (_, refl, refl);
   everyone = λ n. refl;
   epoch = refl;
 }
 
--- ---- the headers, new and as `show` gave them back
+-- ---- the header: new, as `show` gave it back, with a lease, and with an entry in the log
 
 abbrev new : ℕ → Node
 new n = record { id = node n; incarnation = 4; expiry = Never; version = 0; held = array 8 noKept []; count = 0 }
 
-abbrev row : ℕ → Peer
-row n = record { node = node n; acked = record { 0 = 0 }; aligned = false; behind = false; since = 0; proposing = false; member = true }
-
-abbrev copies : List Replica
-copies = array 8 (replica 0) (replica 1 ∷ replica 2 ∷ [])
-
--- node 1 leads, with a worker for node 2
-abbrev leads : Held
-leads = record {
+abbrev solo : (last : ℕ) → Held
+solo last = record {
   epoch = record { 0 = 1 };
   metric = Euclidean;
-  last = 0;
+  last = last;
   role = Primary (record { 0 = 1 }) (record { 0 = 0 });
   own = true;
-  replicas = copies;
-  holders = 2;
-  peers = array 32 noPeer (row 2 ∷ []);
-  count = 1;
-}
-
--- node 2 waits for its primary
-abbrev follows : Held
-follows = record {
-  epoch = record { 0 = 0 };
-  metric = Euclidean;
-  last = 0;
-  role = Backup;
-  own = false;
-  replicas = copies;
-  holders = 2;
+  replicas = array 8 (record { node = node 0; incarnation = 0 }) copies;
+  holders = 1;
   peers = array 32 noPeer [];
   count = 0;
 }
 
-abbrev holding : ℕ → Held → Node
-holding n h =
-    let x : Kept = record { key = key; slot = 0; stored = 0; held = h } in
-    record { id = node n; incarnation = 4; expiry = Never; version = 3; held = array 8 noKept (x ∷ []); count = 1 }
-
-abbrev starting : ℕ → ℕ → Start
-starting n count = record { key = key; epoch = record { 0 = 1 }; metric = Euclidean; peers = record { items = array 32 (node n) []; count = count } }
-
-abbrev answers : (count : ℕ) → Node → NodeShown
-answers count x = record { answer = S.Shown; starts = array 8 (starting 2 1) []; count = count; node = x }
+abbrev leads : Expiry → (last : ℕ) → Node
+leads e last =
+    let x : Kept = record { key = key; slot = 0; stored = 0; held = solo last } in
+    record { id = node 1; incarnation = 4; expiry = e; version = 2; held = array 8 noKept (x ∷ []); count = 1 }
 
 nil : (l : Log) → length l ≡ 0 → l ≡ []
 nil [] e = refl
 nil (x ∷ xs) e = absurd (omega arith)
 
-first-leads : HearsMap (new 1) first-map 0 (answers 1 (holding 1 leads))
-unfolding opened fill wellFormedLent counted tableCounted lentNode slotsFit viewStarts
-first-leads = record { same = λ s. rw (nil (s .log 0 0) (s .long 0 0), s .bare 0) refl; slots = λ e. refl }
+abbrev starting : Start
+starting = record { key = key; epoch = record { 0 = 1 }; metric = Euclidean; peers = record { items = array 32 (node 0) []; count = 0 } }
 
-second-follows : HearsMap (new 2) first-map 0 (answers 0 (holding 2 follows))
+abbrev shown : NodeShown
+shown = record { answer = S.Shown; starts = array 8 starting []; count = 0; node = leads Never 0 }
+
+shows : HearsMap (new 1) map 0 shown
 unfolding opened fill wellFormedLent counted tableCounted lentNode slotsFit viewStarts
-second-follows = record { same = λ s. rw (nil (s .log 0 0) (s .long 0 0), s .bare 0) refl; slots = λ e. refl }
+shows = record { same = λ s. rw (nil (s .log 0 0) (s .long 0 0), s .bare 0) refl; slots = λ e. refl }
+
+abbrev granted : NodeGranted
+granted = record { answer = G.Granted; node = leads (At 100) 0 }
+
+grants : GrantsNode (leads Never 0) 4 0 100 granted
+unfolding opened fill lentNode slotsFit countsFit
+grants = λ s. rw (s .long 0 0) refl
+
+abbrev waited : NodeWaited
+waited = record { answer = W.Done; shrink = record { items = array 32 (node 0) []; count = 0 }; node = leads (At 100) 1 }
+
+waits : WaitsNode (leads (At 100) 1) run.key 1 1 6 10 waited
+unfolding opened fill lentNode slotsFit countsFit
+waits = λ s. rw (s .long 0 1) refl
+
+-- ---- the Write
+
+abbrev bytes : List ℕ
+bytes = message.encodeWrite (record { key = run.key; epoch = 1; op = wireDelete 41 })
+
+abbrev before : Lot
+before = let z : List ℕ = fill 1024 0 in lot z z z z z (fill 32768 nan) z z
+
+abbrev after : Lot
+after = let z : List ℕ = fill 1024 0 in lot (set z 0 1) (set z 0 1) (set z 0 41) (set z 0 2) z (fill 32768 nan) z z
+
+slot-zero : (slot : ℕ) → WriteSlot (leads (At 100) 0) bytes slot → slot ≡ 0
+unfolding opened fill slotOf
+slot-zero slot w = w (record { key = run.key; epoch = 1; op = wireDelete 41 }) refl
+
+-- the node as it is read, with a log
+abbrev read : Log → held.Node
+read l = record {
+  id = 1;
+  incarnation = 4;
+  expiry = some 100;
+  version = 2;
+  held =
+      record {
+        key = run.key;
+        replica = record { epoch = 1; metric = Euclidean; log = l; vectors = [] };
+        holders = copies;
+        role = Primary (record { 0 = 1 }) (record { 0 = 0 });
+        own = true;
+        peers = [];
+      } ∷ [];
+}
+
+read-before : (s : Stores) → viewNode s (leads (At 100) 0) ≡ read []
+unfolding fill
+read-before s = rw (nil (s .log 0 0) (s .long 0 0), s .bare 0) refl
+
+header-lent : (s : Stores) → lentNode s (leads (At 100) 0) ≡ true
+unfolding opened fill lentNode slotsFit countsFit
+header-lent s = rw (s .long 0 0) refl
+
+store-lent : lentAt (leads (At 100) 0) before (placeOf (leads (At 100) 0) run.key) ≡ true
+unfolding opened fill lentAt keptStore lentFits sized wellFormedStore everyBelow sameRows logOf firsts rowsOf zipped playRows playRowsFrom
+store-lent = refl
+
+lent : (s : Stores) → lentFor s (leads (At 100) 0) before run.key ≡ true
+unfolding lentFor
+lent s =
+    let n = leads (At 100) 0 in and-true (lentNode s n) (lentAt n before (placeOf n run.key)) (header-lent s) store-lent
+
+abbrev accepted : C.the-data
+accepted = C.Accepted (record { 0 = 1 })
+
+taken : (s : Stores)
+    → record { answer = accepted; node = read (run.entry 1 1 41 ∷ []) } ≡ told writeWord (calls.writeWith (lentFor s (leads (At 100) 0) before) (read []) 5 1 bytes)
+unfolding opened
+taken s = rw (lent s) refl
+
+same : SameWrite (leads (At 100) 0) before after 5 1 bytes accepted (leads (At 100) 1)
+unfolding fill logOf firsts entryOf opOf rowsOf vectorsOf zipped
+same = λ s t slot w c.
+    let z = slot-zero slot w in
+    let l : t .log 0 1 ≡ run.entry 1 1 41 ∷ [] = subst (λ (i : ℕ). t .log i 1 ≡ run.entry 1 1 41 ∷ []) z (c .after .log 1) in
+    let v : t .vectors 0 1 0 ≡ [] = subst (λ (i : ℕ). t .vectors i 1 0 ≡ []) z (c .after .vectors 1 0) in
+    let to : viewNode t (leads (At 100) 1) ≡ read (run.entry 1 1 41 ∷ []) = rw (l, v) refl in
+    ap (λ (x : held.Node). record { answer = accepted; node = x }) to
+    ∙ taken s
+    ∙ ap (λ (x : held.Node). told writeWord (calls.writeWith (lentFor s (leads (At 100) 0) before) x 5 1 bytes)) (sym (read-before s))
+
+abbrev wrote : WriteAnswer
+wrote = record { answer = accepted; node = leads (At 100) 1; refused = 0 }
+
+writes : WritesAt (leads (At 100) 0) before after 5 1 bytes 0 wrote
+unfolding refused.counted
+writes = record { same = same; kept = λ e. not-both false e refl; count = refl }
 
 -- ---- the engine
 
 nodes : ℕ → Node
 nodes zero = new 0
-nodes (suc zero) = holding 1 leads
-nodes (suc (suc zero)) = holding 2 follows
-nodes (suc (suc (suc n))) = new (suc (suc (suc n)))
-
--- a store of the lengths that the test asks for
-abbrev store : Lot
-store = let z : List ℕ = fill 1024 0 in lot z z z z z (fill 32768 nan) z z
+nodes (suc zero) = leads Never 0
+nodes (suc (suc n)) = new (suc (suc n))
 
 pub first : Engine
 first = record {
-  map = first-map;
+  map = map;
   nodes = nodes;
-  lots = λ n slot. store;
+  lots = λ n slot. before;
   clients = λ n. 100;
   requests = λ a b. [];
   replies = [];
@@ -212,30 +300,26 @@ first = record {
 is-new : (n : ℕ) → New (new n) n 4
 is-new n = record { id = refl; incarnation = refl; expiry = refl; version = refl; count = refl }
 
-far : (k : ℕ) → 2 < k → holds k (info .replicas) ≡ false
+far : (k : ℕ) → 1 < k → holds k copies ≡ false
 unfolding holds any
-far k h = rw (ne-eqb 1 k (λ q. absurd (omega arith)), ne-eqb 2 k (λ q. absurd (omega arith)))
+far k h = rw (ne-eqb 1 k (λ q. absurd (omega arith)))
 
-holders : (n : ℕ) → holds n (info .replicas) ≡ true → ShownFirst first n 4
+holders : (n : ℕ) → holds n copies ≡ true → ShownFirst first n 4
 unfolding first nodes holds any
 holders zero h = not-both false h refl
-holders (suc zero) h = record { new = new 1; made = is-new 1; fresh = 0; answer = answers 1 (holding 1 leads); promised = first-leads; node = refl }
-holders (suc (suc zero)) h = record { new = new 2; made = is-new 2; fresh = 0; answer = answers 0 (holding 2 follows); promised = second-follows; node = refl }
-holders (suc (suc (suc n))) h =
-    let k = suc (suc (suc n)) in not-both (holds k (info .replicas)) h (far k (omega arith))
+holders (suc zero) h = record { new = new 1; made = is-new 1; fresh = 0; answer = shown; promised = shows; node = refl }
+holders (suc (suc n)) h = let k = suc (suc n) in not-both (holds k copies) h (far k (omega arith))
 
-others : (n : ℕ) → holds n (info .replicas) ≡ false → New (first .nodes n) n 4
+others : (n : ℕ) → holds n copies ≡ false → New (first .nodes n) n 4
 unfolding first nodes holds any
 others zero h = is-new 0
 others (suc zero) h = not-both true refl h
-others (suc (suc zero)) h = not-both true refl h
-others (suc (suc (suc n))) h = is-new (suc (suc (suc n)))
+others (suc (suc n)) h = is-new (suc (suc n))
 
-listed : (r : Replica) (place : ℕ) → nth (info .replicas) place ≡ some r → 4 ≡ r .incarnation
+listed : (r : Replica) (place : ℕ) → nth copies place ≡ some r → 4 ≡ r .incarnation
 unfolding nth
 listed r zero e = cc
-listed r (suc zero) e = cc
-listed r (suc (suc place)) e = none-some e
+listed r (suc place) e = none-some e
 
 first-begun : Begun first
 unfolding first
@@ -258,3 +342,56 @@ first-begun = record {
 
 pub first-fresh : Fresh (seen first)
 first-fresh = begun-fresh first first-begun
+
+-- ---- the run: a lease grant, a Write, and the wait that acknowledges it
+
+abbrev events : List Event
+events = leaseGranted 1 4 0 100 ∷ clientWrites 1 5 1 bytes ∷ nodeWaits 0 6 10 ∷ []
+
+leased : Engine
+leased = withNode first 1 (leads (At 100) 0)
+
+written : Engine
+written = host (withStore leased 1 (leads (At 100) 1) 0 after) (λ s. writeSaid s 1 (message.decodeWrite bytes) accepted)
+
+pub last : Engine
+last = host (withNode written 1 (leads (At 100) 1)) (λ s. waitSaid s (run.wrote 1 1 1 41) W.Done [])
+
+on-grant : Called first (leaseGranted 1 4 0 100) leased
+unfolding Called first nodes leased
+on-grant = (granted, grants, refl)
+
+its-slot : WriteSlot (leads (At 100) 0) bytes 0
+unfolding opened fill slotOf
+its-slot v e = ap (λ (k : Key). slotOf (leads (At 100) 0) k) (ap (λ (m : message.Write). m .key) (some-same e))
+
+on-write : Called leased (clientWrites 1 5 1 bytes) written
+unfolding Called opened withNode first leased written
+on-write = (0, after, 0, wrote, its-slot, writes, refl)
+
+remembered : nth (written .accepted) 0 ≡ some (run.wrote 1 1 1 41)
+unfolding opened withNode withStore host seen first leased written
+remembered = refl
+
+on-wait : Called written (nodeWaits 0 6 10) last
+unfolding Called opened withNode withStore host first leased written last
+on-wait = subst (λ (o : Option Write). Waits written 6 10 o last) (sym remembered) (waited, waits, refl)
+
+calls-made : Calls first events last
+unfolding Calls opened fill
+calls-made = (leased, refl, on-grant, (written, refl, on-write, (last, refl, on-wait, refl)))
+
+-- the theorem, put to it: the write stands in the log of node 1, which the map lists in sync
+kept : Durable (seen last)
+kept = durable first last events first-fresh calls-made
+
+acknowledged : seen last .acknowledged ≡ run.wrote 1 1 1 41 ∷ []
+unfolding opened withNode withStore host seen first leased written last
+acknowledged = refl
+
+in-sync : inSyncAt (seen last .map) run.key 1 ≡ true
+unfolding opened fill withNode withStore host seen first leased written last
+in-sync = refl
+
+pub stands : Stands (run.wrote 1 1 1 41) (claim.logOf (seen last .nodes 1) run.key)
+stands = kept .stands (run.wrote 1 1 1 41) 0 (rw acknowledged (unfold nth in refl)) 1 in-sync
