@@ -25,7 +25,16 @@ at-same : {A : Type 0} (f : ℕ → A) (n m : ℕ) → at f n (f n) m ≡ f m
 unfolding at
 at-same f n m = by-case (eqb m n) (λ e. rw e (ap f (sym (eqb-true m n e)))) (λ e. rw e)
 
+at-own : {A : Type 0} (f : ℕ → A) (n : ℕ) (x : A) → at f n x n ≡ x
+unfolding at
+at-own f n x = rw (eq-eqb n n refl)
+
 -- ---- what a call gives back
+
+-- the lent columns are back in their slot
+pub put-back : (e : Engine) (n : ℕ) (x : Node) (slot : ℕ) (b : Lot) → withStore e n x slot b .lots n slot ≡ b
+unfolding withStore
+put-back e n x slot b = ap (λ (l : ℕ → Lot). l slot) (at-own (e .lots) n (at (e .lots n) slot b)) ∙ at-own (e .lots n) slot b
 
 pub seen-map : (e : Engine) (m : ShardMap) → seen (withMap e m) ≡ setMap (seen e) (viewMap m)
 unfolding seen withMap setMap
