@@ -2,6 +2,7 @@ use borrow.Author.Needs.{needs}
 use borrow.Author.Tests.{not-true, not-false}
 use types.Run.{miss}
 use Rattle.arrivals.proofs.OfMessages.{replicate-there}
+use Rattle.lend.specs.Lend.{lot}
 use Rattle.peers.proofs.OfNamed.{replicate-key-there, replicate-missed}
 use Rattle.peers.proofs.OfPeers.{replicate-undecoded, replicate-reads, replicate-backs, outside, unfit, gone, found-at, found-few, served}
 use native.Mathlib.Omega.{arith}
@@ -122,7 +123,9 @@ returns-4 c =
     let a = l .before .before .before .before .before .before .before .before .before .before .before .before .before .before .before .before .before .before .before .before .before .before .before .before .before .before .args in
     let i = sym (l .before .before .before .before .before .before .before .before .before .before .before .before .before .before .before .before .decode .ensures) ∙ l .before .before .before .before .before .before .before .before .before .before .before .before .before .before .p .given .1 in
     let d = l .before .before .before .before .before .before .before .before .before .before .before .before .op-in-domain in
-    gone _ _ (a .n) _ _ _ _ _ (replicate-reads (a .n) (a .message .now) _ i)
+    let z =
+    lot (a .epochs .now) (a .offsets .now) (a .ids .now) (a .codes .now) (a .lengths .now) (a .floats .now) (a .keys .now) (a .places .now) in
+    gone _ _ (a .n) z _ _ _ _ (replicate-reads (a .n) (a .message .now) _ i)
     (d .result) (d .ensures) (not-false _ (l .before .before .before .before .before .before .before .before .before .before .before .if1 .left)) _ (l .before .before .before .before .before .before .before .before .before .key-of .ensures) (l .lent-shard .result) (l .lent-shard .ensures)
     (c .enum-told2 .given .1) (λ v. refl)
 
