@@ -1,0 +1,4 @@
+pub mod Words
+pub mod Sizes
+pub mod Reading
+pub mod Writing

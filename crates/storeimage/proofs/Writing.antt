@@ -1,0 +1,101 @@
+-- Laws of entries that are written: their components lie in the domain, and within their stretch. Assumes nothing.
+use Prim.Native.Nat.{ℕ, zero, suc, _+_, _-_, _*_, _≤_, _<_}
+use mathlib.Core.Path.{_≡_, refl, sym, ap, _∙_}
+use mathlib.Core.Bool.{Bool, true, false, cond}
+use mathlib.Core.List.{List, [], _∷_, map}
+use native.Mathlib.Omega.{arith}
+use native.Mathlib.Numerals.{add-one}
+use borrow.Author.Tests.{eqb-true, eqb-false}
+use lib.Dec.{eqb}
+use lib.ListN.{length, getD, take, drop, length-take, drop-of-length-le}
+use lib.Seq.{sets, drop-cons}
+use Rattle.model.specs.Lists.{every}
+use Rattle.model.specs.Log.{Entry, upsert, delete, components}
+use Rattle.model.specs.Layout.Format.{bytesOf, concatMap}
+use Rattle.model.specs.Node.WellFormed.{component}
+use Rattle.shard.specs.View.{Columns, stretch, opOf, entryOf, logOf}
+use Rattle.shard.specs.Table.{rowsOf, zipped}
+use Rattle.shard.proofs.Columns.{look-at, op-deleted, op-set, log-length}
+use Rattle.shard.proofs.Firsts.{firsts-at}
+use Rattle.outgoing.specs.Sent.{Sendable}
+use Rattle.outgoing.proofs.OfEntry.{op-domain}
+use Rattle.storeimage.specs.Write.{codeOf, idOf, numbersPut, vectorPut, entryPut, entriesPut, rowsPut}
+
+module _ (c : Columns) (n : ℕ) (s : Sendable c n) (i : ℕ) (h : i < n) where
+  pub parts-domain : every component (components (opOf c i)) ≡ true
+  parts-domain = ap (every component) (sym (look-at c n (i + 1) i refl h)) ∙ op-domain c n s i h
+
+  pub parts-short : length (components (opOf c i)) ≤ 32
+  unfolding stretch
+  parts-short = go (eqb (getD (c .codes) i 0) 1) refl
+    where
+      go : (b : Bool) → eqb (getD (c .codes) i 0) 1 ≡ b → length (components (opOf c i)) ≤ 32
+      go true e =
+          let q = eqb-true (getD (c .codes) i 0) 1 e in
+          let k : getD (c .lengths) i 0 ≤ 32 = s .room .short i h q in
+          rw (op-set c i q) (omega (arith, length-take (getD (c .lengths) i 0) (drop (i * 32) (c .floats))))
+      go false e = rw (op-deleted c i (eqb-false (getD (c .codes) i 0) 1 e)) (omega arith)
+
+-- ---- an entry by the columns that it comes from
+
+module _ (c : Columns) (i : ℕ) where
+  pub code-is : codeOf (opOf c i) ≡ cond (eqb (getD (c .codes) i 0) 1) 1 2
+  unfolding opOf
+  code-is = go (eqb (getD (c .codes) i 0) 1)
+    where
+      go : (b : Bool) → codeOf (cond b (upsert (getD (c .ids) i 0) (stretch c i)) (delete (getD (c .ids) i 0))) ≡ cond b 1 2
+      go true = refl
+      go false = refl
+
+  pub id-is : idOf (opOf c i) ≡ getD (c .ids) i 0
+  unfolding opOf
+  id-is = go (eqb (getD (c .codes) i 0) 1)
+    where
+      go : (b : Bool) → idOf (cond b (upsert (getD (c .ids) i 0) (stretch c i)) (delete (getD (c .ids) i 0))) ≡ getD (c .ids) i 0
+      go true = refl
+      go false = refl
+
+  pub entry-put : (s : List ℕ) (base : ℕ)
+      → numbersPut (vectorPut s base i (opOf c i)) base i (getD (c .epochs) i 0) (getD (c .offsets) i 0) (getD (c .ids) i 0)
+      (cond (eqb (getD (c .codes) i 0) 1) 1 2) (length (components (opOf c i)))
+      ≡ entryPut s base i (entryOf c i)
+  unfolding entryPut entryOf
+  entry-put s base = rw (← code-is, ← id-is)
+
+-- one entry more, and all
+pub entries-on : (s : List ℕ) (base : ℕ) (c : Columns) (n i : ℕ) → i < n
+    → entriesPut (entryPut s base i (entryOf c i)) base (i + 1) (drop (i + 1) (logOf c n)) ≡ entriesPut s base i (drop i (logOf c n))
+unfolding entriesPut logOf
+entries-on s base c n i h =
+    let l = logOf c n in
+    let d : drop i l ≡ entryOf c i ∷ drop (i + 1) l =
+    drop-cons l i (entryOf c i) (omega (arith, log-length c n))
+    ∙ ap (λ (x : Entry). x ∷ drop (suc i) l) (firsts-at (entryOf c) n i (entryOf c i) h)
+    ∙ ap (λ (k : ℕ). entryOf c i ∷ drop k l) (sym (add-one i)) in
+    sym (ap (entriesPut s base i) d)
+
+pub entries-end : (s : List ℕ) (base : ℕ) (c : Columns) (n i : ℕ) → n ≤ i → s ≡ entriesPut s base i (drop i (logOf c n))
+unfolding entriesPut
+entries-end s base c n i h = sym (ap (entriesPut s base i) (drop-of-length-le (logOf c n) {i = i} (omega (arith, log-length c n))))
+
+-- ---- rows by the columns that they come from
+
+pub row-ids : (n : ℕ) (ks ps : List ℕ) → n ≤ length ks → n ≤ length ps → map (λ r. r .id) (rowsOf ks ps n) ≡ take n ks
+unfolding rowsOf zipped
+row-ids zero ks ps h k = refl
+row-ids (suc n) [] ps h k = absurd (omega arith)
+row-ids (suc n) (x ∷ ks) [] h k = absurd (omega arith)
+row-ids (suc n) (x ∷ ks) (y ∷ ps) h k = ap (λ (l : List ℕ). x ∷ l) (row-ids n ks ps (omega arith) (omega arith))
+
+pub row-offsets : (n : ℕ) (ks ps : List ℕ) → n ≤ length ks → n ≤ length ps → map (λ r. r .offset) (rowsOf ks ps n) ≡ take n ps
+unfolding rowsOf zipped
+row-offsets zero ks ps h k = refl
+row-offsets (suc n) [] ps h k = absurd (omega arith)
+row-offsets (suc n) (x ∷ ks) [] h k = absurd (omega arith)
+row-offsets (suc n) (x ∷ ks) (y ∷ ps) h k = ap (λ (l : List ℕ). y ∷ l) (row-offsets n ks ps (omega arith) (omega arith))
+
+pub rows-put : (s : List ℕ) (base n : ℕ) (ks ps : List ℕ) → n ≤ length ks → n ≤ length ps
+    → sets (sets s (base + 157696) (concatMap (bytesOf 8) (take n ks))) (base + 165888) (concatMap (bytesOf 8) (take n ps))
+    ≡ rowsPut s base (rowsOf ks ps n)
+unfolding rowsPut
+rows-put s base n ks ps h k = rw (row-ids n ks ps h k, row-offsets n ks ps h k)
