@@ -1,8 +1,8 @@
 -- Laws of entries that are written: their components lie in the domain, and within their stretch. Assumes nothing.
-use Prim.Native.Nat.{ℕ, zero, suc, _+_, _-_, _*_, _≤_, _<_}
-use mathlib.Core.Path.{_≡_, refl, sym, ap, _∙_}
+use Prim.Native.Nat.{ℕ, zero, suc, _+_, _-_, _*_, _≤_, _<_, _^_}
+use mathlib.Core.Path.{_≡_, refl, sym, ap, _∙_, subst}
 use mathlib.Core.Bool.{Bool, true, false, cond}
-use mathlib.Core.List.{List, [], _∷_, map}
+use mathlib.Core.List.{List, [], _∷_, _++_, map}
 use native.Mathlib.Omega.{arith}
 use native.Mathlib.Numerals.{add-one}
 use borrow.Author.Tests.{eqb-true, eqb-false}
@@ -11,15 +11,15 @@ use lib.ListN.{length, getD, take, drop, length-take, drop-of-length-le}
 use lib.Seq.{sets, drop-cons}
 use Rattle.model.specs.Lists.{every}
 use Rattle.model.specs.Log.{Entry, upsert, delete, components}
-use Rattle.model.specs.Layout.Format.{bytesOf, concatMap}
+use Rattle.model.specs.Layout.Format.{bytesOf, concatMap, All}
 use Rattle.model.specs.Node.WellFormed.{component}
-use Rattle.shard.specs.View.{Columns, stretch, opOf, entryOf, logOf}
+use Rattle.shard.specs.View.{Columns, firsts, stretch, opOf, entryOf, logOf}
 use Rattle.shard.specs.Table.{rowsOf, zipped}
 use Rattle.shard.proofs.Columns.{look-at, op-deleted, op-set, log-length}
 use Rattle.shard.proofs.Firsts.{firsts-at}
 use Rattle.outgoing.specs.Sent.{Sendable}
 use Rattle.outgoing.proofs.OfEntry.{op-domain}
-use Rattle.storeimage.specs.Write.{codeOf, idOf, numbersPut, vectorPut, entryPut, entriesPut, rowsPut}
+use Rattle.storeimage.specs.Write.{Fits, RowFits, codeOf, idOf, numbersPut, vectorPut, entryPut, entriesPut, rowsPut}
 
 module _ (c : Columns) (n : ℕ) (s : Sendable c n) (i : ℕ) (h : i < n) where
   pub parts-domain : every component (components (opOf c i)) ≡ true
@@ -99,3 +99,26 @@ pub rows-put : (s : List ℕ) (base n : ℕ) (ks ps : List ℕ) → n ≤ length
     ≡ rowsPut s base (rowsOf ks ps n)
 unfolding rowsPut
 rows-put s base n ks ps h k = rw (row-ids n ks ps h k, row-offsets n ks ps h k)
+
+-- ---- numbers of a u64 fit
+
+all-snoc : {A : Type 0} (P : A → Type 0) (l : List A) (x : A) → All P l → P x → All P (l ++ (x ∷ []))
+all-snoc P [] x f p = (p, tt)
+all-snoc P (y ∷ l) x f p = (f .0, all-snoc P l x (f .1) p)
+
+abbrev pub U64s : List ℕ → Type 0
+U64s l = (i : ℕ) → getD l i 0 < 256 ^ 8
+
+pub log-fits : (c : Columns) (n : ℕ) → Sendable c n → U64s (c .epochs) → U64s (c .offsets) → U64s (c .ids) → (m : ℕ) → m ≤ n → All Fits (logOf c m)
+unfolding logOf firsts entryOf
+log-fits c n s e o d zero h = tt
+log-fits c n s e o d (suc m) h =
+    all-snoc Fits (logOf c m) (entryOf c m) (log-fits c n s e o d m (omega arith))
+    (record { epoch = e m; offset = o m; id = subst (λ (x : ℕ). x < 256 ^ 8) (sym (id-is c m)) (d m); formed = s .formed m (omega arith) })
+
+pub rows-fit : (n : ℕ) (ks ps : List ℕ) → U64s ks → U64s ps → All RowFits (rowsOf ks ps n)
+unfolding rowsOf zipped
+rows-fit zero ks ps k p = tt
+rows-fit (suc n) [] ps k p = tt
+rows-fit (suc n) (x ∷ ks) [] k p = tt
+rows-fit (suc n) (x ∷ ks) (y ∷ ps) k p = (record { id = k 0; offset = p 0 }, rows-fit n ks ps (λ i. k (suc i)) (λ i. p (suc i)))

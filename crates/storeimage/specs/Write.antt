@@ -1,12 +1,15 @@
 -- What writing back makes of an image: entries of a log from a place on, and the rows of a table. Every byte that is not named stays as it
 -- was, the patterns past a vector's components too. Definitions only.
-use Prim.Native.Nat.{ℕ, _+_, _*_}
+use Prim.Native.Nat.{ℕ, _+_, _*_, _^_, _<_}
+use mathlib.Core.Path.{_≡_}
+use mathlib.Core.Bool.{true}
 use mathlib.Core.List.{List, [], _∷_, map}
 use lib.ListN.{length, drop, set}
 use lib.Seq.{sets}
 use Rattle.model.specs.Log.{Op, upsert, delete, Entry, Log, components}
-use Rattle.model.specs.Layout.Format.{bytesOf, concatMap}
+use Rattle.model.specs.Layout.Format.{bytesOf, concatMap, All}
 use Rattle.model.specs.Node.Wire.{bitsOf}
+use Rattle.model.specs.Node.WellFormed.{wellFormedEntry}
 use Rattle.shard.specs.Table.{Row}
 use Rattle.storeimage.specs.Image.{offsetsAt, idsAt, codesAt, lengthsAt, floatsAt, keysAt, placesAt}
 
@@ -54,3 +57,26 @@ logPut s base from l = entriesPut s base from (drop from l)
 unfoldable pub rowsPut : List ℕ → (base : ℕ) → List Row → List ℕ
 rowsPut s base rs =
     sets (sets s (base + keysAt) (concatMap (bytesOf 8) (map (λ r. r .id) rs))) (base + placesAt) (concatMap (bytesOf 8) (map (λ r. r .offset) rs))
+
+-- ---- what a write promises
+
+-- the numbers of an entry fit their columns, as those of a u64 do, and its vector its stretch: what is written of it can be read
+pub record Fits (e : Entry) : Type 0 where
+  pub epoch : e .epoch < 256 ^ 8
+  pub offset : e .offset < 256 ^ 8
+  pub id : idOf (e .op) < 256 ^ 8
+  pub formed : wellFormedEntry e ≡ true
+
+pub record RowFits (r : Row) : Type 0 where
+  pub id : r .id < 256 ^ 8
+  pub offset : r .offset < 256 ^ 8
+
+-- the image t is s with the entries of l from place `from` on
+pub record EntriesWritten (s t : List ℕ) (base from : ℕ) (l : Log) : Type 0 where
+  pub image : t ≡ logPut s base from l
+  pub fits : All Fits l
+
+-- the image t is s with the rows
+pub record RowsWritten (s t : List ℕ) (base : ℕ) (rs : List Row) : Type 0 where
+  pub image : t ≡ rowsPut s base rs
+  pub fits : All RowFits rs

@@ -13,7 +13,7 @@ ghost use Rattle.model.specs.Node.WellFormed.{component};
 ghost use Rattle.shard.specs.View.{columns, entryOf, logOf};
 ghost use Rattle.shard.specs.Table.{rowsOf};
 ghost use Rattle.outgoing.specs.Sent.{Sendable};
-ghost use Rattle.storeimage.specs.Write.{numbersPut, entryPut, logPut, rowsPut};
+ghost use Rattle.storeimage.specs.Write.{numbersPut, entryPut, EntriesWritten, RowsWritten};
 use model::Offset;
 use rpcw::put::put_byte;
 use rpcw::put::put_words8;
@@ -101,7 +101,7 @@ pub fn write_entries(
 )
     requires { ⌜ (Sendable (columns (now epochs) (now offsets) (now ids) (now codes) (now lengths) (now floats)) to) × (from ≤ to)
         × (base + 174080 ≤ length (now image)) ⌝ }
-    ensures { λ _. ⌜ now (image .exit) ≡ logPut (now (image .entry)) base from
+    ensures { λ _. ⌜ EntriesWritten (now (image .entry)) (now (image .exit)) base from
         (logOf (columns (now (epochs .entry)) (now (offsets .entry)) (now (ids .entry)) (now (codes .entry)) (now (lengths .entry)) (now (floats .entry))) to) ⌝ }
 {
     let mut i = from;
@@ -125,7 +125,7 @@ pub fn write_entries(
 // The rows of the vector table. Every other byte stays as it was.
 pub fn write_table(image: &mut [u8], base: usize, keys: &[u64], places: &[u64], stored: usize)
     requires { ⌜ (stored ≤ 1024) × (stored ≤ length (now keys)) × (stored ≤ length (now places)) × (base + 174080 ≤ length (now image)) ⌝ }
-    ensures { λ _. ⌜ now (image .exit) ≡ rowsPut (now (image .entry)) base (rowsOf (now (keys .entry)) (now (places .entry)) stored) ⌝ }
+    ensures { λ _. ⌜ RowsWritten (now (image .entry)) (now (image .exit)) base (rowsOf (now (keys .entry)) (now (places .entry)) stored) ⌝ }
 {
     put_words8(image, base + 157696, &keys[0..stored]);
     put_words8(image, base + 165888, &places[0..stored]);

@@ -1,5 +1,6 @@
 -- `storeimage::write::put_numbers` meets its contract. Assumes nothing.
 use borrow.Author.Needs.{needs}
+use mathlib.Core.Path.{refl}
 use Prim.Native.Nat.{_-_}
 use Rattle.storeimage.specs.Write.{numbersPut}
 use Rattle.storeimage.proofs.write.put_numbers.Statement.{statement}
@@ -61,7 +62,7 @@ same-length c = search needs
 
 returns : tie.Need-returns
 unfolding numbersPut
-returns c = rw (c .before .before .put-byte2 .ensures, c .before .before .before .before .before .before .put-byte .ensures, c .before .before .before .before .before .before .before .before .before .before .put83 .ensures, c .before .before .before .before .before .before .before .before .before .before .before .before .before .before .put82 .ensures, c .before .before .before .before .before .before .before .before .before .before .before .before .before .before .before .before .before .before .put8 .ensures)
+returns c = rw (c .before .before .put-byte2 .ensures, c .before .before .before .before .before .before .put-byte .ensures, c .before .before .before .before .before .before .before .before .before .before .put83 .ensures, c .before .before .before .before .before .before .before .before .before .before .before .before .before .before .put82 .ensures, c .before .before .before .before .before .before .before .before .before .before .before .before .before .before .before .before .before .before .put8 .ensures) refl
 
 pub put-numbers-spec : {M : Type 1} → statement M
 put-numbers-spec =

@@ -7,7 +7,7 @@ use Prim.Native.Nat.{ℕ, _+_, _-_, _≤_}
 use lib.ListN.{length, drop}
 use Rattle.shard.specs.View.{columns, logOf}
 use Rattle.storeimage.specs.Write.{entriesPut}
-use Rattle.storeimage.proofs.Writing.{entries-on, entries-end}
+use Rattle.storeimage.proofs.Writing.{entries-on, entries-end, log-fits}
 use Rattle.storeimage.proofs.write.write_entries.Statement.{statement}
 use Rattle.storeimage.proofs.write.write_entries.Tie as tie
 
@@ -52,7 +52,14 @@ returns : tie.Need-returns Inv-loop μ-loop
 returns c =
     let a = c .before .before .before .before .before .before .before .before .before .args in
     let l = c .before .loop in
-    entries-end (l .image) (a .base) (columns (a .epochs .now) (a .offsets .now) (a .ids .now) (a .codes .now) (a .lengths .now) (a .floats .now)) (a .to) (l .i) (omega arith) ∙ l .inv .3
+    let t = columns (a .epochs .now) (a .offsets .now) (a .ids .now) (a .codes .now) (a .lengths .now) (a .floats .now) in
+    record {
+      image = entries-end (l .image) (a .base) t (a .to) (l .i) (omega arith) ∙ l .inv .3;
+      fits =
+          log-fits t (a .to) (c .before .before .before .before .before .before .before .before .before .pre .0)
+          (λ i. omega (arith, c .before .before .before .before .before .before .before .shared-slice-known .given i)) (λ i. omega (arith, c .before .before .before .before .before .before .shared-slice-known2 .given i)) (λ i. omega (arith, c .before .before .before .before .before .shared-slice-known3 .given i))
+          (a .to) (omega arith);
+    }
 
 pub write-entries-spec : {M : Type 1} → statement M
 write-entries-spec =

@@ -2,7 +2,7 @@
 use borrow.Author.Needs.{needs}
 use native.Mathlib.Omega.{arith}
 use Prim.Native.Nat.{_-_}
-use Rattle.storeimage.proofs.Writing.{rows-put}
+use Rattle.storeimage.proofs.Writing.{rows-put, rows-fit}
 use native.Mathlib.Nat.{sub-zero}
 use Rattle.storeimage.proofs.write.write_table.Statement.{statement}
 use Rattle.storeimage.proofs.write.write_table.Tie as tie
@@ -43,7 +43,10 @@ same-length c = search needs
 returns : tie.Need-returns
 returns c =
     let a = c .before .before .before .before .before .before .before .before .before .before .before .before .before .args in
-    rw (c .before .before .put-words82 .ensures, c .before .before .before .before .before .before .before .put-words8 .ensures, sub-zero) (rows-put (a .image .now) (a .base) (a .stored) (a .keys .now) (a .places .now) (omega arith) (omega arith))
+    record {
+      image = (rw (c .before .before .put-words82 .ensures, c .before .before .before .before .before .before .before .put-words8 .ensures, sub-zero) (rows-put (a .image .now) (a .base) (a .stored) (a .keys .now) (a .places .now) (omega arith) (omega arith)));
+      fits = rows-fit (a .stored) (a .keys .now) (a .places .now) (λ i. omega (arith, c .before .before .before .before .before .before .before .before .before .before .before .shared-slice-known .given i)) (λ i. omega (arith, c .before .before .before .before .before .before .before .before .before .before .shared-slice-known2 .given i));
+    }
 
 pub write-table-spec : {M : Type 1} → statement M
 write-table-spec =
