@@ -6,3 +6,4 @@ pub mod Stored
 pub mod OfRead
 pub mod OfWrite
 pub mod OfImage
+pub mod OfTest

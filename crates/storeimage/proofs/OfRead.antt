@@ -54,7 +54,7 @@ module _ (s : List ℕ) (base : ℕ) where
       part-kept l _ (n * 32) (i * 32) (usedAt s base i) (omega arith) (omega arith) ∙ stretch-read n i fs lt (omega arith))
       (eq-or-lt-of-le {n = i} {m = n} (omega arith))
 
-  byte-at : (at i : ℕ) → i < 1024 → getD (take 1024 (drop at s)) i 0 ≡ getD s (at + i) 0
+  pub byte-at : (at i : ℕ) → i < 1024 → getD (take 1024 (drop at s)) i 0 ≡ getD s (at + i) 0
   byte-at at i h = getD-take 1024 (drop at s) i 0 h ∙ getD-drop at s i 0
 
   number-at : (at i : ℕ) → i < 1024 → getD (words 8 1024 s at) i 0 ≡ numberAt 8 s (at + i * 8)
@@ -88,7 +88,7 @@ module _ (s : List ℕ) (base : ℕ) where
         let m : i < 1024 = omega arith in
         rw (number-at base i m, number-at (base + 8192) i m, op-read i h)
 
-    read-log-is : logOf (columnsAt s base count fs) count ≡ logAt s base count
+    pub read-log-is : logOf (columnsAt s base count fs) count ≡ logAt s base count
     unfolding logOf logAt
     read-log-is = firsts-same (entryOf (columnsAt s base count fs)) (entryAt s base) count entry-read
 

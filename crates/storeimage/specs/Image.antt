@@ -1,12 +1,18 @@
 -- The byte image of one log store (paper 01, 'The log'): eight columns at fixed places, numbers least significant byte first. What the
 -- bytes from a base on are read as: a log, the rows of a vector table. A node has eight such images side by side. Definitions only.
 use Prim.Native.Nat.{ℕ, zero, suc, _+_, _*_}
+use mathlib.Core.Bool.{Bool, cond}
 use mathlib.Core.List.{List, [], _∷_}
+use lib.Dec.{eqb, leb}
 use lib.ListN.{getD}
+use Rattle.model.specs.Lists.{_and_, every}
+use Rattle.model.specs.Limits.{maxComponents, maxEntries}
 use Rattle.model.specs.Log.{Op, Entry, Log}
 use Rattle.model.specs.Layout.Format.{numberAt}
+use Rattle.model.specs.Node.WellFormed.{numberedFrom, wellFormedEntry}
 use Rattle.shard.specs.View.{firsts, opFrom}
-use Rattle.shard.specs.Table.{Row, rowsOf}
+use Rattle.shard.specs.Table.{Row, rowsOf, playRows}
+use Rattle.shard.specs.Store.{everyBelow, sameRows}
 
 -- ---- where the columns begin; epochs begin at 0
 
@@ -69,3 +75,20 @@ placesIn s base = words 8 1024 s (base + placesAt)
 
 abbrev pub rowsAt : List ℕ → (base n : ℕ) → List Row
 rowsAt s base n = rowsOf (keysIn s base) (placesIn s base) n
+
+-- ---- 'Who is turned down', 24, of the image of a store
+
+-- 'an unlisted code', 'outside the used floats': an Upsert of at most 32 floats, or a Delete
+abbrev pub codeFitsAt : List ℕ → (base i : ℕ) → Bool
+codeFitsAt s base i =
+    cond (eqb (getD s (base + codesAt + i) 0) 1) (leb (getD s (base + lengthsAt + i) 0) maxComponents) (eqb (getD s (base + codesAt + i) 0) 2)
+
+-- each clause of the paper that speaks of a store, of the log and the rows that the bytes are
+unfoldable pub wellFormedImage : List ℕ → (base count stored : ℕ) → Bool
+wellFormedImage s base count stored =
+    leb count maxEntries
+    and (leb stored maxEntries
+    and (numberedFrom 1 (logAt s base count)
+    and (everyBelow (codeFitsAt s base) count
+    and (every wellFormedEntry (logAt s base count)
+    and sameRows (rowsAt s base stored) (playRows (logAt s base count))))))
