@@ -7,7 +7,7 @@ use native.Mathlib.Omega.{arith}
 use native.Mathlib.Numerals.{add-one}
 use borrow.Author.Tests.{eqb-true, eqb-false}
 use lib.Dec.{eqb}
-use lib.ListN.{length, getD, take, drop, length-take, drop-of-length-le}
+use lib.ListN.{length, set, getD, take, drop, length-take, drop-of-length-le}
 use lib.Seq.{sets, drop-cons}
 use Rattle.model.specs.Lists.{every}
 use Rattle.model.specs.Log.{Entry, upsert, delete, components}
@@ -35,6 +35,18 @@ module _ (c : Columns) (n : ℕ) (s : Sendable c n) (i : ℕ) (h : i < n) where
           let k : getD (c .lengths) i 0 ≤ 32 = s .room .short i h q in
           rw (op-set c i q) (omega (arith, length-take (getD (c .lengths) i 0) (drop (i * 32) (c .floats))))
       go false e = rw (op-deleted c i (eqb-false (getD (c .codes) i 0) 1 e)) (omega arith)
+
+pub numbers-put : (s : List ℕ) (base i e o d k m : ℕ)
+    → set
+    (set
+    (sets
+    (sets (sets s (base + i * 8) (bytesOf 8 e)) (base + 8192 + i * 8) (bytesOf 8 o))
+    (base + 16384 + i * 8) (bytesOf 8 d))
+    (base + 24576 + i) k)
+    (base + 25600 + i) m
+    ≡ numbersPut s base i e o d k m
+unfolding numbersPut
+numbers-put s base i e o d k m = refl
 
 -- ---- an entry by the columns that it comes from
 

@@ -1,8 +1,7 @@
 -- `storeimage::write::put_numbers` meets its contract. Assumes nothing.
 use borrow.Author.Needs.{needs}
-use mathlib.Core.Path.{refl}
 use Prim.Native.Nat.{_-_}
-use Rattle.storeimage.specs.Write.{numbersPut}
+use Rattle.storeimage.proofs.Writing.{numbers-put}
 use Rattle.storeimage.proofs.write.put_numbers.Statement.{statement}
 use Rattle.storeimage.proofs.write.put_numbers.Tie as tie
 
@@ -61,8 +60,9 @@ same-length : tie.Need-same-length
 same-length c = search needs
 
 returns : tie.Need-returns
-unfolding numbersPut
-returns c = rw (c .before .before .put-byte2 .ensures, c .before .before .before .before .before .before .put-byte .ensures, c .before .before .before .before .before .before .before .before .before .before .put83 .ensures, c .before .before .before .before .before .before .before .before .before .before .before .before .before .before .put82 .ensures, c .before .before .before .before .before .before .before .before .before .before .before .before .before .before .before .before .before .before .put8 .ensures) refl
+returns c =
+    let a = c .before .before .before .before .before .before .before .before .before .before .before .before .before .before .before .before .before .before .before .before .before .args in
+    rw (c .before .before .put-byte2 .ensures, c .before .before .before .before .before .before .put-byte .ensures, c .before .before .before .before .before .before .before .before .before .before .put83 .ensures, c .before .before .before .before .before .before .before .before .before .before .before .before .before .before .put82 .ensures, c .before .before .before .before .before .before .before .before .before .before .before .before .before .before .before .before .before .before .put8 .ensures) (numbers-put (a .image .now) (a .base) (a .i) (a .epoch) (a .offset) (a .id) (a .code) (a .len))
 
 pub put-numbers-spec : {M : Type 1} → statement M
 put-numbers-spec =
