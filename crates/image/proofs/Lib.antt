@@ -1,0 +1,3 @@
+pub mod Images
+pub mod OfCodes
+pub mod Back

@@ -1,0 +1,26 @@
+-- `keys::name_at` meets its contract. Assumes nothing.
+use borrow.Author.Needs.{needs}
+use native.Mathlib.Omega.{arith}
+use mathlib.Core.Path.{_≡_, refl, sym, _∙_, ap}
+use mathlib.Core.List.{List, [], _∷_, _++_, map}
+use Prim.Native.Nat.{ℕ, _+_, _-_, _*_, _≤_, _<_}
+use lib.ListN.{length, getD, take, drop, set, length-set}
+use Rattle.image.specs.Parts.{nameAt}
+use Rattle.image.proofs.keys.name_at.Statement.{statement}
+use Rattle.image.proofs.keys.name_at.Tie as tie
+
+add-bytes32 : tie.Need-add-bytes32
+add-bytes32 c = search needs
+
+bytes32-requires : tie.Need-bytes32-requires
+bytes32-requires c κs = search needs
+
+get8-requires : tie.Need-get8-requires
+get8-requires c κs = search needs
+
+returns : tie.Need-returns
+unfolding nameAt
+returns c = rw (c .before .bytes32 .ensures, c .get8 .ensures)
+
+pub name-at-spec : {M : Type 1} → statement M
+name-at-spec = tie.close (tie.spec add-bytes32 bytes32-requires get8-requires returns)

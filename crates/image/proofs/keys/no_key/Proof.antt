@@ -1,0 +1,20 @@
+-- `keys::no_key` meets its contract. Assumes nothing.
+use borrow.Author.Needs.{needs}
+use native.Mathlib.Omega.{arith}
+use mathlib.Core.Path.{_≡_, refl, sym, _∙_, ap}
+use mathlib.Core.List.{List, [], _∷_, _++_, map}
+use Prim.Native.Nat.{ℕ, _+_, _-_, _*_, _≤_, _<_}
+use lib.ListN.{length, getD, take, drop, set, length-set}
+use Rattle.image.specs.Parts.{noKey}
+use Rattle.image.proofs.keys.no_key.Statement.{statement}
+use Rattle.image.proofs.keys.no_key.Tie as tie
+
+no-name-requires : tie.Need-no-name-requires
+no-name-requires c κs = search needs
+
+returns : tie.Need-returns
+unfolding noKey
+returns c = rw (c .no-name .ensures)
+
+pub no-key-spec : {M : Type 1} → statement M
+no-key-spec = tie.close (tie.spec no-name-requires returns)

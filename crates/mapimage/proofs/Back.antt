@@ -1,0 +1,222 @@
+-- A map that was written is read back, whatever the image held before: every code is listed, and the map that the bytes are read as is the
+-- one written. Assumes nothing.
+use Prim.Native.Nat.{ℕ, _+_, _*_, _^_, _≤_, _<_}
+use mathlib.Core.Path.{_≡_, refl, sym, ap, _∙_}
+use mathlib.Core.Bool.{Bool, true}
+use mathlib.Core.List.{List, [], _∷_, _++_, map}
+use lib.ListN.{length, take, drop}
+use lib.Seq.{sets, length-sets}
+use native.Mathlib.Omega.{arith}
+use Rattle.model.specs.Lists.{_and_}
+use Rattle.model.specs.Layout.Format.{numberAt, concatMap}
+use Rattle.model.specs.Layout.Parts.{metricOf, metricCode}
+use Rattle.model.specs.Map.Tables as tables
+use Rattle.model.proofs.LayoutLaws.Data.{metric-of, metric-below}
+use Rattle.model.proofs.LayoutLaws.Tests.{and-intro}
+use Rattle.model.specs.declared.DataNodeId.{DataNodeId}
+use Rattle.model.specs.declared.Replica.{Replica}
+use Rattle.state.specs.View.{viewNode, viewCollection, viewShard, viewSession, viewMap}
+use Rattle.state.specs.declared.NodeRow.{NodeRow}
+use Rattle.state.specs.declared.CollectionRow.{CollectionRow}
+use Rattle.state.specs.declared.ShardRow.{ShardRow}
+use Rattle.state.specs.declared.SessionRow.{SessionRow}
+use Rattle.state.specs.declared.ShardMap.{ShardMap}
+use Rattle.image.specs.Shape.{Shape, Value, _▸_, u64, Good, value}
+use Rattle.image.specs.Codes.{idOf}
+use Rattle.image.specs.Parts.{replicaOf, replicaValue, idValue}
+use Rattle.image.proofs.Back.{length-encode, value-encode, Holds, holds-stored, holds-kept, TableFits, length-table, table-back, table-codes}
+use Rattle.image.proofs.OfCodes.{flag-back, flag-small, primary-back, primary-small, outcome-back, outcome-small}
+use Rattle.mapimage.specs.Rows.{nodeF, nodeOf, nodeValue, nodeAt, nodeBytes, collectionF, collectionOf, collectionValue, collectionAt, collectionBytes, shardF, shardOf, shardValue, shardAt, shardBytes, sessionF, sessionOf, sessionValue, sessionAt, sessionBytes}
+use Rattle.mapimage.specs.Image.{noNode, noCollection, noShard, noSession, codesListed, mapAt, headBytes, nodesBytes, collectionsBytes, shardsBytes, sessionsBytes, mapPut}
+
+-- ---- rows: the numbers and arrays of a row are those of its types
+
+abbrev pub NodeFits : NodeRow → Type 0
+NodeFits r = Good nodeF (nodeValue r)
+
+abbrev pub CollectionFits : CollectionRow → Type 0
+CollectionFits r = Good collectionF (collectionValue r)
+
+abbrev pub ShardFits : ShardRow → Type 0
+ShardFits r = Good shardF (shardValue r)
+
+abbrev pub SessionFits : SessionRow → Type 0
+SessionFits r = Good sessionF (sessionValue r)
+
+module _ (s : List ℕ) where
+  node-value : (r : NodeRow) (at : ℕ) (t : List ℕ) → NodeFits r → drop at s ≡ nodeBytes r ++ t → value nodeF s at ≡ nodeValue r
+  unfolding nodeBytes
+  node-value r at t g e = value-encode nodeF (nodeValue r) s at t g e
+
+  node-back : (r : NodeRow) (at : ℕ) (t : List ℕ) → NodeFits r → drop at s ≡ nodeBytes r ++ t → nodeAt s at ≡ r
+  unfolding nodeAt
+  node-back r at t g e = ap nodeOf (node-value r at t g e) ∙ (rw (flag-back (r .alive)))
+
+  node-code : (r : NodeRow) (at : ℕ) (t : List ℕ) → NodeFits r → drop at s ≡ nodeBytes r ++ t → numberAt 4 s (at + 16) < 2
+  node-code r at t g e =
+      let c : numberAt 4 s (at + 16) ≡ nodeValue r .0 .0 .1 = ap (λ (v : Value nodeF). v .0 .0 .1) (node-value r at t g e) in
+      omega (arith, flag-small (r .alive))
+
+  collection-value : (r : CollectionRow) (at : ℕ) (t : List ℕ) → CollectionFits r → drop at s ≡ collectionBytes r ++ t
+      → value collectionF s at ≡ collectionValue r
+  unfolding collectionBytes
+  collection-value r at t g e = value-encode collectionF (collectionValue r) s at t g e
+
+  collection-back : (r : CollectionRow) (at : ℕ) (t : List ℕ) → CollectionFits r → drop at s ≡ collectionBytes r ++ t → collectionAt s at ≡ r
+  unfolding collectionAt
+  collection-back r at t g e = ap collectionOf (collection-value r at t g e) ∙ (rw (metric-of (r .spec .metric)))
+
+  collection-code : (r : CollectionRow) (at : ℕ) (t : List ℕ) → CollectionFits r → drop at s ≡ collectionBytes r ++ t → numberAt 4 s (at + 44) < 2
+  collection-code r at t g e =
+      let c : numberAt 4 s (at + 44) ≡ collectionValue r .0 .0 .1 = ap (λ (v : Value collectionF). v .0 .0 .1) (collection-value r at t g e) in
+      omega (arith, metric-below (r .spec .metric))
+
+  shard-value : (r : ShardRow) (at : ℕ) (t : List ℕ) → ShardFits r → drop at s ≡ shardBytes r ++ t → value shardF s at ≡ shardValue r
+  unfolding shardBytes
+  shard-value r at t g e = value-encode shardF (shardValue r) s at t g e
+
+  replicas-back : (l : List Replica) → map replicaOf (map replicaValue l) ≡ l
+  replicas-back [] = refl
+  replicas-back (x ∷ l) = ap (λ (k : List Replica). x ∷ k) (replicas-back l)
+
+  ids-back : (l : List DataNodeId) → map idOf (map idValue l) ≡ l
+  ids-back [] = refl
+  ids-back (x ∷ l) = ap (λ (k : List DataNodeId). x ∷ k) (ids-back l)
+
+  shard-back : (r : ShardRow) (at : ℕ) (t : List ℕ) → ShardFits r → drop at s ≡ shardBytes r ++ t → shardAt s at ≡ r
+  unfolding shardAt
+  shard-back r at t g e =
+      ap shardOf (shard-value r at t g e) ∙ (rw (primary-back (r .primary), replicas-back (r .replicas .items), ids-back (r .insync .items)))
+
+  shard-code : (r : ShardRow) (at : ℕ) (t : List ℕ) → ShardFits r → drop at s ≡ shardBytes r ++ t → numberAt 4 s (at + 44) < 2
+  shard-code r at t g e =
+      let c : numberAt 4 s (at + 44) ≡ shardValue r .0 .0 .0 .0 .0 .0 .1 =
+      ap (λ (v : Value shardF). v .0 .0 .0 .0 .0 .0 .1) (shard-value r at t g e) in
+      omega (arith, primary-small (r .primary))
+
+  session-value : (r : SessionRow) (at : ℕ) (t : List ℕ) → SessionFits r → drop at s ≡ sessionBytes r ++ t → value sessionF s at ≡ sessionValue r
+  unfolding sessionBytes
+  session-value r at t g e = value-encode sessionF (sessionValue r) s at t g e
+
+  session-back : (r : SessionRow) (at : ℕ) (t : List ℕ) → SessionFits r → drop at s ≡ sessionBytes r ++ t → sessionAt s at ≡ r
+  unfolding sessionAt
+  session-back r at t g e = ap sessionOf (session-value r at t g e) ∙ (rw (outcome-back (r .outcome)))
+
+  session-code : (r : SessionRow) (at : ℕ) (t : List ℕ) → SessionFits r → drop at s ≡ sessionBytes r ++ t → numberAt 4 s (at + 60) < 17
+  session-code r at t g e =
+      let c : numberAt 4 s (at + 60) ≡ sessionValue r .0 .0 .1 = ap (λ (v : Value sessionF). v .0 .0 .1) (session-value r at t g e) in
+      omega (arith, outcome-small (r .outcome))
+
+node-long : (r : NodeRow) → NodeFits r → length (nodeBytes r) ≡ 96
+unfolding nodeBytes
+node-long r g = length-encode nodeF (nodeValue r) g
+
+collection-long : (r : CollectionRow) → CollectionFits r → length (collectionBytes r) ≡ 56
+unfolding collectionBytes
+collection-long r g = length-encode collectionF (collectionValue r) g
+
+shard-long : (r : ShardRow) → ShardFits r → length (shardBytes r) ≡ 272
+unfolding shardBytes
+shard-long r g = length-encode shardF (shardValue r) g
+
+session-long : (r : SessionRow) → SessionFits r → length (sessionBytes r) ≡ 80
+unfolding sessionBytes
+session-long r g = length-encode sessionF (sessionValue r) g
+
+-- ---- the whole map
+
+-- counts within their tables; numbers and arrays of the rows in use as their types have them
+pub record Fits (m : ShardMap) : Type 0 where
+  pub version : m .version < 256 ^ 8
+  pub nodes : TableFits NodeFits 32 (m .nodes .count) (m .nodes .items)
+  pub collections : TableFits CollectionFits 16 (m .collections .count) (m .collections .items)
+  pub shards : TableFits ShardFits 64 (m .shards .count) (m .shards .items)
+  pub sessions : TableFits SessionFits 64 (m .sessions .count) (m .sessions .items)
+
+record Placed (w : List ℕ) (m : ShardMap) : Type 0 where
+  head : Holds w 0 (headBytes m)
+  nodes : Holds w 40 (nodesBytes (m .nodes))
+  collections : Holds w 3112 (collectionsBytes (m .collections))
+  shards : Holds w 4008 (shardsBytes (m .shards))
+  sessions : Holds w 21416 (sessionsBytes (m .sessions))
+
+abbrev headF : Shape
+headF = u64 ▸ u64 ▸ u64 ▸ u64 ▸ u64
+
+abbrev mapOf : ℕ → List tables.NodeInfo → List tables.Collection → List tables.ShardInfo → List tables.Session → tables.Map
+mapOf v a b c d = record { version = v; nodes = a; collections = b; shards = c; sessions = d }
+
+same-map : {v w : ℕ} {a e : List tables.NodeInfo} {b f : List tables.Collection} {c g : List tables.ShardInfo} {d h : List tables.Session}
+    → v ≡ w → a ≡ e → b ≡ f → c ≡ g → d ≡ h → mapOf v a b c d ≡ mapOf w e f g h
+same-map p q r s t = rw (p, q, r, s, t)
+
+module _ (s : List ℕ) (m : ShardMap) (room : 26536 ≤ length s) (fits : Fits m) where
+  placed : Placed (mapPut s m) m
+  unfolding mapPut
+  placed =
+      let nn = length-table NodeFits nodeBytes 96 node-long 32 (m .nodes .count) (m .nodes .items) (fits .nodes) in
+      let nc = length-table CollectionFits collectionBytes 56 collection-long 16 (m .collections .count) (m .collections .items) (fits .collections) in
+      let ns = length-table ShardFits shardBytes 272 shard-long 64 (m .shards .count) (m .shards .items) (fits .shards) in
+      let ne = length-table SessionFits sessionBytes 80 session-long 64 (m .sessions .count) (m .sessions .items) (fits .sessions) in
+      let cn = fits .nodes .count in
+      let cc₁ = fits .collections .count in
+      let cs = fits .shards .count in
+      let ce = fits .sessions .count in
+      let H = headBytes m in
+      let N = nodesBytes (m .nodes) in
+      let C = collectionsBytes (m .collections) in
+      let S = shardsBytes (m .shards) in
+      let E = sessionsBytes (m .sessions) in
+      let w₀ = sets s 0 H in
+      let w₁ = sets w₀ 40 N in
+      let w₂ = sets w₁ 3112 C in
+      let w₃ = sets w₂ 4008 S in
+      let l₀ : length w₀ ≡ length s = length-sets s 0 H in
+      let l₁ : length w₁ ≡ length w₀ = length-sets w₀ 40 N in
+      let l₂ : length w₂ ≡ length w₁ = length-sets w₁ 3112 C in
+      let l₃ : length w₃ ≡ length w₂ = length-sets w₂ 4008 S in
+      let lh : length H ≡ 40 = refl in
+      record {
+        head =
+            holds-kept w₃ 0 21416 H E (holds-kept w₂ 0 4008 H S (holds-kept w₁ 0 3112 H C (holds-kept w₀ 0 40 H N (holds-stored s 0 H (omega arith)) (omega arith)) (omega arith)) (omega arith)) (omega arith);
+        nodes =
+            holds-kept w₃ 40 21416 N E (holds-kept w₂ 40 4008 N S (holds-kept w₁ 40 3112 N C (holds-stored w₀ 40 N (omega arith)) (omega arith)) (omega arith)) (omega arith);
+        collections = holds-kept w₃ 3112 21416 C E (holds-kept w₂ 3112 4008 C S (holds-stored w₁ 3112 C (omega arith)) (omega arith)) (omega arith);
+        shards = holds-kept w₃ 4008 21416 S E (holds-stored w₂ 4008 S (omega arith)) (omega arith);
+        sessions = holds-stored w₃ 21416 E (omega arith);
+      }
+
+  head-back : value headF (mapPut s m) 0 ≡ ((((m .version, m .nodes .count), m .collections .count), m .shards .count), m .sessions .count)
+  head-back =
+      let cn = fits .nodes .count in
+      let cc₁ = fits .collections .count in
+      let cs = fits .shards .count in
+      let ce = fits .sessions .count in
+      value-encode headF ((((m .version, m .nodes .count), m .collections .count), m .shards .count), m .sessions .count) (mapPut s m) 0 (placed .head .tail)
+      ((((fits .version, omega arith), omega arith), omega arith), omega arith)
+      (placed .head .here)
+
+  -- what was written lends a map
+  pub codes-listed : codesListed (mapPut s m) ≡ true
+  unfolding codesListed
+  codes-listed =
+      let w = mapPut s m in
+      and-intro
+      (table-codes NodeFits nodeBytes 96 node-long 32 (m .nodes .count) (m .nodes .items) (fits .nodes) w 40 2 16 (node-code w) (placed .nodes) (numberAt 8 w 8) (ap (λ (v : Value headF). v .0 .0 .0 .1) head-back))
+      (and-intro
+      (table-codes CollectionFits collectionBytes 56 collection-long 16 (m .collections .count) (m .collections .items) (fits .collections) w 3112 2 44 (collection-code w) (placed .collections) (numberAt 8 w 16) (ap (λ (v : Value headF). v .0 .0 .1) head-back))
+      (and-intro
+      (table-codes ShardFits shardBytes 272 shard-long 64 (m .shards .count) (m .shards .items) (fits .shards) w 4008 2 44 (shard-code w) (placed .shards) (numberAt 8 w 24) (ap (λ (v : Value headF). v .0 .1) head-back))
+      (table-codes SessionFits sessionBytes 80 session-long 64 (m .sessions .count) (m .sessions .items) (fits .sessions) w 21416 17 60 (session-code w) (placed .sessions) (numberAt 8 w 32) (ap (λ (v : Value headF). v .1) head-back))))
+
+  -- and the map that it lends is the one written
+  pub map-back : viewMap (mapAt (mapPut s m)) ≡ viewMap m
+  unfolding mapAt
+  map-back =
+      let w = mapPut s m in
+      same-map
+      (ap (λ (v : Value headF). v .0 .0 .0 .0) head-back)
+      (ap (map viewNode) (table-back NodeFits nodeBytes 96 node-long 32 (m .nodes .count) (m .nodes .items) (fits .nodes) w 40 (nodeAt w) noNode (node-back w) (placed .nodes) (numberAt 8 w 8) (ap (λ (v : Value headF). v .0 .0 .0 .1) head-back)))
+      (ap (map viewCollection) (table-back CollectionFits collectionBytes 56 collection-long 16 (m .collections .count) (m .collections .items) (fits .collections) w 3112 (collectionAt w) noCollection (collection-back w) (placed .collections) (numberAt 8 w 16) (ap (λ (v : Value headF). v .0 .0 .1) head-back)))
+      (ap (map viewShard) (table-back ShardFits shardBytes 272 shard-long 64 (m .shards .count) (m .shards .items) (fits .shards) w 4008 (shardAt w) noShard (shard-back w) (placed .shards) (numberAt 8 w 24) (ap (λ (v : Value headF). v .0 .1) head-back)))
+      (ap (map viewSession) (table-back SessionFits sessionBytes 80 session-long 64 (m .sessions .count) (m .sessions .items) (fits .sessions) w 21416 (sessionAt w) noSession (session-back w) (placed .sessions) (numberAt 8 w 32) (ap (λ (v : Value headF). v .1) head-back)))

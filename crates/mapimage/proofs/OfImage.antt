@@ -1,0 +1,86 @@
+-- What the whole image's functions come to, case by case; and the rows that stand for a place past an array's end. Assumes nothing.
+use Prim.Native.Nat.{ℕ, _≤_, _<_}
+use mathlib.Core.Path.{_≡_, refl, sym, _∙_}
+use mathlib.Core.Bool.{Bool, true, false}
+use mathlib.Core.List.{List, []}
+use lib.ListN.{length}
+use lib.Dec.{leb}
+use borrow.Author.Tests.{le-leb, lt-leb}
+use Rattle.model.specs.Lists.{_and_}
+use Rattle.model.proofs.LayoutLaws.Tests.{and-true, and-false}
+use Rattle.model.specs.declared.Metric.the-variants.{Euclidean}
+use Rattle.state.proofs.Defaults as defaults
+use Rattle.state.specs.declared.NodeRow.{NodeRow}
+use Rattle.state.specs.declared.CollectionRow.{CollectionRow}
+use Rattle.state.specs.declared.ShardRow.{ShardRow}
+use Rattle.state.specs.declared.SessionRow.{SessionRow}
+use Rattle.state.specs.declared.ShardMap.{ShardMap}
+use Rattle.state.specs.declared.Outcome.the-variants.{Applied}
+use Rattle.mapimage.specs.declared.Lent.{Lent}
+use Rattle.mapimage.specs.Image.{codesListed, mapLent, mapAt, noMap, lentMap, mapPut, mapWritten}
+
+abbrev pub pastNode : NodeRow
+pastNode = defaults.noNode
+
+abbrev pub pastShard : ShardRow
+pastShard = defaults.noShard
+
+abbrev pub pastCollection : CollectionRow
+pastCollection = record {
+  name = record { bytes = []; len = 0 };
+  spec = record { dimension = 0; metric = Euclidean; shards = 0; replication = 0 };
+}
+
+abbrev pub pastSession : SessionRow
+pastSession = record { client = 0; seq = 0; outcome = Applied; key = record { collection = record { bytes = []; len = 0 }; shard = 0 } }
+
+-- ---- four tests in a row
+
+module _ (a b c d : Bool) where
+  pub none-of-first : a ≡ false → false ≡ (a and (b and (c and d)))
+  none-of-first e = rw e (sym (and-false _))
+
+  pub none-of-second : a ≡ true → b ≡ false → false ≡ (a and (b and (c and d)))
+  none-of-second e f = rw (e, f) (sym (and-true _ ∙ and-false _))
+
+  pub none-of-third : a ≡ true → b ≡ true → c ≡ false → false ≡ (a and (b and (c and d)))
+  none-of-third e f g = rw (e, f, g) (sym (and-true _ ∙ and-true _ ∙ and-false _))
+
+  pub all-of : a ≡ true → b ≡ true → c ≡ true → d ≡ (a and (b and (c and d)))
+  all-of e f g = rw (e, f, g) (sym (and-true _ ∙ and-true _ ∙ and-true _))
+
+none-of-last : (b : Bool) → (b and false) ≡ false
+none-of-last true = and-true false
+none-of-last false = and-false false
+
+-- ---- whether a buffer lends a map
+
+abbrev lent : Bool → ShardMap → Lent
+lent b m = record { found = b; map = m }
+
+module _ (s : List ℕ) where
+  pub lent-short : length s < 26536 → mapLent s ≡ false
+  unfolding mapLent
+  lent-short h = rw (lt-leb 26536 (length s) h) (and-false _)
+
+  pub lent-unlisted : codesListed s ≡ false → mapLent s ≡ false
+  unfolding mapLent
+  lent-unlisted h = rw h (none-of-last (leb 26536 (length s)))
+
+  pub lent-not : mapLent s ≡ false → lent false noMap ≡ lentMap s
+  lent-not h = rw h
+
+  pub lent-whole : 26536 ≤ length s → codesListed s ≡ true → mapLent s ≡ true
+  unfolding mapLent
+  lent-whole h k = rw (le-leb 26536 (length s) h, k) (and-true _)
+
+  pub lent-map : 26536 ≤ length s → codesListed s ≡ true → lent true (mapAt s) ≡ lentMap s
+  lent-map h k = rw (lent-whole h k)
+
+  pub written-long : (m : ShardMap) → 26536 ≤ length s → mapPut s m ≡ mapWritten s m
+  unfolding mapWritten
+  written-long m h = rw (le-leb 26536 (length s) h)
+
+  pub written-short : (m : ShardMap) → length s < 26536 → s ≡ mapWritten s m
+  unfolding mapWritten
+  written-short m h = rw (lt-leb 26536 (length s) h)

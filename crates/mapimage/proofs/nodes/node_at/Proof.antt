@@ -1,0 +1,42 @@
+-- `nodes::node_at` meets its contract. Assumes nothing.
+use borrow.Author.Needs.{needs}
+use native.Mathlib.Omega.{arith}
+use mathlib.Core.Path.{_≡_, refl, sym, _∙_, ap}
+use mathlib.Core.List.{List, [], _∷_, _++_, map}
+use Prim.Native.Nat.{ℕ, _+_, _-_, _*_, _≤_, _<_}
+use lib.ListN.{length, getD, take, drop, set, length-set}
+use Rattle.mapimage.specs.Rows.{nodeAt}
+use Rattle.image.specs.Parts.{addressAt}
+use Rattle.mapimage.proofs.nodes.node_at.Statement.{statement}
+use Rattle.mapimage.proofs.nodes.node_at.Tie as tie
+
+get8-requires : tie.Need-get8-requires
+get8-requires c κs = search needs
+
+add-get8 : tie.Need-add-get8
+add-get8 c = search needs
+
+get8-requires-2 : tie.Need-get8-requires-2
+get8-requires-2 c κs = search needs
+
+add-get4 : tie.Need-add-get4
+add-get4 c = search needs
+
+get4-requires : tie.Need-get4-requires
+get4-requires c κs = search needs
+
+flag-of-requires : tie.Need-flag-of-requires
+flag-of-requires c κs = search needs
+
+add-address-at : tie.Need-add-address-at
+add-address-at c = search needs
+
+address-at-requires : tie.Need-address-at-requires
+address-at-requires c κs = search needs
+
+returns : tie.Need-returns
+unfolding nodeAt addressAt
+returns c = rw (c .before .before .before .before .get8 .ensures, c .before .before .before .get82 .ensures, c .before .flag-of .ensures, c .before .before .get4 .ensures, c .address-at .ensures)
+
+pub node-at-spec : {M : Type 1} → statement M
+node-at-spec = tie.close (tie.spec get8-requires add-get8 get8-requires-2 add-get4 get4-requires flag-of-requires add-address-at address-at-requires returns)

@@ -1,0 +1,74 @@
+-- `nodes::put_nodes` meets its contract. Assumes nothing.
+use borrow.Author.Needs.{needs}
+use native.Mathlib.Omega.{arith}
+use mathlib.Core.Path.{_≡_, refl, sym, _∙_, ap}
+use mathlib.Core.List.{List, [], _∷_, _++_, map}
+use Prim.Native.Nat.{ℕ, _+_, _-_, _*_, _≤_, _<_}
+use lib.ListN.{length, getD, take, drop, set, length-set}
+use lib.Seq.{sets}
+use Rattle.model.specs.Layout.Format.{concatMap}
+use Rattle.state.proofs.Tables.{of-field}
+use Rattle.image.proofs.Images.{table-step, length-used, put-end}
+use Rattle.mapimage.specs.Rows.{nodeBytes}
+use Rattle.mapimage.proofs.OfImage.{pastNode}
+use Rattle.mapimage.proofs.nodes.put_nodes.Statement.{statement}
+use Rattle.mapimage.proofs.nodes.put_nodes.Tie as tie
+
+abbrev Inv-loop : tie.InvT-loop
+Inv-loop out₀ t n i₀ out i = (i ≤ n) × (n ≤ 32) × (length out ≡ length out₀) × (sets out (40 + 96 * i) (concatMap nodeBytes (drop i (take (t .count) (t .items)))) ≡ sets out₀ 40 (concatMap nodeBytes (take (t .count) (t .items))))
+
+abbrev μ-loop : tie.MeasureT-loop
+μ-loop out₀ t n i₀ out i = n - i
+
+in-use-requires : tie.Need-in-use-requires Inv-loop μ-loop
+in-use-requires c κs = search needs
+
+loop-holds : tie.Need-loop-holds Inv-loop μ-loop
+loop-holds c = (omega arith, c .in-use .ensures .1, refl, refl)
+
+mul-row : tie.Need-mul-row Inv-loop μ-loop
+mul-row c = search needs
+
+element-copy-out-row : tie.Need-element-copy-out-row Inv-loop μ-loop
+element-copy-out-row c = search needs
+
+mul-put-node : tie.Need-mul-put-node Inv-loop μ-loop
+mul-put-node c = search needs
+
+add-put-node : tie.Need-add-put-node Inv-loop μ-loop
+add-put-node c = search needs
+
+put-node-requires : tie.Need-put-node-requires Inv-loop μ-loop
+put-node-requires c κs = search needs
+
+add-i : tie.Need-add-i Inv-loop μ-loop
+add-i c = search needs
+
+loop-less : tie.Need-loop-less Inv-loop μ-loop
+loop-less c = search needs
+
+loop-again : tie.Need-loop-again Inv-loop μ-loop
+loop-again c =
+    let l = (c .before .before .before .before .before .before .loop) in
+    let a = (c .before .before .before .before .before .before .before .before .before .args) in
+    let k : length (a .t2 .items) ≡ 32 = search (needs, of-field) in
+    let m = length-used 32 (a .t2 .count) (a .t2 .items) k in
+    let h : l .i < a .t2 .count = omega arith in
+    let g : l .i < length (take (a .t2 .count) (a .t2 .items)) = omega arith in
+    let q : 40 + 96 * (l .i + 1) ≡ 40 + 96 * l .i + 96 = omega arith in
+    (omega arith, l .inv .1, c .before .before .put-node .kept .0 ∙ l .inv .2, table-step nodeBytes 96 (a .t2 .items) (a .t2 .count) pastNode (l .out) _ (l .i) (40 + 96 * l .i) (40 + 96 * (l .i + 1)) h g q (c .before .before .put-node .ensures) ∙ l .inv .3)
+
+same-length : tie.Need-same-length Inv-loop μ-loop
+same-length c = c .before .loop .inv .2
+
+returns : tie.Need-returns Inv-loop μ-loop
+returns c =
+    let l = (c .before .loop) in
+    let a = (c .before .before .before .before .args) in
+    let k : length (a .t2 .items) ≡ 32 = search (needs, of-field) in
+    let m = length-used 32 (a .t2 .count) (a .t2 .items) k in
+    let z : l .i ≡ length (take (a .t2 .count) (a .t2 .items)) = omega arith in
+    put-end nodeBytes (take (a .t2 .count) (a .t2 .items)) (a .out .now) (l .out) (40 + 96 * l .i) (l .i) 40 z (l .inv .3)
+
+pub put-nodes-spec : {M : Type 1} → statement M
+put-nodes-spec = tie.close (tie.spec Inv-loop μ-loop in-use-requires loop-holds mul-row element-copy-out-row mul-put-node add-put-node put-node-requires add-i loop-less loop-again same-length returns)

@@ -1,0 +1,36 @@
+-- `put_head` meets its contract. Assumes nothing.
+use borrow.Author.Needs.{needs}
+use native.Mathlib.Omega.{arith}
+use mathlib.Core.Path.{_≡_, refl, sym, _∙_, ap}
+use mathlib.Core.List.{List, [], _∷_, _++_, map}
+use Prim.Native.Nat.{ℕ, _+_, _-_, _*_, _≤_, _<_}
+use lib.ListN.{length, getD, take, drop, set, length-set}
+use Rattle.image.proofs.Images.{stored-then, stored-word, stored-as}
+use Rattle.mapimage.proofs.put_head.Statement.{statement}
+use Rattle.mapimage.proofs.put_head.Tie as tie
+
+put8-requires : tie.Need-put8-requires
+put8-requires c κs = search needs
+
+put8-requires-2 : tie.Need-put8-requires-2
+put8-requires-2 c κs = search needs
+
+put8-requires-3 : tie.Need-put8-requires-3
+put8-requires-3 c κs = search needs
+
+put8-requires-4 : tie.Need-put8-requires-4
+put8-requires-4 c κs = search needs
+
+put8-requires-5 : tie.Need-put8-requires-5
+put8-requires-5 c κs = search needs
+
+same-length : tie.Need-same-length
+same-length c = search needs
+
+returns : tie.Need-returns
+returns c =
+    let m = c .before .before .before .before .before .before .before .before .before .before .before .before .before .before .before .before .before .before .before .before .before .args .m in
+    stored-then (stored-then (stored-then (stored-then (stored-word 8 (m .version) (c .before .before .before .before .before .before .before .before .before .before .before .before .before .before .before .before .before .before .put8 .ensures)) (stored-word 8 (m .nodes .count) (c .before .before .before .before .before .before .before .before .before .before .before .before .before .before .put82 .ensures))) (stored-word 8 (m .collections .count) (c .before .before .before .before .before .before .before .before .before .before .put83 .ensures))) (stored-word 8 (m .shards .count) (c .before .before .before .before .before .before .put84 .ensures))) (stored-word 8 (m .sessions .count) (c .before .before .put85 .ensures))
+
+pub put-head-spec : {M : Type 1} → statement M
+put-head-spec = tie.close (tie.spec put8-requires put8-requires-2 put8-requires-3 put8-requires-4 put8-requires-5 same-length returns)

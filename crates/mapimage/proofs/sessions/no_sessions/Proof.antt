@@ -1,0 +1,20 @@
+-- `sessions::no_sessions` meets its contract. Assumes nothing.
+use borrow.Author.Needs.{needs}
+use native.Mathlib.Omega.{arith}
+use mathlib.Core.Path.{_≡_, refl, sym, _∙_, ap}
+use mathlib.Core.List.{List, [], _∷_, _++_, map}
+use Prim.Native.Nat.{ℕ, _+_, _-_, _*_, _≤_, _<_}
+use lib.ListN.{length, getD, take, drop, set, length-set}
+use Rattle.mapimage.specs.Image.{noSessions}
+use Rattle.mapimage.proofs.sessions.no_sessions.Statement.{statement}
+use Rattle.mapimage.proofs.sessions.no_sessions.Tie as tie
+
+no-session-requires : tie.Need-no-session-requires
+no-session-requires c κs = search needs
+
+returns : tie.Need-returns
+unfolding noSessions
+returns c = rw (c .no-session .ensures)
+
+pub no-sessions-spec : {M : Type 1} → statement M
+no-sessions-spec = tie.close (tie.spec no-session-requires returns)

@@ -1,0 +1,74 @@
+-- `sessions::put_sessions` meets its contract. Assumes nothing.
+use borrow.Author.Needs.{needs}
+use native.Mathlib.Omega.{arith}
+use mathlib.Core.Path.{_≡_, refl, sym, _∙_, ap}
+use mathlib.Core.List.{List, [], _∷_, _++_, map}
+use Prim.Native.Nat.{ℕ, _+_, _-_, _*_, _≤_, _<_}
+use lib.ListN.{length, getD, take, drop, set, length-set}
+use lib.Seq.{sets}
+use Rattle.model.specs.Layout.Format.{concatMap}
+use Rattle.state.proofs.Tables.{of-field}
+use Rattle.image.proofs.Images.{table-step, length-used, put-end}
+use Rattle.mapimage.specs.Rows.{sessionBytes}
+use Rattle.mapimage.proofs.OfImage.{pastSession}
+use Rattle.mapimage.proofs.sessions.put_sessions.Statement.{statement}
+use Rattle.mapimage.proofs.sessions.put_sessions.Tie as tie
+
+abbrev Inv-loop : tie.InvT-loop
+Inv-loop out₀ t n i₀ out i = (i ≤ n) × (n ≤ 64) × (length out ≡ length out₀) × (sets out (21416 + 80 * i) (concatMap sessionBytes (drop i (take (t .count) (t .items)))) ≡ sets out₀ 21416 (concatMap sessionBytes (take (t .count) (t .items))))
+
+abbrev μ-loop : tie.MeasureT-loop
+μ-loop out₀ t n i₀ out i = n - i
+
+in-use-requires : tie.Need-in-use-requires Inv-loop μ-loop
+in-use-requires c κs = search needs
+
+loop-holds : tie.Need-loop-holds Inv-loop μ-loop
+loop-holds c = (omega arith, c .in-use .ensures .1, refl, refl)
+
+mul-row : tie.Need-mul-row Inv-loop μ-loop
+mul-row c = search needs
+
+element-copy-out-row : tie.Need-element-copy-out-row Inv-loop μ-loop
+element-copy-out-row c = search needs
+
+mul-put-session : tie.Need-mul-put-session Inv-loop μ-loop
+mul-put-session c = search needs
+
+add-put-session : tie.Need-add-put-session Inv-loop μ-loop
+add-put-session c = search needs
+
+put-session-requires : tie.Need-put-session-requires Inv-loop μ-loop
+put-session-requires c κs = search needs
+
+add-i : tie.Need-add-i Inv-loop μ-loop
+add-i c = search needs
+
+loop-less : tie.Need-loop-less Inv-loop μ-loop
+loop-less c = search needs
+
+loop-again : tie.Need-loop-again Inv-loop μ-loop
+loop-again c =
+    let l = (c .before .before .before .before .before .before .loop) in
+    let a = (c .before .before .before .before .before .before .before .before .before .args) in
+    let k : length (a .t2 .items) ≡ 64 = search (needs, of-field) in
+    let m = length-used 64 (a .t2 .count) (a .t2 .items) k in
+    let h : l .i < a .t2 .count = omega arith in
+    let g : l .i < length (take (a .t2 .count) (a .t2 .items)) = omega arith in
+    let q : 21416 + 80 * (l .i + 1) ≡ 21416 + 80 * l .i + 80 = omega arith in
+    (omega arith, l .inv .1, c .before .before .put-session .kept .0 ∙ l .inv .2, table-step sessionBytes 80 (a .t2 .items) (a .t2 .count) pastSession (l .out) _ (l .i) (21416 + 80 * l .i) (21416 + 80 * (l .i + 1)) h g q (c .before .before .put-session .ensures) ∙ l .inv .3)
+
+same-length : tie.Need-same-length Inv-loop μ-loop
+same-length c = c .before .loop .inv .2
+
+returns : tie.Need-returns Inv-loop μ-loop
+returns c =
+    let l = (c .before .loop) in
+    let a = (c .before .before .before .before .args) in
+    let k : length (a .t2 .items) ≡ 64 = search (needs, of-field) in
+    let m = length-used 64 (a .t2 .count) (a .t2 .items) k in
+    let z : l .i ≡ length (take (a .t2 .count) (a .t2 .items)) = omega arith in
+    put-end sessionBytes (take (a .t2 .count) (a .t2 .items)) (a .out .now) (l .out) (21416 + 80 * l .i) (l .i) 21416 z (l .inv .3)
+
+pub put-sessions-spec : {M : Type 1} → statement M
+put-sessions-spec = tie.close (tie.spec Inv-loop μ-loop in-use-requires loop-holds mul-row element-copy-out-row mul-put-session add-put-session put-session-requires add-i loop-less loop-again same-length returns)

@@ -1,0 +1,70 @@
+-- `sessions::sessions_at` meets its contract. Assumes nothing.
+use borrow.Author.Needs.{needs}
+use native.Mathlib.Omega.{arith}
+use mathlib.Core.Path.{_≡_, refl, sym, _∙_, ap}
+use mathlib.Core.List.{List, [], _∷_, _++_, map}
+use Prim.Native.Nat.{ℕ, _+_, _-_, _*_, _≤_, _<_}
+use lib.ListN.{length, getD, take, drop, set, length-set}
+use Rattle.image.specs.Shape.{rowsAt, inUse}
+use Rattle.image.proofs.Images.{rows-start, rows-step}
+use Rattle.mapimage.specs.Rows.{sessionAt}
+use Rattle.mapimage.specs.Image.{noSession}
+use Rattle.mapimage.proofs.sessions.sessions_at.Statement.{statement}
+use Rattle.mapimage.proofs.sessions.sessions_at.Tie as tie
+
+abbrev Inv-loop : tie.InvT-loop
+Inv-loop s n items₀ i₀ items i = (i ≤ n) × (n ≤ 64) × (length items ≡ 64) × (items ≡ rowsAt 64 i (sessionAt s) noSession 80 21416)
+
+abbrev μ-loop : tie.MeasureT-loop
+μ-loop s n items₀ i₀ items i = n - i
+
+no-session-requires : tie.Need-no-session-requires Inv-loop μ-loop
+no-session-requires c κs = search needs
+
+count-at-requires : tie.Need-count-at-requires Inv-loop μ-loop
+count-at-requires c κs = search needs
+
+loop-holds : tie.Need-loop-holds Inv-loop μ-loop
+loop-holds c = (omega arith, c .count-at .ensures .1, refl, (rw (c .before .no-session .ensures) (rows-start 64 (sessionAt (c .before .before .before .args .s .now)) noSession 80 21416)))
+
+mul-session-at : tie.Need-mul-session-at Inv-loop μ-loop
+mul-session-at c = search needs
+
+add-session-at : tie.Need-add-session-at Inv-loop μ-loop
+add-session-at c = search needs
+
+session-at-requires : tie.Need-session-at-requires Inv-loop μ-loop
+session-at-requires c κs = search needs
+
+mul-items : tie.Need-mul-items Inv-loop μ-loop
+mul-items c = search needs
+
+array-set-from-items : tie.Need-array-set-from-items Inv-loop μ-loop
+array-set-from-items c = search needs
+
+add-i : tie.Need-add-i Inv-loop μ-loop
+add-i c = search needs
+
+loop-less : tie.Need-loop-less Inv-loop μ-loop
+loop-less c = search needs
+
+loop-again : tie.Need-loop-again Inv-loop μ-loop
+loop-again c =
+    let l = (c .before .before .loop) in
+    let a = (c .before .before .before .before .before .before .args) in
+    let h : l .i < 64 = omega arith in
+    (omega arith, l .inv .1, simp length-set (l .inv .2), rows-step (sessionAt (a .s .now)) noSession 80 64 (l .i) 21416 (l .items) (c .session-at .result) h (l .inv .3) (c .session-at .ensures))
+
+get8-requires : tie.Need-get8-requires Inv-loop μ-loop
+get8-requires c κs = search needs
+
+returns : tie.Need-returns Inv-loop μ-loop
+returns c =
+    let l = (c .before .before .loop) in
+    let a = (c .before .before .before .before .before .before .args) in
+    let z : l .i ≡ c .before .before .before .count-at .result = omega arith in
+    let e = l .inv .3 ∙ ap (λ (k : ℕ). rowsAt 64 k (sessionAt (a .s .now)) noSession 80 21416) (z ∙ c .before .before .before .count-at .ensures .0) in
+    rw (e, c .get8 .ensures)
+
+pub sessions-at-spec : {M : Type 1} → statement M
+sessions-at-spec = tie.close (tie.spec Inv-loop μ-loop no-session-requires count-at-requires loop-holds mul-session-at add-session-at session-at-requires mul-items array-set-from-items add-i loop-less loop-again get8-requires returns)

@@ -1,0 +1,131 @@
+-- A map's image (docs/IMAGES.md): 40 bytes of version and counts, then four tables of rows of a fixed size, 26536 bytes in all. Only the
+-- rows in use are read and written. Definitions only.
+use Prim.Native.Nat.{ℕ}
+use mathlib.Core.Bool.{Bool, false, cond}
+use mathlib.Core.List.{List, _++_}
+use lib.ListN.{length, take, replicate}
+use lib.Dec.{leb}
+use lib.Seq.{sets}
+use Rattle.model.specs.Lists.{_and_}
+use Rattle.model.specs.Layout.Format.{numberAt, bytesOf, concatMap}
+use Rattle.model.specs.declared.Metric.the-variants.{Euclidean}
+use Rattle.state.specs.declared.NodeRow.{NodeRow}
+use Rattle.state.specs.declared.CollectionRow.{CollectionRow}
+use Rattle.state.specs.declared.ShardRow.{ShardRow}
+use Rattle.state.specs.declared.SessionRow.{SessionRow}
+use Rattle.state.specs.declared.Nodes.{Nodes}
+use Rattle.state.specs.declared.Collections.{Collections}
+use Rattle.state.specs.declared.Shards.{Shards}
+use Rattle.state.specs.declared.Sessions.{Sessions}
+use Rattle.state.specs.declared.ShardMap.{ShardMap}
+use Rattle.state.specs.declared.Primary.the-variants.{Nobody}
+use Rattle.state.specs.declared.Outcome.the-variants.{Applied}
+use Rattle.mapimage.specs.declared.Lent.{Lent}
+use Rattle.image.specs.Shape.{inUse, rowsAt, codesBelow}
+use Rattle.image.specs.Codes.{idOf, epochOf}
+use Rattle.image.specs.Parts.{noName, noKey, noReplica}
+use Rattle.mapimage.specs.Rows.{nodeAt, nodeBytes, collectionAt, collectionBytes, shardAt, shardBytes, sessionAt, sessionBytes}
+
+-- ---- rows that say nothing, in the places past a count
+
+unfoldable pub noNode : NodeRow
+noNode = record { node = idOf 0; address = record { bytes = replicate 64 0; len = 0 }; incarnation = 0; alive = false }
+
+unfoldable pub noCollection : CollectionRow
+noCollection = record { name = noName; spec = record { dimension = 0; metric = Euclidean; shards = 0; replication = 0 } }
+
+unfoldable pub noShard : ShardRow
+noShard = record {
+  key = noKey;
+  replicas = record { items = replicate 8 noReplica; count = 0 };
+  primary = Nobody;
+  insync = record { items = replicate 8 (idOf 0); count = 0 };
+  epoch = epochOf 0;
+}
+
+unfoldable pub noSession : SessionRow
+noSession = record { client = 0; seq = 0; outcome = Applied; key = noKey }
+
+unfoldable pub noNodes : Nodes
+noNodes = record { items = replicate 32 noNode; count = 0 }
+
+unfoldable pub noCollections : Collections
+noCollections = record { items = replicate 16 noCollection; count = 0 }
+
+unfoldable pub noShards : Shards
+noShards = record { items = replicate 64 noShard; count = 0 }
+
+unfoldable pub noSessions : Sessions
+noSessions = record { items = replicate 64 noSession; count = 0 }
+
+-- a map without rows
+unfoldable pub noMap : ShardMap
+noMap = record { version = 0; nodes = noNodes; collections = noCollections; shards = noShards; sessions = noSessions }
+
+-- ---- what the bytes are read as
+
+abbrev pub nodesAt : List ℕ → Nodes
+nodesAt s = record { items = rowsAt 32 (inUse 32 (numberAt 8 s 8)) (nodeAt s) noNode 96 40; count = numberAt 8 s 8 }
+
+abbrev pub collectionsAt : List ℕ → Collections
+collectionsAt s = record { items = rowsAt 16 (inUse 16 (numberAt 8 s 16)) (collectionAt s) noCollection 56 3112; count = numberAt 8 s 16 }
+
+abbrev pub shardsAt : List ℕ → Shards
+shardsAt s = record { items = rowsAt 64 (inUse 64 (numberAt 8 s 24)) (shardAt s) noShard 272 4008; count = numberAt 8 s 24 }
+
+abbrev pub sessionsAt : List ℕ → Sessions
+sessionsAt s = record { items = rowsAt 64 (inUse 64 (numberAt 8 s 32)) (sessionAt s) noSession 80 21416; count = numberAt 8 s 32 }
+
+unfoldable pub mapAt : List ℕ → ShardMap
+mapAt s = record {
+  version = numberAt 8 s 0;
+  nodes = nodesAt s;
+  collections = collectionsAt s;
+  shards = shardsAt s;
+  sessions = sessionsAt s;
+}
+
+-- every code of a row in use is listed: alive, metric, primary, outcome
+unfoldable pub codesListed : List ℕ → Bool
+codesListed s =
+    codesBelow 2 96 s (inUse 32 (numberAt 8 s 8)) 56
+    and (codesBelow 2 56 s (inUse 16 (numberAt 8 s 16)) 3156
+    and (codesBelow 2 272 s (inUse 64 (numberAt 8 s 24)) 4052 and codesBelow 17 80 s (inUse 64 (numberAt 8 s 32)) 21476))
+
+-- a map is lent: the buffer holds an image, in which every code is listed
+unfoldable pub mapLent : List ℕ → Bool
+mapLent s = leb 26536 (length s) and codesListed s
+
+abbrev pub lentMap : List ℕ → Lent
+lentMap s = record { found = mapLent s; map = cond (mapLent s) (mapAt s) noMap }
+
+-- ---- what a write makes of an image: the rows in use are stored, all other bytes stay
+
+abbrev pub headBytes : ShardMap → List ℕ
+headBytes m =
+    (((bytesOf 8 (m .version) ++ bytesOf 8 (m .nodes .count)) ++ bytesOf 8 (m .collections .count)) ++ bytesOf 8 (m .shards .count))
+    ++ bytesOf 8 (m .sessions .count)
+
+abbrev pub nodesBytes : Nodes → List ℕ
+nodesBytes t = concatMap nodeBytes (take (t .count) (t .items))
+
+abbrev pub collectionsBytes : Collections → List ℕ
+collectionsBytes t = concatMap collectionBytes (take (t .count) (t .items))
+
+abbrev pub shardsBytes : Shards → List ℕ
+shardsBytes t = concatMap shardBytes (take (t .count) (t .items))
+
+abbrev pub sessionsBytes : Sessions → List ℕ
+sessionsBytes t = concatMap sessionBytes (take (t .count) (t .items))
+
+unfoldable pub mapPut : List ℕ → ShardMap → List ℕ
+mapPut s m =
+    sets
+    (sets
+    (sets (sets (sets s 0 (headBytes m)) 40 (nodesBytes (m .nodes))) 3112 (collectionsBytes (m .collections)))
+    4008 (shardsBytes (m .shards)))
+    21416 (sessionsBytes (m .sessions))
+
+-- a buffer that is shorter than an image stays as it was
+unfoldable pub mapWritten : List ℕ → ShardMap → List ℕ
+mapWritten s m = cond (leb 26536 (length s)) (mapPut s m) s
