@@ -1,0 +1,199 @@
+-- A header that was written is read back, whatever the image held before: every code is listed, and the header that the bytes are read as
+-- is the one written, whatever the stores hold. Assumes nothing.
+use Prim.Native.Nat.{ℕ, _+_, _*_, _/_, _^_, _≤_, _<_}
+use mathlib.Core.Path.{_≡_, refl, sym, ap, _∙_}
+use mathlib.Core.Bool.{Bool, true, false}
+use mathlib.Core.List.{List, [], _∷_, _++_, map}
+use lib.ListN.{length, take, drop}
+use lib.Seq.{sets, length-sets}
+use native.Mathlib.Omega.{arith}
+use borrow.Author.Tests.{lt-ltb}
+use Rattle.model.specs.Lists.{_and_}
+use Rattle.model.specs.Layout.Format.{numberAt, concatMap}
+use Rattle.model.specs.Layout.Parts.{metricOf, metricCode}
+use Rattle.model.specs.Node.Held as held
+use Rattle.model.proofs.LayoutLaws.Data.{metric-of, metric-below}
+use Rattle.model.proofs.LayoutLaws.Tests.{and-intro}
+use Rattle.model.specs.declared.Peer.{Peer}
+use Rattle.model.specs.declared.Replica.{Replica}
+use Rattle.model.specs.declared.Role.{Role}
+use Rattle.model.specs.declared.Role.the-variants.{Backup, Primary}
+use Rattle.serve.specs.View.{viewExpiry}
+use Rattle.serve.specs.declared.Expiry.{Expiry}
+use Rattle.serve.specs.declared.Expiry.the-variants.{Never, At}
+use Rattle.node.specs.declared.Held.{Held}
+use Rattle.header.specs.View.{Stores, viewKept, viewNode}
+use Rattle.header.specs.declared.Kept.{Kept}
+use Rattle.header.specs.declared.Node.{Node}
+use Rattle.image.specs.Shape.{Shape, Value, _▸_, u32, u64, Good, value}
+use Rattle.image.specs.Parts.{replicaOf, replicaValue}
+use Rattle.image.proofs.Back.{length-encode, value-encode, Holds, holds-stored, holds-kept, TableFits, length-table, table-back, table-codes}
+use Rattle.image.proofs.OfCodes.{flag-back, flag-small}
+use Rattle.headerimage.specs.Rows.{bitOf, weigh, peerFlags, peerOf, peerValue, roleOf, roleValue, heldOf, heldValue, keptF, keptOf, keptValue, keptAt, keptBytes, expiryOf, expiryCode, expiryTime}
+use Rattle.headerimage.specs.Image.{noKept, codesListed, nodeAt, headBytes, shardsBytes, headerPut}
+
+-- ---- parts
+
+bits : (a b c d : Bool)
+    → (bitOf (weigh a 1 + weigh b 2 + weigh c 4 + weigh d 8) ≡ a)
+    × (bitOf ((weigh a 1 + weigh b 2 + weigh c 4 + weigh d 8) / 2) ≡ b)
+    × (bitOf ((weigh a 1 + weigh b 2 + weigh c 4 + weigh d 8) / 4) ≡ c)
+    × (bitOf ((weigh a 1 + weigh b 2 + weigh c 4 + weigh d 8) / 8) ≡ d)
+bits false false false false = (refl, refl, refl, refl)
+bits false false false true = (refl, refl, refl, refl)
+bits false false true false = (refl, refl, refl, refl)
+bits false false true true = (refl, refl, refl, refl)
+bits false true false false = (refl, refl, refl, refl)
+bits false true false true = (refl, refl, refl, refl)
+bits false true true false = (refl, refl, refl, refl)
+bits false true true true = (refl, refl, refl, refl)
+bits true false false false = (refl, refl, refl, refl)
+bits true false false true = (refl, refl, refl, refl)
+bits true false true false = (refl, refl, refl, refl)
+bits true false true true = (refl, refl, refl, refl)
+bits true true false false = (refl, refl, refl, refl)
+bits true true false true = (refl, refl, refl, refl)
+bits true true true false = (refl, refl, refl, refl)
+bits true true true true = (refl, refl, refl, refl)
+
+peer-back : (p : Peer) → peerOf (peerValue p) ≡ p
+peer-back p = let b = bits (p .aligned) (p .behind) (p .proposing) (p .member) in rw (b .0, b .1, b .2, b .3)
+
+peers-back : (l : List Peer) → map peerOf (map peerValue l) ≡ l
+peers-back [] = refl
+peers-back (x ∷ l) = rw (peer-back x, peers-back l)
+
+replicas-back : (l : List Replica) → map replicaOf (map replicaValue l) ≡ l
+replicas-back [] = refl
+replicas-back (x ∷ l) = ap (λ (k : List Replica). x ∷ k) (replicas-back l)
+
+role-back : (r : Role) → roleOf (roleValue r) ≡ r
+role-back Backup = refl
+role-back (Primary e o) = refl
+
+role-small : (r : Role) → roleValue r .0 .0 < 2
+role-small Backup = omega arith
+role-small (Primary e o) = omega arith
+
+expiry-back : (e : Expiry) → expiryOf (expiryCode e) (expiryTime e) ≡ e
+expiry-back Never = refl
+expiry-back (At t) = refl
+
+expiry-small : (e : Expiry) → expiryCode e < 2
+expiry-small Never = omega arith
+expiry-small (At t) = omega arith
+
+-- ---- a held shard: its numbers and arrays are those of its types
+
+abbrev pub KeptFits : Kept → Type 0
+KeptFits x = Good keptF (keptValue x)
+
+kept-long : (x : Kept) → KeptFits x → length (keptBytes x) ≡ 1280
+unfolding keptBytes
+kept-long x g = length-encode keptF (keptValue x) g
+
+module _ (s : List ℕ) where
+  kept-value : (x : Kept) (at : ℕ) (t : List ℕ) → KeptFits x → drop at s ≡ keptBytes x ++ t → value keptF s at ≡ keptValue x
+  unfolding keptBytes
+  kept-value x at t g e = value-encode keptF (keptValue x) s at t g e
+
+  kept-back : (x : Kept) (at : ℕ) (t : List ℕ) → KeptFits x → drop at s ≡ keptBytes x ++ t → keptAt s at ≡ x
+  unfolding keptAt
+  kept-back x at t g e =
+      ap keptOf (kept-value x at t g e)
+      ∙ (rw (metric-of (x .held .metric), flag-back (x .held .own), role-back (x .held .role), replicas-back (x .held .replicas), peers-back (x .held .peers)))
+
+  metric-code : (x : Kept) (at : ℕ) (t : List ℕ) → KeptFits x → drop at s ≡ keptBytes x ++ t → numberAt 4 s (at + 96) < 2
+  metric-code x at t g e =
+      let c : numberAt 4 s (at + 64 + 32) ≡ metricCode (x .held .metric) = ap (λ (v : Value keptF). v .1 .0 .0 .0 .0 .0 .1) (kept-value x at t g e) in
+      let q : at + 96 ≡ at + 64 + 32 = omega arith in
+      rw (q, c) (metric-below (x .held .metric))
+
+  own-code : (x : Kept) (at : ℕ) (t : List ℕ) → KeptFits x → drop at s ≡ keptBytes x ++ t → numberAt 4 s (at + 100) < 2
+  own-code x at t g e =
+      let c = ap (λ (v : Value keptF). v .1 .0 .0 .0 .0 .1) (kept-value x at t g e) in
+      let q : at + 100 ≡ at + 64 + 36 = omega arith in
+      rw (q, c) (flag-small (x .held .own))
+
+  role-code : (x : Kept) (at : ℕ) (t : List ℕ) → KeptFits x → drop at s ≡ keptBytes x ++ t → numberAt 4 s (at + 108) < 2
+  role-code x at t g e =
+      let c = ap (λ (v : Value keptF). v .1 .0 .0 .1 .0 .0) (kept-value x at t g e) in
+      let q : at + 108 ≡ at + 64 + 44 = omega arith in
+      rw (q, c) (role-small (x .held .role))
+
+-- ---- the whole header
+
+-- the count within its table; numbers and arrays of the shards in use as their types have them
+pub record Fits (n : Node) : Type 0 where
+  pub id : n .id .0 < 256 ^ 8
+  pub incarnation : n .incarnation < 256 ^ 8
+  pub version : n .version < 256 ^ 8
+  pub expiry : expiryTime (n .expiry) < 256 ^ 8
+  pub held : TableFits KeptFits 8 (n .count) (n .held)
+
+abbrev headF : Shape
+headF = u64 ▸ u64 ▸ u64 ▸ u64 ▸ u32 ▸ u32 ▸ u64
+
+abbrev headValue : Node → Value headF
+headValue n = ((((((n .id .0, n .incarnation), n .version), n .count), 0), expiryCode (n .expiry)), expiryTime (n .expiry))
+
+abbrev nodeOf : ℕ → ℕ → Expiry → ℕ → List held.Held → held.Node
+nodeOf i c e v l = record { id = i; incarnation = c; expiry = viewExpiry e; version = v; held = l }
+
+same-node : {i j c d v w : ℕ} {e f : Expiry} {l m : List held.Held} → i ≡ j → c ≡ d → e ≡ f → v ≡ w → l ≡ m → nodeOf i c e v l ≡ nodeOf j d f w m
+same-node p q r s t = rw (p, q, r, s, t)
+
+module _ (s : List ℕ) (n : Node) (room : 10288 ≤ length s) (fits : Fits n) where
+  head-held : Holds (headerPut s n) 0 (headBytes n)
+  unfolding headerPut
+  head-held =
+      let lh : length (headBytes n) ≡ 48 = refl in
+      holds-kept (sets s 0 (headBytes n)) 0 48 (headBytes n) (shardsBytes n) (holds-stored s 0 (headBytes n) (omega arith)) (omega arith)
+
+  shards-held : Holds (headerPut s n) 48 (shardsBytes n)
+  unfolding headerPut
+  shards-held =
+      let k = length-table KeptFits keptBytes 1280 kept-long 8 (n .count) (n .held) (fits .held) in
+      let c = fits .held .count in
+      let l : length (sets s 0 (headBytes n)) ≡ length s = length-sets s 0 (headBytes n) in
+      holds-stored (sets s 0 (headBytes n)) 48 (shardsBytes n) (omega arith)
+
+  head-back : value headF (headerPut s n) 0 ≡ headValue n
+  head-back =
+      let c = fits .held .count in
+      let e = expiry-small (n .expiry) in
+      value-encode headF (headValue n) (headerPut s n) 0 (head-held .tail)
+      ((((((fits .id, fits .incarnation), fits .version), omega arith), omega arith), omega arith), fits .expiry)
+      (head-held .here)
+
+  count-back : numberAt 8 (headerPut s n) 24 ≡ n .count
+  count-back = ap (λ (v : Value headF). v .0 .0 .0 .1) head-back
+
+  -- what was written lends a header
+  pub codes-listed : codesListed (headerPut s n) ≡ true
+  unfolding codesListed
+  codes-listed =
+      let w = headerPut s n in
+      let e : numberAt 4 w 36 ≡ expiryCode (n .expiry) = ap (λ (v : Value headF). v .0 .1) head-back in
+      let h : numberAt 4 w 36 < 2 = rw e (expiry-small (n .expiry)) in
+      and-intro
+      (and-intro (lt-ltb (numberAt 4 w 36) 2 h) refl)
+      (and-intro
+      (table-codes KeptFits keptBytes 1280 kept-long 8 (n .count) (n .held) (fits .held) w 48 2 96 (metric-code w) shards-held (numberAt 8 w 24) count-back)
+      (and-intro
+      (table-codes KeptFits keptBytes 1280 kept-long 8 (n .count) (n .held) (fits .held) w 48 2 100 (own-code w) shards-held (numberAt 8 w 24) count-back)
+      (table-codes KeptFits keptBytes 1280 kept-long 8 (n .count) (n .held) (fits .held) w 48 2 108 (role-code w) shards-held (numberAt 8 w 24) count-back)))
+
+  -- and the header that it lends is the one written
+  pub header-back : (st : Stores) → viewNode st (nodeAt (headerPut s n)) ≡ viewNode st n
+  unfolding nodeAt
+  header-back st =
+      let w = headerPut s n in
+      let c = ap (λ (v : Value headF). v .0 .1) head-back in
+      let t = ap (λ (v : Value headF). v .1) head-back in
+      same-node
+      (ap (λ (v : Value headF). v .0 .0 .0 .0 .0 .0) head-back)
+      (ap (λ (v : Value headF). v .0 .0 .0 .0 .0 .1) head-back)
+      (ap (λ (k : ℕ). expiryOf k (numberAt 8 w 40)) c ∙ ap (expiryOf (expiryCode (n .expiry))) t ∙ expiry-back (n .expiry))
+      (ap (λ (v : Value headF). v .0 .0 .0 .0 .1) head-back)
+      (ap (map (viewKept st)) (table-back KeptFits keptBytes 1280 kept-long 8 (n .count) (n .held) (fits .held) w 48 (keptAt w) noKept (kept-back w) shards-held (numberAt 8 w 24) count-back))

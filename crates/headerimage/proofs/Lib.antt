@@ -1,0 +1,2 @@
+pub mod OfImage
+pub mod Back

@@ -1,0 +1,20 @@
+-- `no_node` meets its contract. Assumes nothing.
+use borrow.Author.Needs.{needs}
+use native.Mathlib.Omega.{arith}
+use mathlib.Core.Path.{_≡_, refl, sym, _∙_, ap}
+use mathlib.Core.List.{List, [], _∷_, _++_, map}
+use Prim.Native.Nat.{ℕ, _+_, _-_, _*_, _≤_, _<_}
+use lib.ListN.{length, getD, take, drop, set, length-set}
+use Rattle.headerimage.specs.Image.{noNode}
+use Rattle.headerimage.proofs.no_node.Statement.{statement}
+use Rattle.headerimage.proofs.no_node.Tie as tie
+
+no-kept-requires : tie.Need-no-kept-requires
+no-kept-requires c κs = search needs
+
+returns : tie.Need-returns
+unfolding noNode
+returns c = rw (c .no-kept .ensures)
+
+pub no-node-spec : {M : Type 1} → statement M
+no-node-spec = tie.close (tie.spec no-kept-requires returns)

@@ -1,0 +1,95 @@
+-- A header's image (docs/IMAGES.md): 48 bytes, then 8 held shards of 1280 bytes, 10288 bytes in all. Only the shards in use are read and
+-- written. Definitions only.
+use Prim.Native.Nat.{ℕ}
+use mathlib.Core.Bool.{Bool, false, cond}
+use mathlib.Core.List.{List, _++_}
+use lib.ListN.{length, take, replicate}
+use lib.Dec.{leb}
+use lib.Seq.{sets}
+use Rattle.model.specs.Lists.{_and_}
+use Rattle.model.specs.Layout.Format.{numberAt, bytesOf, concatMap}
+use Rattle.model.specs.declared.Metric.the-variants.{Euclidean}
+use Rattle.model.specs.declared.Role.the-variants.{Backup}
+use Rattle.model.specs.declared.Peer.{Peer}
+use Rattle.serve.specs.declared.Expiry.the-variants.{Never}
+use Rattle.header.specs.declared.Kept.{Kept}
+use Rattle.header.specs.declared.Node.{Node}
+use Rattle.headerimage.specs.declared.Lent.{Lent}
+use Rattle.image.specs.Shape.{inUse, rowsAt, codesBelow}
+use Rattle.image.specs.Codes.{idOf, epochOf}
+use Rattle.image.specs.Parts.{noKey, noReplica}
+use Rattle.headerimage.specs.Rows.{offsetOf, expiryOf, expiryCode, expiryTime, keptAt, keptBytes}
+
+-- ---- rows that say nothing
+
+abbrev pub noPeer : Peer
+noPeer = record { node = idOf 0; acked = offsetOf 0; aligned = false; behind = false; since = 0; proposing = false; member = false }
+
+unfoldable pub noKept : Kept
+noKept = record {
+  key = noKey;
+  slot = 0;
+  stored = 0;
+  held = record {
+    epoch = epochOf 0;
+    metric = Euclidean;
+    last = 0;
+    role = Backup;
+    own = false;
+    replicas = replicate 8 noReplica;
+    holders = 0;
+    peers = replicate 32 noPeer;
+    count = 0;
+  };
+}
+
+-- a header without shards
+unfoldable pub noNode : Node
+noNode = record { id = idOf 0; incarnation = 0; expiry = Never; version = 0; held = replicate 8 noKept; count = 0 }
+
+-- ---- what the bytes are read as
+
+abbrev pub shardsAt : List ℕ → List Kept
+shardsAt s = rowsAt 8 (inUse 8 (numberAt 8 s 24)) (keptAt s) noKept 1280 48
+
+unfoldable pub nodeAt : List ℕ → Node
+nodeAt s = record {
+  id = idOf (numberAt 8 s 0);
+  incarnation = numberAt 8 s 8;
+  expiry = expiryOf (numberAt 4 s 36) (numberAt 8 s 40);
+  version = numberAt 8 s 16;
+  held = shardsAt s;
+  count = numberAt 8 s 24;
+}
+
+-- every code is listed: the lease's end, and of each shard in use its metric, own and role
+unfoldable pub codesListed : List ℕ → Bool
+codesListed s =
+    codesBelow 2 4 s 1 36
+    and (codesBelow 2 1280 s (inUse 8 (numberAt 8 s 24)) 144
+    and (codesBelow 2 1280 s (inUse 8 (numberAt 8 s 24)) 148 and codesBelow 2 1280 s (inUse 8 (numberAt 8 s 24)) 156))
+
+-- a header is lent: the buffer holds an image, in which every code is listed
+unfoldable pub headerLent : List ℕ → Bool
+headerLent s = leb 10288 (length s) and codesListed s
+
+abbrev pub lentHeader : List ℕ → Lent
+lentHeader s = record { found = headerLent s; node = cond (headerLent s) (nodeAt s) noNode }
+
+-- ---- what a write makes of an image: the shards in use are stored, all other bytes stay
+
+abbrev pub headBytes : Node → List ℕ
+headBytes n =
+    (((((bytesOf 8 (n .id .0) ++ bytesOf 8 (n .incarnation)) ++ bytesOf 8 (n .version)) ++ bytesOf 8 (n .count)) ++ bytesOf 4 0)
+    ++ bytesOf 4 (expiryCode (n .expiry)))
+    ++ bytesOf 8 (expiryTime (n .expiry))
+
+abbrev pub shardsBytes : Node → List ℕ
+shardsBytes n = concatMap keptBytes (take (n .count) (n .held))
+
+unfoldable pub headerPut : List ℕ → Node → List ℕ
+headerPut s n = sets (sets s 0 (headBytes n)) 48 (shardsBytes n)
+
+-- a buffer that is shorter than an image stays as it was
+unfoldable pub headerWritten : List ℕ → Node → List ℕ
+headerWritten s n = cond (leb 10288 (length s)) (headerPut s n) s
