@@ -28,7 +28,7 @@ use Rattle.header.specs.declared.Node.{Node}
 use Rattle.image.specs.Shape.{Shape, Value, _▸_, u32, u64, Good, value}
 use Rattle.image.specs.Parts.{replicaOf, replicaValue}
 use Rattle.image.proofs.Back.{length-encode, value-encode, Holds, holds-stored, holds-kept, TableFits, length-table, table-back, table-codes}
-use Rattle.image.proofs.OfCodes.{flag-back, flag-small}
+use Rattle.image.proofs.OfCodes.{flag-back, flag-small, replicas-back}
 use Rattle.headerimage.specs.Rows.{bitOf, weigh, peerFlags, peerOf, peerValue, roleOf, roleValue, heldOf, heldValue, keptF, keptOf, keptValue, keptAt, keptBytes, expiryOf, expiryCode, expiryTime}
 use Rattle.headerimage.specs.Image.{noKept, codesListed, nodeAt, headBytes, shardsBytes, headerPut}
 
@@ -62,10 +62,6 @@ peer-back p = let b = bits (p .aligned) (p .behind) (p .proposing) (p .member) i
 peers-back : (l : List Peer) → map peerOf (map peerValue l) ≡ l
 peers-back [] = refl
 peers-back (x ∷ l) = rw (peer-back x, peers-back l)
-
-replicas-back : (l : List Replica) → map replicaOf (map replicaValue l) ≡ l
-replicas-back [] = refl
-replicas-back (x ∷ l) = ap (λ (k : List Replica). x ∷ k) (replicas-back l)
 
 role-back : (r : Role) → roleOf (roleValue r) ≡ r
 role-back Backup = refl

@@ -1,3 +1,4 @@
 pub mod Images
+pub mod Tests
 pub mod OfCodes
 pub mod Back

@@ -2,8 +2,11 @@
 use Prim.Native.Nat.{ℕ, zero, suc, _<_}
 use native.Mathlib.Omega.{arith}
 use mathlib.Core.Bool.{Bool, true, false}
-use mathlib.Core.Path.{_≡_, refl}
+use mathlib.Core.Path.{_≡_, refl, ap}
+use mathlib.Core.List.{List, [], _∷_, map}
 use Rattle.model.specs.Layout.Parts.{metricOf}
+use Rattle.model.specs.declared.DataNodeId.{DataNodeId}
+use Rattle.model.specs.declared.Replica.{Replica}
 use Rattle.model.specs.declared.Metric.{Metric}
 use Rattle.model.specs.declared.Metric.the-variants.{Angular}
 use Rattle.state.specs.declared.Rejection.{Rejection}
@@ -29,7 +32,8 @@ use Rattle.state.specs.declared.Outcome.{Outcome}
 use Rattle.state.specs.declared.Outcome.the-variants.{Applied, Rejected}
 use Rattle.state.specs.declared.Primary.{Primary}
 use Rattle.state.specs.declared.Primary.the-variants.{Nobody, At}
-use Rattle.image.specs.Codes.{flagOf, flagCode, primaryOf, primaryCode, primaryNode, coded, rejectionOf, outcomeOf, rejectionCoded, outcomeCoded}
+use Rattle.image.specs.Parts.{replicaOf, replicaValue, idValue}
+use Rattle.image.specs.Codes.{idOf, flagOf, flagCode, primaryOf, primaryCode, primaryNode, coded, rejectionOf, outcomeOf, rejectionCoded, outcomeCoded}
 
 pub angular : (n : ℕ) → (n ≡ 0 → ⊥) → Angular ≡ metricOf n
 angular zero h = absurd (h refl)
@@ -119,3 +123,13 @@ rejection-small (AlreadyInSync a) = omega arith
 pub outcome-small : (o : Outcome) → outcomeCoded o .code < 17
 outcome-small Applied = omega arith
 outcome-small (Rejected r) = rejection-small r
+
+-- ---- copies of a shard, and ids, as values and back
+
+pub replicas-back : (l : List Replica) → map replicaOf (map replicaValue l) ≡ l
+replicas-back [] = refl
+replicas-back (x ∷ l) = ap (λ (k : List Replica). x ∷ k) (replicas-back l)
+
+pub ids-back : (l : List DataNodeId) → map idOf (map idValue l) ≡ l
+ids-back [] = refl
+ids-back (x ∷ l) = ap (λ (k : List DataNodeId). x ∷ k) (ids-back l)

@@ -25,7 +25,7 @@ use Rattle.image.specs.Shape.{Shape, Value, _▸_, u64, Good, value}
 use Rattle.image.specs.Codes.{idOf}
 use Rattle.image.specs.Parts.{replicaOf, replicaValue, idValue}
 use Rattle.image.proofs.Back.{length-encode, value-encode, Holds, holds-stored, holds-kept, TableFits, length-table, table-back, table-codes}
-use Rattle.image.proofs.OfCodes.{flag-back, flag-small, primary-back, primary-small, outcome-back, outcome-small}
+use Rattle.image.proofs.OfCodes.{flag-back, flag-small, primary-back, primary-small, outcome-back, outcome-small, replicas-back, ids-back}
 use Rattle.mapimage.specs.Rows.{nodeF, nodeOf, nodeValue, nodeAt, nodeBytes, collectionF, collectionOf, collectionValue, collectionAt, collectionBytes, shardF, shardOf, shardValue, shardAt, shardBytes, sessionF, sessionOf, sessionValue, sessionAt, sessionBytes}
 use Rattle.mapimage.specs.Image.{noNode, noCollection, noShard, noSession, codesListed, mapAt, headBytes, nodesBytes, collectionsBytes, shardsBytes, sessionsBytes, mapPut}
 
@@ -74,14 +74,6 @@ module _ (s : List ℕ) where
   shard-value : (r : ShardRow) (at : ℕ) (t : List ℕ) → ShardFits r → drop at s ≡ shardBytes r ++ t → value shardF s at ≡ shardValue r
   unfolding shardBytes
   shard-value r at t g e = value-encode shardF (shardValue r) s at t g e
-
-  replicas-back : (l : List Replica) → map replicaOf (map replicaValue l) ≡ l
-  replicas-back [] = refl
-  replicas-back (x ∷ l) = ap (λ (k : List Replica). x ∷ k) (replicas-back l)
-
-  ids-back : (l : List DataNodeId) → map idOf (map idValue l) ≡ l
-  ids-back [] = refl
-  ids-back (x ∷ l) = ap (λ (k : List DataNodeId). x ∷ k) (ids-back l)
 
   shard-back : (r : ShardRow) (at : ℕ) (t : List ℕ) → ShardFits r → drop at s ≡ shardBytes r ++ t → shardAt s at ≡ r
   unfolding shardAt

@@ -8,6 +8,7 @@ use lib.Dec.{leb}
 use borrow.Author.Tests.{le-leb, lt-leb}
 use Rattle.model.specs.Lists.{_and_}
 use Rattle.model.proofs.LayoutLaws.Tests.{and-true, and-false}
+use Rattle.image.proofs.Tests.{none-of-last}
 use Rattle.model.specs.declared.Metric.the-variants.{Euclidean}
 use Rattle.state.proofs.Defaults as defaults
 use Rattle.state.specs.declared.NodeRow.{NodeRow}
@@ -33,25 +34,6 @@ pastCollection = record {
 
 abbrev pub pastSession : SessionRow
 pastSession = record { client = 0; seq = 0; outcome = Applied; key = record { collection = record { bytes = []; len = 0 }; shard = 0 } }
-
--- ---- four tests in a row
-
-module _ (a b c d : Bool) where
-  pub none-of-first : a ≡ false → false ≡ (a and (b and (c and d)))
-  none-of-first e = rw e (sym (and-false _))
-
-  pub none-of-second : a ≡ true → b ≡ false → false ≡ (a and (b and (c and d)))
-  none-of-second e f = rw (e, f) (sym (and-true _ ∙ and-false _))
-
-  pub none-of-third : a ≡ true → b ≡ true → c ≡ false → false ≡ (a and (b and (c and d)))
-  none-of-third e f g = rw (e, f, g) (sym (and-true _ ∙ and-true _ ∙ and-false _))
-
-  pub all-of : a ≡ true → b ≡ true → c ≡ true → d ≡ (a and (b and (c and d)))
-  all-of e f g = rw (e, f, g) (sym (and-true _ ∙ and-true _ ∙ and-true _))
-
-none-of-last : (b : Bool) → (b and false) ≡ false
-none-of-last true = and-true false
-none-of-last false = and-false false
 
 -- ---- whether a buffer lends a map
 

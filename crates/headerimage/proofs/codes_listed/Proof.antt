@@ -8,7 +8,7 @@ use lib.ListN.{length, getD, take, drop, set, length-set}
 use borrow.Author.Tests.{not-true, not-false}
 use Rattle.image.specs.Shape.{codesBelow}
 use Rattle.headerimage.specs.Image.{codesListed}
-use Rattle.headerimage.proofs.OfImage.{none-of-first, none-of-second, none-of-third, all-of}
+use Rattle.image.proofs.Tests.{none-of-first, none-of-second, none-of-third, all-of}
 use Rattle.headerimage.proofs.codes_listed.Statement.{statement}
 use Rattle.headerimage.proofs.codes_listed.Tie as tie
 

@@ -7,7 +7,7 @@ use Prim.Native.Nat.{ℕ, _+_, _-_, _*_, _≤_, _<_}
 use lib.ListN.{length, getD, take, drop, set, length-set}
 use borrow.Author.Tests.{not-true, not-false}
 use Rattle.mapimage.specs.Image.{codesListed}
-use Rattle.mapimage.proofs.OfImage.{none-of-first, none-of-second, none-of-third, all-of}
+use Rattle.image.proofs.Tests.{none-of-first, none-of-second, none-of-third, all-of}
 use Rattle.mapimage.proofs.codes_listed.Statement.{statement}
 use Rattle.mapimage.proofs.codes_listed.Tie as tie
 

@@ -36,7 +36,7 @@ address-at-requires c κs = search needs
 
 returns : tie.Need-returns
 unfolding nodeAt addressAt
-returns c = rw (c .before .before .before .before .get8 .ensures, c .before .before .before .get82 .ensures, c .before .flag-of .ensures, c .before .before .get4 .ensures, c .address-at .ensures)
+returns c = rw (c .before .before .before .before .get8 .ensures, c .before .before .before .get82 .ensures, c .before .flag-of .ensures, c .before .before .get4 .ensures, c .address-at .ensures) refl
 
 pub node-at-spec : {M : Type 1} → statement M
 node-at-spec = tie.close (tie.spec get8-requires add-get8 get8-requires-2 add-get4 get4-requires flag-of-requires add-address-at address-at-requires returns)
