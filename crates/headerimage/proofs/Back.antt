@@ -1,21 +1,19 @@
 -- A header that was written is read back, whatever the image held before: every code is listed, and the header that the bytes are read as
 -- is the one written, whatever the stores hold. Assumes nothing.
-use Prim.Native.Nat.{ℕ, _+_, _*_, _/_, _^_, _≤_, _<_}
-use mathlib.Core.Path.{_≡_, refl, sym, ap, _∙_}
+use Prim.Native.Nat.{ℕ, _+_, _/_, _^_, _≤_, _<_}
+use mathlib.Core.Path.{_≡_, refl, ap, _∙_}
 use mathlib.Core.Bool.{Bool, true, false}
 use mathlib.Core.List.{List, [], _∷_, _++_, map}
-use lib.ListN.{length, take, drop}
+use lib.ListN.{length, drop}
 use lib.Seq.{sets, length-sets}
 use native.Mathlib.Omega.{arith}
 use borrow.Author.Tests.{lt-ltb}
-use Rattle.model.specs.Lists.{_and_}
-use Rattle.model.specs.Layout.Format.{numberAt, concatMap}
-use Rattle.model.specs.Layout.Parts.{metricOf, metricCode}
+use Rattle.model.specs.Layout.Format.{numberAt}
+use Rattle.model.specs.Layout.Parts.{metricCode}
 use Rattle.model.specs.Node.Held as held
 use Rattle.model.proofs.LayoutLaws.Data.{metric-of, metric-below}
 use Rattle.model.proofs.LayoutLaws.Tests.{and-intro}
 use Rattle.model.specs.declared.Peer.{Peer}
-use Rattle.model.specs.declared.Replica.{Replica}
 use Rattle.model.specs.declared.Role.{Role}
 use Rattle.model.specs.declared.Role.the-variants.{Backup, Primary}
 use Rattle.serve.specs.View.{viewExpiry}
@@ -26,10 +24,9 @@ use Rattle.header.specs.View.{Stores, viewKept, viewNode}
 use Rattle.header.specs.declared.Kept.{Kept}
 use Rattle.header.specs.declared.Node.{Node}
 use Rattle.image.specs.Shape.{Shape, Value, _▸_, u32, u64, Good, value}
-use Rattle.image.specs.Parts.{replicaOf, replicaValue}
 use Rattle.image.proofs.Back.{length-encode, value-encode, Holds, holds-stored, holds-kept, TableFits, length-table, table-back, table-codes}
 use Rattle.image.proofs.OfCodes.{flag-back, flag-small, replicas-back}
-use Rattle.headerimage.specs.Rows.{bitOf, weigh, peerFlags, peerOf, peerValue, roleOf, roleValue, heldOf, heldValue, keptF, keptOf, keptValue, keptAt, keptBytes, expiryOf, expiryCode, expiryTime}
+use Rattle.headerimage.specs.Rows.{bitOf, weigh, peerOf, peerValue, roleOf, roleValue, keptF, keptOf, keptValue, keptAt, keptBytes, expiryOf, expiryCode, expiryTime}
 use Rattle.headerimage.specs.Image.{noKept, codesListed, nodeAt, headBytes, shardsBytes, headerPut}
 
 -- ---- parts

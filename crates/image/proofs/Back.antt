@@ -1,15 +1,14 @@
 -- What is stored in an image is read from it, for every shape, and what lies elsewhere is as it was. Assumes nothing.
-use Prim.Native.Nat.{ℕ, zero, suc, _+_, _-_, _*_, _^_, _≤_, _<_}
+use Prim.Native.Nat.{ℕ, zero, suc, _+_, _-_, _*_, _≤_, _<_}
 use mathlib.Core.Path.{_≡_, refl, sym, ap, _∙_}
-use mathlib.Core.Bool.{Bool, true, false}
+use mathlib.Core.Bool.{true}
 use mathlib.Core.List.{List, [], _∷_, _++_, append-assoc}
-use lib.ListN.{length, getD, take, drop, set, replicate, length-append}
+use lib.ListN.{length, take, drop, set, replicate, length-append}
 use lib.Seq.{sets, sets-eq, drop-at, length-take-le}
 use borrow.Author.Tests.{lt-ltb, le-leb}
 use native.Mathlib.Omega.{arith}
 use native.Mathlib.Nat.{zero-add}
-use Rattle.model.specs.Lists.{_and_}
-use Rattle.model.specs.Layout.Format.{bytesOf, numberAt, concatMap, All}
+use Rattle.model.specs.Layout.Format.{numberAt, concatMap, All}
 use Rattle.model.proofs.LayoutLaws.Tests.{and-intro}
 use Rattle.model.proofs.LayoutLaws.Bytes.{cut, cut-append, number-bytes, length-bytes}
 use Rattle.image.specs.Shape.{Shape, byte, word, _▸_, rep, Value, size, items, value, encode, Good, inUse, rowsAt, codesBelow}

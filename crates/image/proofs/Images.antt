@@ -1,21 +1,20 @@
 -- Stores one after another, and the steps of the loops over rows. Assumes nothing.
-use Prim.Native.Nat.{ℕ, zero, suc, _+_, _-_, _*_, _^_, _≤_, _<_}
+use Prim.Native.Nat.{ℕ, zero, suc, _+_, _-_, _*_, _≤_, _<_}
 use mathlib.Core.Path.{_≡_, refl, sym, ap, subst, _∙_}
 use mathlib.Core.Bool.{Bool, true, false}
-use mathlib.Core.Logic.{_⊎_, inl, inr, ⊎-elim}
 use mathlib.Core.List.{List, [], _∷_, _++_, map, append-assoc, append-nil}
-use lib.ListN.{length, getD, take, drop, set, replicate, length-append, length-drop, length-take}
-use lib.Seq.{sets, sets-eq, drop-cons, drop-at, drop-length, getD-take, take-all, length-take-le, getD-set-other}
+use lib.ListN.{length, getD, take, drop, set, replicate, length-append}
+use lib.Seq.{sets, drop-cons, drop-length, getD-take, take-all, length-take-le}
 use borrow.Author.Tests.{lt-ltb, le-ltb, leb-true, leb-false}
 use lib.Dec.{leb, ltb}
 use native.Mathlib.Omega.{arith}
 use native.Mathlib.Numerals.{add-one}
 use native.Mathlib.Nat.{add-zero, sub-zero, add-suc, suc-add, mul-suc, mul-le-mul}
 use Rattle.model.specs.Lists.{_and_}
-use Rattle.model.specs.Layout.Format.{bytesOf, numberAt, concatMap, All}
+use Rattle.model.specs.Layout.Format.{bytesOf, numberAt, concatMap}
 use Rattle.model.proofs.LayoutLaws.Tests.{and-true, and-false}
-use Rattle.model.proofs.LayoutLaws.Bytes.{cut, cut-append, number-bytes, length-bytes}
-use Rattle.image.specs.Shape.{Shape, byte, word, _▸_, rep, Value, size, items, value, encode, Good, inUse, rowsAt, codesBelow, Stored}
+use Rattle.model.proofs.LayoutLaws.Bytes.{length-bytes}
+use Rattle.image.specs.Shape.{byte, items, encode, inUse, rowsAt, codesBelow, Stored}
 
 -- ---- stores one after another
 

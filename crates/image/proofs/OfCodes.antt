@@ -7,7 +7,6 @@ use mathlib.Core.List.{List, [], _∷_, map}
 use Rattle.model.specs.Layout.Parts.{metricOf}
 use Rattle.model.specs.declared.DataNodeId.{DataNodeId}
 use Rattle.model.specs.declared.Replica.{Replica}
-use Rattle.model.specs.declared.Metric.{Metric}
 use Rattle.model.specs.declared.Metric.the-variants.{Angular}
 use Rattle.state.specs.declared.Rejection.{Rejection}
 use Rattle.state.specs.declared.Rejection.the-variants.{

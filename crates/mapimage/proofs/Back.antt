@@ -1,20 +1,16 @@
 -- A map that was written is read back, whatever the image held before: every code is listed, and the map that the bytes are read as is the
 -- one written. Assumes nothing.
-use Prim.Native.Nat.{ℕ, _+_, _*_, _^_, _≤_, _<_}
-use mathlib.Core.Path.{_≡_, refl, sym, ap, _∙_}
-use mathlib.Core.Bool.{Bool, true}
-use mathlib.Core.List.{List, [], _∷_, _++_, map}
-use lib.ListN.{length, take, drop}
+use Prim.Native.Nat.{ℕ, _+_, _^_, _≤_, _<_}
+use mathlib.Core.Path.{_≡_, refl, ap, _∙_}
+use mathlib.Core.Bool.{true}
+use mathlib.Core.List.{List, _++_, map}
+use lib.ListN.{length, drop}
 use lib.Seq.{sets, length-sets}
 use native.Mathlib.Omega.{arith}
-use Rattle.model.specs.Lists.{_and_}
-use Rattle.model.specs.Layout.Format.{numberAt, concatMap}
-use Rattle.model.specs.Layout.Parts.{metricOf, metricCode}
+use Rattle.model.specs.Layout.Format.{numberAt}
 use Rattle.model.specs.Map.Tables as tables
 use Rattle.model.proofs.LayoutLaws.Data.{metric-of, metric-below}
 use Rattle.model.proofs.LayoutLaws.Tests.{and-intro}
-use Rattle.model.specs.declared.DataNodeId.{DataNodeId}
-use Rattle.model.specs.declared.Replica.{Replica}
 use Rattle.state.specs.View.{viewNode, viewCollection, viewShard, viewSession, viewMap}
 use Rattle.state.specs.declared.NodeRow.{NodeRow}
 use Rattle.state.specs.declared.CollectionRow.{CollectionRow}
@@ -22,8 +18,6 @@ use Rattle.state.specs.declared.ShardRow.{ShardRow}
 use Rattle.state.specs.declared.SessionRow.{SessionRow}
 use Rattle.state.specs.declared.ShardMap.{ShardMap}
 use Rattle.image.specs.Shape.{Shape, Value, _▸_, u64, Good, value}
-use Rattle.image.specs.Codes.{idOf}
-use Rattle.image.specs.Parts.{replicaOf, replicaValue, idValue}
 use Rattle.image.proofs.Back.{length-encode, value-encode, Holds, holds-stored, holds-kept, TableFits, length-table, table-back, table-codes}
 use Rattle.image.proofs.OfCodes.{flag-back, flag-small, primary-back, primary-small, outcome-back, outcome-small, replicas-back, ids-back}
 use Rattle.mapimage.specs.Rows.{nodeF, nodeOf, nodeValue, nodeAt, nodeBytes, collectionF, collectionOf, collectionValue, collectionAt, collectionBytes, shardF, shardOf, shardValue, shardAt, shardBytes, sessionF, sessionOf, sessionValue, sessionAt, sessionBytes}

@@ -1,12 +1,11 @@
 -- What the whole image's functions come to, case by case; and the rows that stand for a place past an array's end. Assumes nothing.
 use Prim.Native.Nat.{ℕ, _≤_, _<_}
-use mathlib.Core.Path.{_≡_, refl, sym, _∙_}
+use mathlib.Core.Path.{_≡_, refl}
 use mathlib.Core.Bool.{Bool, true, false}
 use mathlib.Core.List.{List, []}
 use lib.ListN.{length}
 use lib.Dec.{leb}
 use borrow.Author.Tests.{le-leb, lt-leb}
-use Rattle.model.specs.Lists.{_and_}
 use Rattle.model.proofs.LayoutLaws.Tests.{and-true, and-false}
 use Rattle.image.proofs.Tests.{none-of-last}
 use Rattle.model.specs.declared.Metric.the-variants.{Euclidean}

@@ -2,20 +2,15 @@
 -- (`..Of`), and the value that a row is written as (`..Value`). Definitions only.
 use Prim.Native.Nat.{ℕ, _+_}
 use mathlib.Core.List.{List, map}
-use Rattle.model.specs.Layout.Format.{numberAt, bytesOf}
+use Rattle.model.specs.Layout.Format.{numberAt}
 use Rattle.model.specs.Layout.Parts.{metricOf, metricCode}
-use Rattle.model.specs.declared.DataNodeId.{DataNodeId}
-use Rattle.model.specs.declared.Replica.{Replica}
-use Rattle.state.specs.declared.Name.{Name}
-use Rattle.state.specs.declared.Address.{Address}
-use Rattle.state.specs.declared.ShardKey.{ShardKey}
 use Rattle.state.specs.declared.NodeRow.{NodeRow}
 use Rattle.state.specs.declared.CollectionRow.{CollectionRow}
 use Rattle.state.specs.declared.Holders.{Holders}
 use Rattle.state.specs.declared.InSync.{InSync}
 use Rattle.state.specs.declared.ShardRow.{ShardRow}
 use Rattle.state.specs.declared.SessionRow.{SessionRow}
-use Rattle.image.specs.Shape.{Shape, Value, byte, rep, _▸_, u32, u64, value, encode}
+use Rattle.image.specs.Shape.{Shape, Value, rep, _▸_, u32, u64, value, encode}
 use Rattle.image.specs.Parts.{nameF, nameOf, nameValue, addressF, addressOf, addressValue, keyF, keyOf, keyValue, replicaF, replicaOf, replicaValue, idValue, replicasAt, idsAt}
 use Rattle.image.specs.Codes.{idOf, epochOf, flagOf, flagCode, primaryOf, primaryCode, primaryNode, coded, outcomeOf, outcomeCoded}
 

@@ -1,10 +1,6 @@
 -- `write_header` meets its contract. Assumes nothing.
 use borrow.Author.Needs.{needs}
-use native.Mathlib.Omega.{arith}
-use mathlib.Core.Path.{_≡_, refl, sym, _∙_, ap}
-use mathlib.Core.List.{List, [], _∷_, _++_, map}
-use Prim.Native.Nat.{ℕ, _+_, _-_, _*_, _≤_, _<_}
-use lib.ListN.{length, getD, take, drop, set, length-set}
+use mathlib.Core.Path.{_∙_}
 use Rattle.headerimage.proofs.OfImage.{written-long, written-short}
 use Rattle.headerimage.proofs.write_header.Statement.{statement}
 use Rattle.headerimage.proofs.write_header.Tie as tie

@@ -1,11 +1,6 @@
 -- `put_head` meets its contract. Assumes nothing.
 use borrow.Author.Needs.{needs}
-use native.Mathlib.Omega.{arith}
-use mathlib.Core.Path.{_≡_, refl, sym, _∙_, ap}
-use mathlib.Core.List.{List, [], _∷_, _++_, map}
-use Prim.Native.Nat.{ℕ, _+_, _-_, _*_, _≤_, _<_}
-use lib.ListN.{length, getD, take, drop, set, length-set}
-use Rattle.image.proofs.Images.{stored-then, stored-word, stored-as}
+use Rattle.image.proofs.Images.{stored-then, stored-word}
 use Rattle.mapimage.proofs.put_head.Statement.{statement}
 use Rattle.mapimage.proofs.put_head.Tie as tie
 

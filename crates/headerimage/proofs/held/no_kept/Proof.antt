@@ -1,10 +1,6 @@
 -- `held::no_kept` meets its contract. Assumes nothing.
 use borrow.Author.Needs.{needs}
-use native.Mathlib.Omega.{arith}
-use mathlib.Core.Path.{_≡_, refl, sym, _∙_, ap}
-use mathlib.Core.List.{List, [], _∷_, _++_, map}
-use Prim.Native.Nat.{ℕ, _+_, _-_, _*_, _≤_, _<_}
-use lib.ListN.{length, getD, take, drop, set, length-set}
+use mathlib.Core.Path.{refl}
 use Rattle.headerimage.specs.Image.{noKept}
 use Rattle.headerimage.proofs.held.no_kept.Statement.{statement}
 use Rattle.headerimage.proofs.held.no_kept.Tie as tie

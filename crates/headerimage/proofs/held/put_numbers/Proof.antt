@@ -1,10 +1,5 @@
 -- `held::put_numbers` meets its contract. Assumes nothing.
 use borrow.Author.Needs.{needs}
-use native.Mathlib.Omega.{arith}
-use mathlib.Core.Path.{_≡_, refl, sym, _∙_, ap}
-use mathlib.Core.List.{List, [], _∷_, _++_, map}
-use Prim.Native.Nat.{ℕ, _+_, _-_, _*_, _≤_, _<_}
-use lib.ListN.{length, getD, take, drop, set, length-set}
 use Rattle.model.specs.Layout.Parts.{metricCode}
 use Rattle.image.specs.Codes.{flagCode}
 use Rattle.headerimage.specs.Rows.{numbersBytes}

@@ -2,12 +2,11 @@
 use borrow.Author.Needs.{needs}
 use native.Mathlib.Omega.{arith}
 use mathlib.Core.Path.{_≡_, refl, sym, _∙_, ap}
-use mathlib.Core.List.{List, [], _∷_, _++_, map}
-use Prim.Native.Nat.{ℕ, _+_, _-_, _*_, _≤_, _<_}
-use lib.ListN.{length, getD, take, drop, set, length-set}
+use Prim.Native.Nat.{ℕ, _-_, _≤_, _<_}
+use lib.ListN.{length, length-set}
 use Rattle.model.specs.Layout.Format.{numberAt}
 use Rattle.image.specs.Codes.{idOf}
-use Rattle.image.specs.Shape.{rowsAt, items, value}
+use Rattle.image.specs.Shape.{rowsAt}
 use Rattle.image.specs.Parts.{idsAt}
 use Rattle.image.proofs.Images.{rows-start, rows-step, rows-full, map-items}
 use Rattle.image.proofs.replicas.ids_at.Statement.{statement}

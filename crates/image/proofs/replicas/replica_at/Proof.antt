@@ -1,10 +1,6 @@
 -- `replicas::replica_at` meets its contract. Assumes nothing.
 use borrow.Author.Needs.{needs}
-use native.Mathlib.Omega.{arith}
-use mathlib.Core.Path.{_≡_, refl, sym, _∙_, ap}
-use mathlib.Core.List.{List, [], _∷_, _++_, map}
-use Prim.Native.Nat.{ℕ, _+_, _-_, _*_, _≤_, _<_}
-use lib.ListN.{length, getD, take, drop, set, length-set}
+use mathlib.Core.Path.{refl}
 use Rattle.image.specs.Parts.{replicaAt}
 use Rattle.image.proofs.replicas.replica_at.Statement.{statement}
 use Rattle.image.proofs.replicas.replica_at.Tie as tie

@@ -1,11 +1,10 @@
 -- `replicas::replicas_at` meets its contract. Assumes nothing.
 use borrow.Author.Needs.{needs}
 use native.Mathlib.Omega.{arith}
-use mathlib.Core.Path.{_≡_, refl, sym, _∙_, ap}
-use mathlib.Core.List.{List, [], _∷_, _++_, map}
-use Prim.Native.Nat.{ℕ, _+_, _-_, _*_, _≤_, _<_}
-use lib.ListN.{length, getD, take, drop, set, length-set}
-use Rattle.image.specs.Shape.{rowsAt, items, value}
+use mathlib.Core.Path.{_≡_, refl, sym, _∙_}
+use Prim.Native.Nat.{_-_, _≤_, _<_}
+use lib.ListN.{length, length-set}
+use Rattle.image.specs.Shape.{rowsAt, value}
 use Rattle.image.specs.Parts.{replicaF, replicaOf, replicaAt, replicasAt, noReplica}
 use Rattle.image.proofs.Images.{rows-start, rows-step, rows-full, map-items}
 use Rattle.image.proofs.replicas.replicas_at.Statement.{statement}

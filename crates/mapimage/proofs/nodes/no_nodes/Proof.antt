@@ -1,10 +1,6 @@
 -- `nodes::no_nodes` meets its contract. Assumes nothing.
 use borrow.Author.Needs.{needs}
-use native.Mathlib.Omega.{arith}
-use mathlib.Core.Path.{_≡_, refl, sym, _∙_, ap}
-use mathlib.Core.List.{List, [], _∷_, _++_, map}
-use Prim.Native.Nat.{ℕ, _+_, _-_, _*_, _≤_, _<_}
-use lib.ListN.{length, getD, take, drop, set, length-set}
+use mathlib.Core.Path.{refl}
 use Rattle.mapimage.specs.Image.{noNodes}
 use Rattle.mapimage.proofs.nodes.no_nodes.Statement.{statement}
 use Rattle.mapimage.proofs.nodes.no_nodes.Tie as tie

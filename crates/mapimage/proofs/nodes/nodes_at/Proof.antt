@@ -1,11 +1,10 @@
 -- `nodes::nodes_at` meets its contract. Assumes nothing.
 use borrow.Author.Needs.{needs}
 use native.Mathlib.Omega.{arith}
-use mathlib.Core.Path.{_≡_, refl, sym, _∙_, ap}
-use mathlib.Core.List.{List, [], _∷_, _++_, map}
-use Prim.Native.Nat.{ℕ, _+_, _-_, _*_, _≤_, _<_}
-use lib.ListN.{length, getD, take, drop, set, length-set}
-use Rattle.image.specs.Shape.{rowsAt, inUse}
+use mathlib.Core.Path.{_≡_, refl, _∙_, ap}
+use Prim.Native.Nat.{ℕ, _-_, _≤_, _<_}
+use lib.ListN.{length, length-set}
+use Rattle.image.specs.Shape.{rowsAt}
 use Rattle.image.proofs.Images.{rows-start, rows-step}
 use Rattle.mapimage.specs.Rows.{nodeAt}
 use Rattle.mapimage.specs.Image.{noNode}

@@ -1,10 +1,5 @@
 -- `nodes::put_node` meets its contract. Assumes nothing.
 use borrow.Author.Needs.{needs}
-use native.Mathlib.Omega.{arith}
-use mathlib.Core.Path.{_≡_, refl, sym, _∙_, ap}
-use mathlib.Core.List.{List, [], _∷_, _++_, map}
-use Prim.Native.Nat.{ℕ, _+_, _-_, _*_, _≤_, _<_}
-use lib.ListN.{length, getD, take, drop, set, length-set}
 use Rattle.mapimage.specs.Rows.{nodeBytes}
 use Rattle.image.specs.Parts.{addressBytes}
 use Rattle.image.specs.Codes.{flagCode}

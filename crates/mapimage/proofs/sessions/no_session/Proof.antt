@@ -1,10 +1,6 @@
 -- `sessions::no_session` meets its contract. Assumes nothing.
 use borrow.Author.Needs.{needs}
-use native.Mathlib.Omega.{arith}
-use mathlib.Core.Path.{_≡_, refl, sym, _∙_, ap}
-use mathlib.Core.List.{List, [], _∷_, _++_, map}
-use Prim.Native.Nat.{ℕ, _+_, _-_, _*_, _≤_, _<_}
-use lib.ListN.{length, getD, take, drop, set, length-set}
+use mathlib.Core.Path.{refl}
 use Rattle.mapimage.specs.Image.{noSession}
 use Rattle.mapimage.proofs.sessions.no_session.Statement.{statement}
 use Rattle.mapimage.proofs.sessions.no_session.Tie as tie

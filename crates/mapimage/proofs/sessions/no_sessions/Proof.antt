@@ -1,10 +1,6 @@
 -- `sessions::no_sessions` meets its contract. Assumes nothing.
 use borrow.Author.Needs.{needs}
-use native.Mathlib.Omega.{arith}
-use mathlib.Core.Path.{_≡_, refl, sym, _∙_, ap}
-use mathlib.Core.List.{List, [], _∷_, _++_, map}
-use Prim.Native.Nat.{ℕ, _+_, _-_, _*_, _≤_, _<_}
-use lib.ListN.{length, getD, take, drop, set, length-set}
+use mathlib.Core.Path.{refl}
 use Rattle.mapimage.specs.Image.{noSessions}
 use Rattle.mapimage.proofs.sessions.no_sessions.Statement.{statement}
 use Rattle.mapimage.proofs.sessions.no_sessions.Tie as tie

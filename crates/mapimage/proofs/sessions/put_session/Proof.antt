@@ -1,10 +1,6 @@
 -- `sessions::put_session` meets its contract. Assumes nothing.
 use borrow.Author.Needs.{needs}
-use native.Mathlib.Omega.{arith}
-use mathlib.Core.Path.{_≡_, refl, sym, _∙_, ap}
-use mathlib.Core.List.{List, [], _∷_, _++_, map}
-use Prim.Native.Nat.{ℕ, _+_, _-_, _*_, _≤_, _<_}
-use lib.ListN.{length, getD, take, drop, set, length-set}
+use mathlib.Core.Path.{ap}
 use Rattle.image.specs.declared.Coded.{Coded}
 use Rattle.mapimage.specs.Rows.{sessionBytes}
 use Rattle.image.specs.Parts.{keyBytes}

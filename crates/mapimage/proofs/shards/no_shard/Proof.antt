@@ -1,10 +1,6 @@
 -- `shards::no_shard` meets its contract. Assumes nothing.
 use borrow.Author.Needs.{needs}
-use native.Mathlib.Omega.{arith}
-use mathlib.Core.Path.{_≡_, refl, sym, _∙_, ap}
-use mathlib.Core.List.{List, [], _∷_, _++_, map}
-use Prim.Native.Nat.{ℕ, _+_, _-_, _*_, _≤_, _<_}
-use lib.ListN.{length, getD, take, drop, set, length-set}
+use mathlib.Core.Path.{refl}
 use Rattle.mapimage.specs.Image.{noShard}
 use Rattle.mapimage.proofs.shards.no_shard.Statement.{statement}
 use Rattle.mapimage.proofs.shards.no_shard.Tie as tie

@@ -1,10 +1,6 @@
 -- `shards::shard_at` meets its contract. Assumes nothing.
 use borrow.Author.Needs.{needs}
-use native.Mathlib.Omega.{arith}
-use mathlib.Core.Path.{_≡_, refl, sym, _∙_, ap}
-use mathlib.Core.List.{List, [], _∷_, _++_, map}
-use Prim.Native.Nat.{ℕ, _+_, _-_, _*_, _≤_, _<_}
-use lib.ListN.{length, getD, take, drop, set, length-set}
+use mathlib.Core.Path.{refl}
 use Rattle.mapimage.specs.Rows.{shardAt, holdersAt, inSyncAt}
 use Rattle.image.specs.Parts.{keyAt, replicasAt, idsAt}
 use Rattle.mapimage.proofs.shards.shard_at.Statement.{statement}
