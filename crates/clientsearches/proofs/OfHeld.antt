@@ -1,6 +1,5 @@
 -- Laws of a Search on one held shard and at the shard of a key, one for each way out. Assumes nothing.
 use Prim.Native.Nat.{ℕ, _<_}
-use native.Mathlib.Omega.{arith}
 use mathlib.Core.Path.{_≡_, refl, sym, ap, subst, _∙_}
 use mathlib.Core.Bool.{Bool, true, false, cond}
 use mathlib.Core.List.{List}
@@ -31,12 +30,11 @@ use Rattle.state.specs.Names.{viewKey}
 use Rattle.header.specs.declared.Kept.{Kept}
 use Rattle.header.specs.declared.Node.{Node}
 use Rattle.header.specs.View.{Stores, viewKept, viewNode, noKept}
-use Rattle.header.proofs.OfFormed.{header-few}
 use Rattle.header.proofs.OfShards.{shard-some, call-absent}
 use Rattle.lend.specs.declared.Lent.the-variants as L
 use Rattle.lend.specs.declared.Lent as found
 use Rattle.lend.specs.Lend.{Lot, storeOf, lentFor, slotOf, Lends, Finds, Found}
-use Rattle.lend.proofs.OfLend.{slot-held, lends-view}
+use Rattle.lend.proofs.OfLend.{few-held, slot-held, lends-view}
 use Rattle.clientsearches.specs.declared.SearchAnswer.{SearchAnswer}
 use Rattle.clientsearches.specs.declared.SearchAnswer.the-variants as S
 use Rattle.clientsearches.specs.Searches.{Output, output, room, Tells, foundAs, SearchesHeld, testedSearch, SearchesNamed}
@@ -115,11 +113,7 @@ module _ (n : Node) (a : Lot) (key : Key) (clock epoch k : ℕ) (q : List Float)
     named-at = subst (Finds n key a) e finds
 
     pub named-few : at < 8
-    named-few =
-        let g = named-at in
-        let few = header-few n (g .formed) in
-        let under = g .under in
-        omega arith
+    named-few = few-held n key a at named-at
 
     abbrev kept : Kept
     kept = getD (n .held) at noKept

@@ -1,6 +1,5 @@
 -- Laws of a Write at a node, one for each way out. Assumes nothing.
 use Prim.Native.Nat.{ℕ, zero, suc, _<_, _≤_}
-use native.Mathlib.Omega.{arith}
 use mathlib.Core.Path.{_≡_, refl, sym, ap, subst, _∙_}
 use mathlib.Core.Bool.{Bool, true, false, cond, not}
 use mathlib.Core.List.{List, [], _∷_}
@@ -38,13 +37,13 @@ use Rattle.writes.specs.Writes as writes
 use Rattle.header.specs.declared.Node.{Node}
 use Rattle.header.specs.View.{Stores, viewNode, noKept, withKepts}
 use Rattle.header.specs.Answers.{told}
-use Rattle.header.proofs.OfFormed.{header-few, shard-formed}
+use Rattle.header.proofs.OfFormed.{shard-formed}
 use Rattle.header.proofs.OfShards.{call-absent}
 use Rattle.lend.specs.declared.Lent.the-variants as L
 use Rattle.lend.specs.declared.Lent as found
 use Rattle.lend.specs.Named.{keyIn}
 use Rattle.lend.specs.Lend.{Lot, storeIn, storeOf, lentFor, slotOf, Finds, Found, withStore}
-use Rattle.lend.proofs.OfLend.{slot-held, call-store, node-view}
+use Rattle.lend.proofs.OfLend.{few-held, slot-held, call-store, node-view}
 use Rattle.clientwrites.specs.declared.WriteReply.{WriteReply}
 use Rattle.clientwrites.specs.declared.WriteReply.the-variants as R
 use Rattle.clientwrites.specs.declared.NodeWritten.{NodeWritten}
@@ -194,11 +193,7 @@ module _ (n : Node) (a : Lot) (clock least : ℕ) (m : List ℕ) where
           found-key = subst (Finds n key a) e finds-key
 
           pub found-few : at < 8
-          found-few =
-              let g = found-key in
-              let few = header-few n (g .formed) in
-              let under = g .under in
-              omega arith
+          found-few = few-held n _ a at found-key
 
           pub found-at : Found n k a at
           found-at = subst (Finds n k a) e finds

@@ -24,12 +24,11 @@ use Rattle.writes.specs.Writes.{viewStored}
 use Rattle.header.specs.declared.Kept.{Kept}
 use Rattle.header.specs.declared.Node.{Node}
 use Rattle.header.specs.View.{Stores, viewNode, noKept}
-use Rattle.header.proofs.OfFormed.{header-few}
 use Rattle.header.proofs.OfShards.{shard-none, shard-some}
 use Rattle.lend.specs.declared.Lent.the-variants as L
 use Rattle.lend.specs.declared.Lent as found
 use Rattle.lend.specs.Lend.{Lot, storeOf, lentFor, slotOf, Lends, Finds, Found}
-use Rattle.lend.proofs.OfLend.{slot-held, lends-view}
+use Rattle.lend.proofs.OfLend.{few-held, slot-held, lends-view}
 use Rattle.dump.specs.declared.DumpAnswer.the-variants as D
 use Rattle.dump.specs.Dumps.{Answer, shown, dumpRefused, shownIn, dumpWith, answerOf, leftOf, Dumps}
 
@@ -74,11 +73,7 @@ module _ (n : Node) (a : Lot) (k : Key) (f : found.Lent) (finds : Finds n k a f)
     found-at = subst (Finds n k a) e finds
 
     pub found-few : at < 8
-    found-few =
-        let g = found-at in
-        let few = header-few n (g .formed) in
-        let under = g .under in
-        omega arith
+    found-few = few-held n _ a at found-at
 
     -- the rows in use are within their columns
     pub found-rows : (x .stored ≤ length (a .keys)) × (x .stored ≤ length (a .places))

@@ -31,7 +31,7 @@ use Rattle.header.specs.declared.Node.{Node}
 use Rattle.header.specs.View.{Stores, viewKept, viewNode, used, noKept}
 use Rattle.header.specs.Formed.{lentNode, formedNode, onSlot, slotsFit}
 use Rattle.header.proofs.OfLists.{by-case, map-lead}
-use Rattle.header.proofs.OfFormed.{header-apart, formed-lent}
+use Rattle.header.proofs.OfFormed.{header-few, header-apart, formed-lent}
 use Rattle.header.proofs.OfShards.{shard-some}
 use Rattle.lend.specs.Lend.{Lot, storeIn, storeOf, keptStore, placeOf, lentAt, lentFor, slotOf, Lends, Changes, Absents, Found, keptWith, withStore}
 
@@ -91,6 +91,13 @@ module _ (n : Node) (k : Key) (a : Lot) where
           sized = kept-is a (getD (n .held) at noKept) e;
           well = kept-well a (getD (n .held) at noKept) e;
         }
+
+-- the place of a held shard is one of the eight
+pub few-held : (n : Node) (k : Key) (a : Lot) (at : ℕ) → Found n k a at → at < 8
+few-held n k a at g =
+    let few = header-few n (g .formed) in
+    let under = g .under in
+    omega arith
 
 -- a held shard's own slot
 pub slot-held : (n : Node) (k : Key) (at : ℕ) → at ≡ placeOf n k → at < n .count → slotOf n k ≡ getD (n .held) at noKept .slot

@@ -1,6 +1,5 @@
 -- Laws of the primary's messages at a node, one for each way out. Assumes nothing.
 use Prim.Native.Nat.{ℕ, _<_, _≤_}
-use native.Mathlib.Omega.{arith}
 use mathlib.Core.Path.{_≡_, refl, sym, ap, subst, _∙_}
 use mathlib.Core.Bool.{Bool, true, false, cond, not}
 use mathlib.Core.List.{List, map}
@@ -36,7 +35,7 @@ use Rattle.header.specs.declared.Node.{Node}
 use Rattle.header.specs.View.{Stores, viewNode, used, noKept}
 use Rattle.header.specs.Formed.{slotsFit}
 use Rattle.header.specs.Answers.{told}
-use Rattle.header.proofs.OfFormed.{header-few, header-apart}
+use Rattle.header.proofs.OfFormed.{header-apart}
 use Rattle.header.proofs.OfShards.{shard-none, shard-some}
 use Rattle.peers.specs.declared.PeerReply.{PeerReply}
 use Rattle.peers.specs.declared.PeerReply.the-variants as P
@@ -46,7 +45,7 @@ use Rattle.lend.specs.Named.{keyIn}
 use Rattle.lend.specs.Lend.{Lot, storeIn, storeOf, lentFor, slotOf, Finds, Found, withStore}
 use Rattle.peers.specs.Peers.{word, turnedDown, Serves, ReplicateSlot, ReplicatesAt, CopySlot, CopiesAt}
 use Rattle.peers.proofs.OfNamed.{replicate-key, copy-key}
-use Rattle.lend.proofs.OfLend.{slot-held, call-store, node-view}
+use Rattle.lend.proofs.OfLend.{few-held, slot-held, call-store, node-view}
 use Rattle.peers.proofs.OfSlots.{slots-kept}
 
 -- the lent store and the header stay
@@ -131,11 +130,7 @@ module _ (call : (Key → Bool) → held.Node → Result BackupAnswer held.Node)
       found-at = subst (Finds n k a) e finds
 
       pub found-few : at < 8
-      found-few =
-          let g = found-at in
-          let few = header-few n (g .formed) in
-          let under = g .under in
-          omega arith
+      found-few = few-held n _ a at found-at
 
       pub served : (b : Lot) (r : Backed)
           → Backs does (getD (n .held) at noKept .held) (storeOf a (getD (n .held) at noKept)) (storeIn b (r .held .last) (r .stored)) r

@@ -1,7 +1,6 @@
 -- Laws of the request of a worker's step at a node, one for each way out. Assumes nothing.
 use Prim.Native.Nat.{ℕ, _-_, _<_, _≤_}
 use native.Mathlib.Nat.{sub-zero}
-use native.Mathlib.Omega.{arith}
 use mathlib.Core.Path.{_≡_, refl, sym, ap, subst, _∙_}
 use mathlib.Core.Bool.{true}
 use mathlib.Core.List.{List}
@@ -25,12 +24,12 @@ use Rattle.header.specs.declared.Kept.{Kept}
 use Rattle.header.specs.declared.Node.{Node}
 use Rattle.header.specs.View.{Stores, viewKept, viewNode, noKept}
 use Rattle.header.specs.Formed.{keptFits}
-use Rattle.header.proofs.OfFormed.{header-few, header-fit}
+use Rattle.header.proofs.OfFormed.{header-fit}
 use Rattle.header.proofs.OfShards.{shard-none, shard-some}
 use Rattle.lend.specs.declared.Lent.the-variants as L
 use Rattle.lend.specs.declared.Lent as found
 use Rattle.lend.specs.Lend.{Lot, storeOf, lentFor, slotOf, Lends, Finds, Found}
-use Rattle.lend.proofs.OfLend.{slot-held, lends-view}
+use Rattle.lend.proofs.OfLend.{few-held, slot-held, lends-view}
 use Rattle.workers.specs.Requests.{Requests}
 
 -- a shard that passed has its name within the array
@@ -68,11 +67,7 @@ module _ (n : Node) (a : Lot) (k : Key) (f : found.Lent) (finds : Finds n k a f)
     found-at = subst (Finds n k a) e finds
 
     pub found-few : at < 8
-    found-few =
-        let g = found-at in
-        let few = header-few n (g .formed) in
-        let under = g .under in
-        omega arith
+    found-few = few-held n _ a at found-at
 
     -- what the shard and its store have passed
     pub found-fits : keptFits (getD (n .held) at noKept) ≡ true
