@@ -42,7 +42,7 @@ fn plus_own(n: u64, own: bool) -> u64
     if own { n + 1 } else { n }
 }
 
-// Paper 01, 'Who is turned down', Write, past its first checks: 18, 19, 20, 23 a full log.
+// Internal: paper 01, 'Who is turned down', Write, past its first checks: 18, 19, 20, 23 a full log.
 pub fn admit_write(h: Held, epoch: Epoch, lease: bool, least: u64) -> Admit
     requires { ⌜ h .count ≤ 32 ⌝ }
     ensures { λ r. ⌜ AdmitsWrite h (epoch .0) lease least r ⌝ }

@@ -30,7 +30,7 @@ pub fn raise(e: Expiry, end: u64) -> Expiry
     }
 }
 
-// Paper 01, 'The node', lease grant, past its checks: a grant for the current incarnation raises the expiry, one for another does nothing.
+// Internal: paper 01, 'The node', lease grant, past its checks: a grant for the current incarnation raises the expiry, one for another does nothing.
 pub fn grant(own: u64, e: Expiry, incarnation: u64, sent: u64, lease: u64) -> Expiry
     requires { ⌜ (sent ≤ 4611686018427387904) × (lease ≤ 4611686018427387904) ⌝ }
     ensures { λ r. ⌜ Grants own e incarnation sent lease r ⌝ }

@@ -33,7 +33,7 @@ fn sends(acked: u64, last: u64) -> Step
     }
 }
 
-// Paper 01, 'The node', the worker's step on a shard that is not malformed.
+// Internal: paper 01, 'The node', the worker's step on a shard that is not malformed.
 pub fn step(h: Held, epoch: Epoch, peer: DataNodeId) -> Step
     requires { ⌜ formedHeld h ≡ true ⌝ }
     ensures { λ r. ⌜ Steps h (epoch .0) (peer .0) r ⌝ }

@@ -72,7 +72,7 @@ fn take_map(n: Node, m: ShardMap) -> NodeShown
     }
 }
 
-// Paper 01, 'Map shown', of a map that has been tested: 24 a malformed header; an older version is ignored; a node listed dead starts over;
+// Internal: paper 01, 'Map shown', of a map that has been tested: 24 a malformed header; an older version is ignored; a node listed dead starts over;
 // 23; otherwise the node after, and the workers to start.
 pub fn show_map(n: Node, m: ShardMap, fresh: u64) -> NodeShown
     requires { ⌜ (TablesCounted m) × (wellFormedMap (viewMap m) ≡ true) ⌝ }
