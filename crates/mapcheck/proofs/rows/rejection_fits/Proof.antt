@@ -1,4 +1,5 @@
 use borrow.Author.Needs.{needs}
+use mathlib.Core.Path.{refl}
 use Rattle.mapcheck.proofs.OfRows.{size-both}
 use Rattle.model.specs.Lists.{_and_}
 use Rattle.mapcheck.proofs.rows.rejection_fits.Statement.{statement}
@@ -54,63 +55,63 @@ enum-told-16 c = search needs
 
 returns : tie.Need-returns
 unfolding _and_
-returns c = rw (c .enum-told .given .1)
+returns c = rw (c .enum-told .given .1) refl
 
 returns-2 : tie.Need-returns-2
-returns-2 c = rw (c .before .enum-told2 .given .1, size-both)
+returns-2 c = rw (c .before .enum-told2 .given .1, size-both) refl
 
 returns-3 : tie.Need-returns-3
 unfolding _and_
-returns-3 c = rw (c .enum-told3 .given .1)
+returns-3 c = rw (c .enum-told3 .given .1) refl
 
 returns-4 : tie.Need-returns-4
 unfolding _and_
-returns-4 c = rw (c .enum-told4 .given .1)
+returns-4 c = rw (c .enum-told4 .given .1) refl
 
 returns-5 : tie.Need-returns-5
 unfolding _and_
-returns-5 c = rw (c .enum-told5 .given .1)
+returns-5 c = rw (c .enum-told5 .given .1) refl
 
 returns-6 : tie.Need-returns-6
-returns-6 c = rw (c .before .enum-told6 .given .1, size-both)
+returns-6 c = rw (c .before .enum-told6 .given .1, size-both) refl
 
 returns-7 : tie.Need-returns-7
 unfolding _and_
-returns-7 c = rw (c .enum-told7 .given .1)
+returns-7 c = rw (c .enum-told7 .given .1) refl
 
 returns-8 : tie.Need-returns-8
 unfolding _and_
-returns-8 c = rw (c .enum-told8 .given .1)
+returns-8 c = rw (c .enum-told8 .given .1) refl
 
 returns-9 : tie.Need-returns-9
-returns-9 c = rw (c .before .enum-told9 .given .1, size-both)
+returns-9 c = rw (c .before .enum-told9 .given .1, size-both) refl
 
 returns-10 : tie.Need-returns-10
-returns-10 c = rw (c .before .enum-told10 .given .1, size-both)
+returns-10 c = rw (c .before .enum-told10 .given .1, size-both) refl
 
 returns-11 : tie.Need-returns-11
 unfolding _and_
-returns-11 c = rw (c .enum-told11 .given .1)
+returns-11 c = rw (c .enum-told11 .given .1) refl
 
 returns-12 : tie.Need-returns-12
 unfolding _and_
-returns-12 c = rw (c .enum-told12 .given .1)
+returns-12 c = rw (c .enum-told12 .given .1) refl
 
 returns-13 : tie.Need-returns-13
 unfolding _and_
-returns-13 c = rw (c .enum-told13 .given .1)
+returns-13 c = rw (c .enum-told13 .given .1) refl
 
 returns-14 : tie.Need-returns-14
 unfolding _and_
-returns-14 c = rw (c .enum-told14 .given .1)
+returns-14 c = rw (c .enum-told14 .given .1) refl
 
 returns-15 : tie.Need-returns-15
 unfolding _and_
-returns-15 c = rw (c .enum-told15 .given .1)
+returns-15 c = rw (c .enum-told15 .given .1) refl
 
 returns-16 : tie.Need-returns-16
 unfolding _and_
-returns-16 c = rw (c .enum-told16 .given .1)
+returns-16 c = rw (c .enum-told16 .given .1) refl
 
 pub rejection-fits-spec : {M : Type 1} → statement M
 rejection-fits-spec =
