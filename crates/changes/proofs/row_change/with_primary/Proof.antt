@@ -24,7 +24,7 @@ add-t9 c = search needs
 returns : tie.Need-returns
 unfolding changed
 returns c = (
-  rw (c .before .before .deposed .ensures .0),
+  rw (c .before .before .deposed .ensures .0) refl,
   record { held = c .before .before .before .pre .0 .held; synced = c .before .before .deposed .ensures .1 },
 )
 
