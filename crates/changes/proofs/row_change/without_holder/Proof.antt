@@ -1,13 +1,13 @@
 use borrow.Author.Needs.{needs}
 use native.Mathlib.Omega.{arith}
-use mathlib.Core.Path.{_≡_, refl, sym, _∙_, ap}
+use mathlib.Core.Path.{_≡_, refl, sym, _∙_, ap, ap₂}
 use mathlib.Core.List.{List, [], _∷_, _++_}
 use Prim.Native.Nat.{ℕ, _+_, _-_, _*_, _≤_, _<_}
 use lib.ListN.{length, getD, take, drop, set}
-use Rattle.model.specs.Map.Change.{decideChange, changed, holds, inSync, isPrimary, without, deposed}
+use Rattle.model.specs.Map.Change.{decideChange, changed, setReplicas, holds, inSync, isPrimary, without, deposed}
 use borrow.Author.Tests.{eq-eqb, ne-eqb, le-leb, lt-leb}
 use mathlib.Core.Bool.{true, false}
-use Rattle.state.specs.View.{viewPrimary, viewInSync}
+use Rattle.state.specs.View.{viewPrimary, viewInSync, viewShard}
 use Rattle.state.specs.declared.Primary.{Primary}
 use Rattle.changes.proofs.row_change.without_holder.Statement.{statement}
 use Rattle.changes.proofs.row_change.without_holder.Tie as tie
@@ -25,7 +25,7 @@ synced-removed-requires c κs = search needs
 returns : tie.Need-returns
 unfolding changed
 returns c = (
-  rw (c .before .holder-removed .ensures .0, c .synced-removed .ensures .0),
+  ap₂ (setReplicas (viewShard (c .before .before .args .s))) (c .before .holder-removed .ensures .0) (c .synced-removed .ensures .0),
   record { held = c .before .holder-removed .ensures .1; synced = c .synced-removed .ensures .1 },
 )
 
