@@ -24,6 +24,10 @@ use Rattle.state.proofs.node_table.node_at.Reads as node-at-reads
 fits : (c : tie.Start) → c .args .t1 .count ≤ length (c .args .t1 .items)
 fits c = let h : length (c .args .t1 .items) ≡ 32 = search (needs, of-field) in omega (arith, c .pre)
 
+-- the incarnation of the row that was found
+abbrev known : tie.After-node-at → ℕ
+known c = getD (c .before .args .t1 .items) (c .node-at .result) noNode .incarnation
+
 node-at-requires : tie.Need-node-at-requires
 node-at-requires c κs = search needs
 
@@ -42,7 +46,7 @@ rejected-requires c κs = search needs
 returns : tie.Need-returns
 unfolding registerAnswer nodeAt
 returns c =
-    rw (found viewNode (c .before .before .before .before .before .args .t1 .items) (c .before .before .before .before .before .args .t1 .count) (fits (c .before .before .before .before .before)) (isNode (c .before .before .before .before .before .args .node .0)) (c .before .before .before .before .node-at .result) (c .before .before .before .before .node-at .ensures) noNode (c .before .before .before .if1 .taken), le-leb _ _ (c .before .before .if2 .taken)) (c .rejected .ensures)
+    rw (found viewNode (c .before .before .before .before .before .args .t1 .items) (c .before .before .before .before .before .args .t1 .count) (fits (c .before .before .before .before .before)) (isNode (c .before .before .before .before .before .args .node .0)) (c .before .before .before .before .node-at .result) (c .before .before .before .before .node-at .ensures) noNode (c .before .before .before .if1 .taken), le-leb (c .before .before .before .before .before .args .incarnation) (known (c .before .before .before .before)) (omega (arith, c .before .before .if2 .taken))) (c .rejected .ensures)
 
 applied-requires : tie.Need-applied-requires
 applied-requires c κs = search needs
@@ -50,7 +54,7 @@ applied-requires c κs = search needs
 returns-2 : tie.Need-returns-2
 unfolding registerAnswer nodeAt
 returns-2 c =
-    rw (found viewNode (c .before .before .before .before .args .t1 .items) (c .before .before .before .before .args .t1 .count) (fits (c .before .before .before .before)) (isNode (c .before .before .before .before .args .node .0)) (c .before .before .before .node-at .result) (c .before .before .before .node-at .ensures) noNode (c .before .before .if1 .taken), lt-leb _ _ (c .before .if2 .left)) (c .applied .ensures)
+    rw (found viewNode (c .before .before .before .before .args .t1 .items) (c .before .before .before .before .args .t1 .count) (fits (c .before .before .before .before)) (isNode (c .before .before .before .before .args .node .0)) (c .before .before .before .node-at .result) (c .before .before .before .node-at .ensures) noNode (c .before .before .if1 .taken), lt-leb (c .before .before .before .before .args .incarnation) (known (c .before .before .before)) (omega (arith, c .before .if2 .left))) (c .applied .ensures)
 
 refused-requires : tie.Need-refused-requires
 refused-requires c κs = search needs
