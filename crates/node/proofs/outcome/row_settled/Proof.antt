@@ -19,7 +19,7 @@ both-requires-2 c κs = search needs
 
 returns : tie.Need-returns
 unfolding settledRow
-returns c = rw (c .before .both .ensures, c .both2 .ensures)
+returns c = rw (c .before .both .ensures, c .both2 .ensures) refl
 
 pub row-settled-spec : {M : Type 1} → statement M
 row-settled-spec = tie.close (tie.spec both-requires both-requires-2 returns)
