@@ -35,7 +35,14 @@ either-requires-3 c κs = search needs
 
 returns : tie.Need-returns
 unfolding ackRow
-returns c = cc
+returns c = rw (
+  c .either3 .ensures,
+  c .before .either2 .ensures,
+  c .before .before .both .ensures,
+  c .before .before .before .either .ensures,
+  c .before .before .before .before .joining .ensures,
+  c .before .before .before .before .before .acked-through .ensures,
+) refl
 
 pub row-acked-spec : {M : Type 1} → statement M
 row-acked-spec =
