@@ -1,5 +1,6 @@
 use borrow.Author.Needs.{needs}
 use Rattle.model.specs.Node.Shown.{retained}
+use Rattle.model.specs.Lists.{_and_}
 use native.Mathlib.Omega.{arith}
 use mathlib.Core.Path.{_≡_, refl, sym, _∙_, ap}
 use mathlib.Core.List.{List, [], _∷_, _++_}
@@ -20,7 +21,9 @@ both-requires c κs = search needs
 
 returns : tie.Need-returns
 unfolding retained
-returns c = cc
+returns c =
+    let stays : c .both .result ≡ (c .before .before .args .p .member and c .before .is-holder .result) = c .both .ensures in
+    rw (stays, c .before .is-holder .ensures) refl
 
 pub row-retained-spec : {M : Type 1} → statement M
 row-retained-spec = tie.close (tie.spec is-holder-requires both-requires returns)
