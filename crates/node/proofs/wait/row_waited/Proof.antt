@@ -24,15 +24,15 @@ either-requires c κs = search needs
 
 returns : tie.Need-returns
 unfolding waitRow
-returns c = rw (← c .before .before .before .before .is-late .ensures, c .before .before .before .if1 .taken, ← c .before .before .elapsed .ensures, c .before .either .ensures, c .if2 .taken)
+returns c = rw (← c .before .before .before .before .is-late .ensures, c .before .before .before .if1 .taken, ← c .before .before .elapsed .ensures, c .before .either .ensures, c .if2 .taken) refl
 
 returns-2 : tie.Need-returns-2
 unfolding waitRow
-returns-2 c = rw (← c .before .before .before .before .is-late .ensures, c .before .before .before .if1 .taken, ← c .before .before .elapsed .ensures, c .before .either .ensures, c .if2 .left)
+returns-2 c = rw (← c .before .before .before .before .is-late .ensures, c .before .before .before .if1 .taken, ← c .before .before .elapsed .ensures, c .before .either .ensures, c .if2 .left) refl
 
 returns-3 : tie.Need-returns-3
 unfolding waitRow
-returns-3 c = rw (← c .before .is-late .ensures, c .if1 .left)
+returns-3 c = rw (← c .before .is-late .ensures, c .if1 .left) refl
 
 pub row-waited-spec : {M : Type 1} → statement M
 row-waited-spec =
