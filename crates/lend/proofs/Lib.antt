@@ -1,2 +1,3 @@
 pub mod OfKeys
 pub mod OfLend
+pub mod OfPut

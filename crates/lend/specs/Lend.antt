@@ -107,3 +107,10 @@ keptWith x h stored = record { key = x .key; slot = x .slot; stored = stored; he
 
 abbrev pub withStore : Node → ℕ → Held → (stored : ℕ) → Node
 withStore n at h stored = withKepts n (set (n .held) at (keptWith (getD (n .held) at noKept) h stored))
+
+-- n the header before a call, p and b the header and the columns after: the store of a shard that was held before is well formed, with as
+-- many entries and rows as the header then says
+abbrev pub Whole : (n p : Node) → (b : Lot) → Key → Type 0
+Whole n p b k =
+    let x = getD (p .held) (placeOf n k) noKept in
+    ltb (placeOf n k) (n .count) ≡ true → Sized (storeOf b x) × (wellFormedStore (storeOf b x) ≡ true)
