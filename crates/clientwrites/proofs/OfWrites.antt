@@ -1,11 +1,11 @@
 -- Laws of a Write at a node, one for each way out. Assumes nothing.
-use Prim.Native.Nat.{ℕ, zero, suc, _<_, _≤_}
+use Prim.Native.Nat.{ℕ, _<_, _≤_}
 use mathlib.Core.Path.{_≡_, refl, sym, ap, subst, _∙_}
 use mathlib.Core.Bool.{Bool, true, false, cond, not}
-use mathlib.Core.List.{List, [], _∷_}
+use mathlib.Core.List.{List}
 use mathlib.Core.Option.{none, some}
 use lib.Dec.{eqb}
-use lib.ListN.{getD, set}
+use lib.ListN.{getD}
 use Rattle.model.specs.Keys.{Key}
 use Rattle.model.specs.Refusals.{unknownShard, outsideDomain, malformed}
 use Rattle.model.specs.Log.{Op, lastOffset}
@@ -35,19 +35,21 @@ use Rattle.writes.specs.declared.Written.{Written}
 use Rattle.writes.specs.Writes.{viewStored, writtenAs, Writes}
 use Rattle.writes.specs.Writes as writes
 use Rattle.header.specs.declared.Node.{Node}
-use Rattle.header.specs.View.{Stores, viewNode, noKept, withKepts}
+use Rattle.header.specs.View.{Stores, viewNode, used, noKept}
+use Rattle.header.specs.Formed.{slotsFit}
 use Rattle.header.specs.Answers.{told}
-use Rattle.header.proofs.OfFormed.{shard-formed}
+use Rattle.header.proofs.OfFormed.{header-apart, shard-formed}
 use Rattle.header.proofs.OfShards.{call-absent}
 use Rattle.lend.specs.declared.Lent.the-variants as L
 use Rattle.lend.specs.declared.Lent as found
 use Rattle.lend.specs.Named.{keyIn}
-use Rattle.lend.specs.Lend.{Lot, storeIn, storeOf, lentFor, slotOf, Finds, Found, withStore}
+use Rattle.lend.specs.Lend.{Lot, storeIn, storeOf, lentFor, slotOf, Finds, Found, withStore, Whole}
 use Rattle.lend.proofs.OfLend.{few-held, slot-held, call-store, node-view}
+use Rattle.lend.proofs.OfPut.{lotOf, slots-kept, put-same, whole-put}
 use Rattle.clientwrites.specs.declared.WriteReply.{WriteReply}
 use Rattle.clientwrites.specs.declared.WriteReply.the-variants as R
 use Rattle.clientwrites.specs.declared.NodeWritten.{NodeWritten}
-use Rattle.clientwrites.specs.ClientWrites.{writeWord, turnedDown, numberIn, replyAs, IsWrite, WritesMessage, WriteSlot, Serves, WritesAt}
+use Rattle.clientwrites.specs.ClientWrites.{writeWord, turnedDown, numberIn, replyAs, IsWrite, WritesMessage, WriteNames, WriteSlot, Serves, WritesAt}
 use Rattle.clientwrites.proofs.OfNamed.{write-key}
 
 -- ---- the reply of an admission
@@ -90,25 +92,6 @@ writes-message b lease least h s t r p i op e d m q =
     let d₂ = subst (λ (x : WireOp). Writes h s t (p .epoch .0) lease least (storedOp x) r) (write-op b p i m q) d₁ in
     subst (λ (z : WritePart). Writes h s t (z .epoch .0) lease least (storedOp (m .op)) r) (write-part b p i m q) d₂
 
--- ---- a shard that is put back as it was
-
-set-back : {A : Type 0} (l : List A) (i : ℕ) (d : A) → set l i (getD l i d) ≡ l
-set-back [] i d = refl
-set-back (x ∷ xs) zero d = refl
-set-back (x ∷ xs) (suc i) d = ap (λ (l : List _). x ∷ l) (set-back xs i d)
-
--- the columns of a store
-abbrev lotOf : Store → Lot
-lotOf s = record { columns = s .columns; keys = s .keys; places = s .places }
-
-put-same : (n : Node) (at : ℕ) (h : Held) (stored : ℕ) → h ≡ getD (n .held) at noKept .held → stored ≡ getD (n .held) at noKept .stored
-    → withStore n at h stored ≡ n
-put-same n at h stored e q =
-    let x = getD (n .held) at noKept in
-    ap (λ (y : Held). withStore n at y stored) e
-    ∙ ap (λ (i : ℕ). withStore n at (x .held) i) q
-    ∙ ap (withKepts n) (set-back (n .held) at noKept)
-
 -- ---- the ways out
 
 -- a Write that was read: 22 unless `fine`, 24 unless the lent state passes, then `does` at the shard of the key
@@ -119,23 +102,25 @@ atOf lent v k fine does =
 
 module _ (n : Node) (a : Lot) (clock least : ℕ) (m : List ℕ) where
   -- the lent store and the header stay
-  unchanged : (w : WriteReply) → not (eqb (numberIn w) 0) ≡ turnedDown w
+  unchanged : (w : WriteReply) → not (eqb (numberIn w) 0) ≡ turnedDown w → turnedDown w ≡ true
       → ((s : Stores) → record { answer = w; node = viewNode s n } ≡ told writeWord (calls.writeWith (lentFor s n a) (viewNode s n) clock least m))
       → Serves n a a clock least m (record { answer = w; node = n })
-  unchanged w listed e = record {
+  unchanged w listed down e = record {
     same = λ s t slot l c. ap (λ (v : held.Node). record { answer = w; node = v }) (node-view s t slot a c n) ∙ e s;
     kept = λ z. (refl, refl);
+    slots = header-apart n;
+    whole = λ z k i. not-both (turnedDown w) down z;
     listed = listed;
   }
 
   pub late : calls.lateTime clock ≡ true → Serves n a a clock least m (record { answer = R.Refused 21; node = n })
   unfolding calls.writeWith
-  late e = unchanged (R.Refused 21) refl (λ s. rw e)
+  late e = unchanged (R.Refused 21) refl refl (λ s. rw e)
 
   module _ (early : calls.lateTime clock ≡ false) where
     pub undecoded : message.decodeWrite m ≡ none → Serves n a a clock least m (record { answer = R.Refused 21; node = n })
     unfolding calls.writeWith
-    undecoded d = unchanged (R.Refused 21) refl (λ s. rw (early, d))
+    undecoded d = unchanged (R.Refused 21) refl refl (λ s. rw (early, d))
 
     module _ (p : WritePart) (i : IsWrite m p) where
       abbrev read : message.Write
@@ -166,8 +151,13 @@ module _ (n : Node) (a : Lot) (clock least : ℕ) (m : List ℕ) where
           let d : message.decodeWrite m ≡ some read = write-decoded m p i .decoded in
           l read d ∙ ap (slotOf n) (sym (write-key m p i read d))
 
+      key-named : (k : Key) → WriteNames m k → k ≡ key
+      key-named k l =
+          let d : message.decodeWrite m ≡ some read = write-decoded m p i .decoded in
+          l read d ∙ sym (write-key m p i read d)
+
       pub outside : (b : Bool) → b ≡ fine → b ≡ false → Serves n a a clock least m (record { answer = R.Refused 22; node = n })
-      outside b q e = unchanged (R.Refused 22) refl (λ s. rw (shape s) (rw (← q) (rw e)))
+      outside b q e = unchanged (R.Refused 22) refl refl (λ s. rw (shape s) (rw (← q) (rw e)))
 
       module _ (b : Bool) (q : b ≡ fine) (passed : b ≡ true) (k : Key) (named : k ≡ key) (f : found.Lent) (finds : Finds n k a f) where
         fits : fine ≡ true
@@ -179,12 +169,12 @@ module _ (n : Node) (a : Lot) (clock least : ℕ) (m : List ℕ) where
         pub unfit : f ≡ L.Malformed → Serves n a a clock least m (record { answer = R.Refused 24; node = n })
         unfit e =
             let bad = subst (Finds n key a) e finds-key in
-            unchanged (R.Refused 24) refl (λ s. rw (shape s) (rw fits (rw (bad s))))
+            unchanged (R.Refused 24) refl refl (λ s. rw (shape s) (rw fits (rw (bad s))))
 
         pub gone : f ≡ L.Absent → Serves n a a clock least m (record { answer = R.Refused 17; node = n })
         gone e =
             let g = subst (Finds n key a) e finds-key in
-            unchanged (R.Refused 17) refl
+            unchanged (R.Refused 17) refl refl
             (λ s. rw (shape s) (rw fits (rw (g .lent s)
             (ap (told writeWord) (call-absent s n key (g .inside) _ refl (client.writeRefused unknownShard) does (g .gone))))))
 
@@ -229,6 +219,10 @@ module _ (n : Node) (a : Lot) (clock least : ℕ) (m : List ℕ) where
                 kept = λ z.
                     let keep = d₂ .kept (reply-turned (r .admit) (r .held .last) (sym (ap turnedDown o) ∙ z)) in
                     (ap lotOf (keep .0), q′ ∙ put-same n at (r .held) (r .stored) (keep .1) (ap (λ (s : Store). s .stored) (keep .0)));
+                slots = λ z.
+                    ap (λ (u : Node). slotsFit (used u)) q′ ∙ slots-kept n at (r .held) (r .stored) (g .inside) (g .under) ∙ header-apart n z;
+                whole = λ z k′ l.
+                    subst (Whole n v b) (sym (key-named k′ l)) (whole-put n key a b at g (r .held) (r .stored) (d₂ .sized) (d₂ .well) v q′);
                 listed =
                     subst (λ (z : WriteReply). not (eqb (numberIn z) 0) ≡ turnedDown z) (sym o) (reply-listed (r .admit) (r .held .last));
               }
@@ -241,5 +235,7 @@ pub counts : (n : Node) (a b : Lot) (clock least : ℕ) (m : List ℕ) (before :
 counts n a b clock least m before r d number e count c = record {
   same = d .same;
   kept = d .kept;
+  slots = d .slots;
+  whole = d .whole;
   count = c ∙ ap (λ (z : ℕ). counted before (not (eqb z 0))) e ∙ ap (counted before) (d .listed);
 }

@@ -7,6 +7,7 @@ use mathlib.Core.Bool.{Bool, true, false, not}
 use mathlib.Core.List.{List}
 use mathlib.Core.Option.{some}
 use lib.Dec.{eqb}
+use Rattle.model.specs.Keys.{Key}
 use Rattle.model.specs.Refusals.{Refusal, unknownShard, notPrimary, noLease, tooFewInSync, undecodable, outsideDomain, noRoom, malformed, lastEpoch, noWorker, numberOf}
 use Rattle.model.specs.Layout.Message as message
 use Rattle.model.specs.Node.Wire.{storedOp}
@@ -23,9 +24,10 @@ use Rattle.shard.specs.Store.{Store}
 use Rattle.writes.specs.declared.Written.{Written}
 use Rattle.writes.specs.Writes.{Writes}
 use Rattle.header.specs.declared.Node.{Node}
-use Rattle.header.specs.View.{Stores, viewNode}
+use Rattle.header.specs.View.{Stores, viewNode, used}
+use Rattle.header.specs.Formed.{formedNode, slotsFit}
 use Rattle.header.specs.Answers.{told}
-use Rattle.lend.specs.Lend.{Lot, lentFor, slotOf, Changes}
+use Rattle.lend.specs.Lend.{Lot, lentFor, slotOf, Changes, Whole}
 use Rattle.clientwrites.specs.declared.WriteReply.{WriteReply}
 use Rattle.clientwrites.specs.declared.WriteReply.the-variants as R
 use Rattle.clientwrites.specs.declared.NodeWritten.{NodeWritten}
@@ -81,7 +83,10 @@ WritesMessage b lease least h s t r =
 
 -- ---- the call at a node
 
--- 23: the slot of the shard that the message names
+-- 23: the shard that the message names, and its slot
+abbrev pub WriteNames : List ℕ → Key → Type 0
+WriteNames m k = (v : message.Write) → message.decodeWrite m ≡ some v → k ≡ v .key
+
 abbrev pub WriteSlot : Node → List ℕ → ℕ → Type 0
 WriteSlot n m slot = (v : message.Write) → message.decodeWrite m ≡ some v → slot ≡ slotOf n (v .key)
 
@@ -96,14 +101,26 @@ SameWrite n a b clock least m w p =
 abbrev pub KeptWrite : Node → (a b : Lot) → WriteReply → Node → Type 0
 KeptWrite n a b w p = turnedDown w ≡ true → (b ≡ a) × (p ≡ n)
 
+-- no two shards come to have one store
+abbrev pub SlotsWrite : (n p : Node) → Type 0
+SlotsWrite n p = formedNode n ≡ true → slotsFit (used p) ≡ true
+
+-- accepted, it leaves the store of the shard well formed
+abbrev pub WholeWrite : Node → (b : Lot) → List ℕ → WriteReply → Node → Type 0
+WholeWrite n b m w p = turnedDown w ≡ false → (k : Key) → WriteNames m k → Whole n p b k
+
 -- internal: before the call is counted; a reply is turned down where it has a number
 pub record Serves (n : Node) (a b : Lot) (clock least : ℕ) (m : List ℕ) (r : NodeWritten) : Type 0 where
   pub same : SameWrite n a b clock least m (r .answer) (r .node)
   pub kept : KeptWrite n a b (r .answer) (r .node)
+  pub slots : SlotsWrite n (r .node)
+  pub whole : WholeWrite n b m (r .answer) (r .node)
   pub listed : not (eqb (numberIn (r .answer)) 0) ≡ turnedDown (r .answer)
 
 -- `before` is the count of refused calls: one more for each refused call, 21 to 24 included, up to the largest u32
 pub record WritesAt (n : Node) (a b : Lot) (clock least : ℕ) (m : List ℕ) (before : ℕ) (r : WriteAnswer) : Type 0 where
   pub same : SameWrite n a b clock least m (r .answer) (r .node)
   pub kept : KeptWrite n a b (r .answer) (r .node)
+  pub slots : SlotsWrite n (r .node)
+  pub whole : WholeWrite n b m (r .answer) (r .node)
   pub count : r .refused ≡ counted before (turnedDown (r .answer))
