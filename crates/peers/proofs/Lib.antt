@@ -1,3 +1,2 @@
 pub mod OfNamed
-pub mod OfSlots
 pub mod OfPeers

@@ -19,7 +19,7 @@ use Rattle.header.specs.Answers.{Told, told}
 use Rattle.peers.specs.declared.PeerReply.{PeerReply}
 use Rattle.peers.specs.declared.PeerReply.the-variants as P
 use Rattle.peers.specs.declared.PeerAnswer.{PeerAnswer}
-use Rattle.lend.specs.Lend.{Lot, lentFor, slotOf, Changes}
+use Rattle.lend.specs.Lend.{Lot, lentFor, slotOf, Changes, Whole}
 
 -- 'Bytes on the wire', 30 to 33; 'Who is turned down', the number of a refusal
 abbrev pub word : BackupAnswer → PeerReply
@@ -40,24 +40,33 @@ turnedDown (P.Refused r) = true
 abbrev pub viewPeer : Stores → PeerAnswer → Told PeerReply
 viewPeer t r = record { answer = r .answer; node = viewNode t (r .node) }
 
--- a call with the columns a, which leaves b, in a slot of which `lends` says that it is the named shard's: whatever the other stores hold,
--- they stay, and the lent one becomes the definition's. Turned down, it leaves every place of the columns as it was, the free ones too.
--- No two shards come to have one store
-pub record Serves (call : (Key → Bool) → held.Node → Result BackupAnswer held.Node) (lends : ℕ → Type 0) (n : Node) (a b : Lot) (r : PeerAnswer) : Type 0 where
+-- a call with the columns a, which leaves b, in a slot of which `lends` says that it is the shard's which the message names, as `names` says
+-- of its key: whatever the other stores hold, they stay, and the lent one becomes the definition's. Turned down, it leaves every place of
+-- the columns and of the header as it was, the free ones too. No two shards come to have one store. Not turned down, it leaves the store of
+-- a shard that was held well formed
+pub record Serves (call : (Key → Bool) → held.Node → Result BackupAnswer held.Node) (lends : ℕ → Type 0) (names : Key → Type 0) (n : Node) (a b : Lot)
+    (r : PeerAnswer) : Type 0 where
   pub same : (s t : Stores) (slot : ℕ) → lends slot → Changes s t slot a b → viewPeer t r ≡ told word (call (lentFor s n a) (viewNode s n))
-  pub kept : turnedDown (r .answer) ≡ true → b ≡ a
+  pub kept : turnedDown (r .answer) ≡ true → (b ≡ a) × (r .node ≡ n)
   pub slots : formedNode n ≡ true → slotsFit (used (r .node)) ≡ true
+  pub whole : turnedDown (r .answer) ≡ false → (k : Key) → names k → Whole n (r .node) b k
 
--- 20: the slot of the shard that the message names
+-- 20: the shard that the message names, and its slot
+abbrev pub ReplicateNames : List ℕ → Key → Type 0
+ReplicateNames m k = (v : Replicated) → decodeReplicate m ≡ some v → k ≡ v .key
+
 abbrev pub ReplicateSlot : Node → List ℕ → ℕ → Type 0
 ReplicateSlot n m slot = (v : Replicated) → decodeReplicate m ≡ some v → slot ≡ slotOf n (v .key)
 
 abbrev pub ReplicatesAt : Node → (a b : Lot) → List ℕ → PeerAnswer → Type 0
-ReplicatesAt n a b m r = Serves (λ lent v. calls.replicateWith lent v m) (ReplicateSlot n m) n a b r
+ReplicatesAt n a b m r = Serves (λ lent v. calls.replicateWith lent v m) (ReplicateSlot n m) (ReplicateNames m) n a b r
 
 -- 22
+abbrev pub CopyNames : List ℕ → Key → Type 0
+CopyNames m k = (v : Copied) → decodeCopyShard m ≡ some v → k ≡ v .key
+
 abbrev pub CopySlot : Node → List ℕ → ℕ → Type 0
 CopySlot n m slot = (v : Copied) → decodeCopyShard m ≡ some v → slot ≡ slotOf n (v .key)
 
 abbrev pub CopiesAt : Node → (a b : Lot) → List ℕ → PeerAnswer → Type 0
-CopiesAt n a b m r = Serves (λ lent v. calls.copyWith lent v m) (CopySlot n m) n a b r
+CopiesAt n a b m r = Serves (λ lent v. calls.copyWith lent v m) (CopySlot n m) (CopyNames m) n a b r
