@@ -31,20 +31,20 @@ use Rattle.peers.specs.declared.PeerReply.the-variants as P
 use Rattle.peers.specs.declared.PeerAnswer.{PeerAnswer}
 use Rattle.peers.specs.Peers.{word, viewPeer}
 use Rattle.peers.proofs.OfPeers.{unchanged, atOf, Reading, absent}
-use Rattle.newepoch.specs.Announces.{NewEpochSlot, AnnouncesAt, BeginsAt}
+use Rattle.newepoch.specs.Announces.{NewEpochNames, NewEpochSlot, AnnouncesAt, BeginsAt}
 use Rattle.newepoch.proofs.OfNamed.{new-epoch-key}
 
 module _ (n : Node) (m : List ℕ) where
   pub undecoded : (a : Lot) → message.decodeNewEpoch m ≡ none → AnnouncesAt n a a m (record { answer = P.Refused 21; node = n })
   unfolding calls.newEpochWith
-  undecoded a d = unchanged (λ lent v. calls.newEpochWith lent v m) (NewEpochSlot n m) n a (P.Refused 21) (λ s. rw d)
+  undecoded a d = unchanged (λ lent v. calls.newEpochWith lent v m) (NewEpochSlot n m) (NewEpochNames m) n a (P.Refused 21) refl (λ s. rw d)
 
   module _ (p : NewEpochPart) (i : messageOf m ≡ NewEpoch p) where
     abbrev r : message.NewEpoch
     r = new-epoch-decoded m p i .read
 
     -- no component has to lie in the domain
-    pub reads : Reading (λ lent v. calls.newEpochWith lent v m) (NewEpochSlot n m) n (keyIn m (p .key)) true
+    pub reads : Reading (λ lent v. calls.newEpochWith lent v m) (NewEpochSlot n m) (NewEpochNames m) n (keyIn m (p .key)) true
         (λ v. onNewEpoch v (keyIn m (p .key)) (r .epoch) (r .end) (r .table) (r .metric))
         (newEpochHeld (r .epoch) (r .end) (r .table))
     unfolding calls.newEpochWith onNewEpoch
@@ -56,6 +56,7 @@ module _ (n : Node) (m : List ℕ) where
               (ap (λ (k : Key). atOf lent v k true (onNewEpoch v k (r .epoch) (r .end) (r .table) (r .metric))) (sym (new-epoch-key m p i r d)));
           there = λ v h e. ap (newEpochAt v (keyIn m (p .key)) (r .epoch) (r .end) (r .table) (r .metric)) e;
           slot = λ j l. l r d ∙ ap (slotOf n) (sym (new-epoch-key m p i r d));
+          named = λ k l. l r d ∙ sym (new-epoch-key m p i r d);
         }
 
     pub backs : (h : Held) (s t : Store) (b : Backed) → TakesNewEpoch m h s t b → Backs (newEpochHeld (r .epoch) (r .end) (r .table)) h s t b
@@ -77,4 +78,4 @@ module _ (n : Node) (m : List ℕ) where
     pub began : (a : Lot) (k : Key) → k ≡ keyIn m (p .key) → (f : found.Lent) → Finds n k a f → f ≡ L.Absent
         → (b : PeerAnswer) → BeginsAt n k (p .epoch .0) (p .metric) b → AnnouncesAt n a a m b
     began a k named f finds e b d =
-        absent _ _ n a _ true _ _ reads true refl refl k named f finds e (b .answer) (b .node) (begins-as k named b d) (d .slots)
+        absent _ _ _ n a _ true _ _ reads true refl refl k named f finds e (b .answer) (b .node) (begins-as k named b d) (d .slots) (d .kept)

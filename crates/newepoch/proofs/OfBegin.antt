@@ -1,7 +1,7 @@
 -- Laws of a shard that NewEpoch begins: it aligns nothing, and is put in under the message's epoch and metric. Assumes nothing.
 use Prim.Native.Nat.{ℕ, _<_, _≤_}
 use native.Mathlib.Omega.{arith}
-use mathlib.Core.Path.{_≡_, sym, ap, _∙_}
+use mathlib.Core.Path.{_≡_, refl, sym, ap, _∙_}
 use mathlib.Core.Bool.{false}
 use mathlib.Core.List.{List, [], map}
 use mathlib.Core.Option.{none}
@@ -17,6 +17,7 @@ use Rattle.model.specs.Node.Held as held
 use Rattle.model.specs.Node.Shards.{Result, gives, withHeld, withReplica, heldBelow, demoted, begun}
 use Rattle.model.specs.Node.Backup.{BackupAnswer, replied, newEpochHeld}
 use Rattle.model.specs.declared.Metric.{Metric}
+use Rattle.model.proofs.Lists.{not-both}
 use Rattle.node.specs.declared.Held.{Held}
 use Rattle.node.specs.View.{viewHeld}
 use Rattle.serve.specs.Headers.{Begins, Realigns}
@@ -50,6 +51,7 @@ module _ (n : Node) (key : ShardKey) (epoch : ℕ) (metric : Metric) where
         let size = used-size (viewKept s) (n .held) (n .count) le in
         rw (le-leb maxHeld (length (map (viewKept s) (used n))) (omega arith));
     slots = λ y. y;
+    kept = λ y. refl;
   }
 
   pub begins : n .count < 8 → (fresh h : Held) → Begins metric fresh → Realigns fresh epoch 0 h → (r : Node) → Inserts n key h r
@@ -64,4 +66,5 @@ module _ (n : Node) (key : ShardKey) (epoch : ℕ) (metric : Metric) where
         told word (gives (x .answer) (withHeld (viewNode s n) (put heldBelow (x .after) (map (viewKept s) (used n))))))
         (sym (aligns-none k metric epoch end table fresh h b a)));
     slots = i .slots;
+    kept = λ y. not-both false y refl;
   }
