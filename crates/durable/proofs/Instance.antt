@@ -7,7 +7,7 @@ use mathlib.Core.Path.{_≡_, refl, sym, ap, subst, _∙_}
 use mathlib.Core.Bool.{true, false}
 use mathlib.Core.List.{List, [], _∷_, _++_}
 use mathlib.Core.Option.{Option, some}
-use lib.ListN.{length, set}
+use lib.ListN.{length, getD, set}
 use lib.Ieee.{nan}
 use borrow.Author.Tests.{ne-eqb}
 use Rattle.model.specs.Keys.{Key}
@@ -48,15 +48,16 @@ use Rattle.node.specs.declared.WaitAnswer.the-variants as W
 use Rattle.serve.specs.declared.Expiry.{Expiry}
 use Rattle.serve.specs.declared.Expiry.the-variants.{Never, At}
 use Rattle.shard.specs.View.{firsts, opOf, entryOf, logOf}
-use Rattle.shard.specs.Table.{zipped, rowsOf, vectorsOf, playRows, playRowsFrom}
+use Rattle.shard.specs.Table.{zipped, rowsOf, vectorsOf, rowOp, playRows, playRowsFrom}
 use Rattle.shard.specs.Store.{wellFormedStore, everyBelow, sameRows}
 use Rattle.replica.specs.Fits.{sized, lentFits}
+use Rattle.replica.proofs.OfFits.{fits-sized, fits-well}
 use Rattle.header.specs.declared.Kept.{Kept}
 use Rattle.header.specs.declared.Node.{Node}
 use Rattle.header.specs.declared.NodeGranted.{NodeGranted}
 use Rattle.header.specs.declared.NodeWaited.{NodeWaited}
 use Rattle.header.specs.declared.GrantAnswer.the-variants as G
-use Rattle.header.specs.View.{Stores, viewNode, noKept}
+use Rattle.header.specs.View.{Stores, viewNode, used, noKept}
 use Rattle.header.specs.Formed.{slotsFit, countsFit, lentNode}
 use Rattle.header.specs.Answers.{GrantsNode, WaitsNode, told}
 use Rattle.shown.specs.declared.Start.{Start}
@@ -64,10 +65,10 @@ use Rattle.shown.specs.declared.NodeShown.{NodeShown}
 use Rattle.shown.specs.declared.ShownAnswer.the-variants as S
 use Rattle.shown.specs.Shows.{viewStarts}
 use Rattle.hears.specs.Hears.{HearsMap}
-use Rattle.lend.specs.Lend.{Lot, lot, keptStore, placeOf, lentAt, lentFor, slotOf}
+use Rattle.lend.specs.Lend.{Lot, lot, storeOf, keptStore, placeOf, lentAt, lentFor, slotOf, Whole}
 use Rattle.clientwrites.specs.declared.WriteAnswer.{WriteAnswer}
 use Rattle.clientwrites.specs.declared.WriteReply.the-variants as C
-use Rattle.clientwrites.specs.ClientWrites.{writeWord, WriteSlot, SameWrite, WritesAt}
+use Rattle.clientwrites.specs.ClientWrites.{writeWord, WriteNames, WriteSlot, SameWrite, WritesAt}
 use Rattle.model.specs.Node.Refused as refused
 use Rattle.durable.specs.Engine.{Engine, seen, withNode, withStore, host}
 use Rattle.durable.specs.Calls.{writeSaid, waitSaid, Waits, Called, Calls}
@@ -272,9 +273,26 @@ same = λ s t slot w c.
 abbrev wrote : WriteAnswer
 wrote = record { answer = accepted; node = leads (At 100) 1; refused = 0 }
 
+slots-after : slotsFit (used (leads (At 100) 1)) ≡ true
+unfolding opened fill slotsFit
+slots-after = refl
+
+store-after : lentFits (storeOf after (getD (leads (At 100) 1 .held) 0 noKept)) ≡ true
+unfolding opened fill lentFits sized wellFormedStore everyBelow sameRows logOf firsts entryOf opOf rowsOf zipped rowOp playRows playRowsFrom
+store-after = refl
+
+key-after : Whole (leads (At 100) 0) (leads (At 100) 1) after run.key
+unfolding opened fill
+key-after e = (fits-sized _ store-after, fits-well _ store-after)
+
+whole : (k : Key) → WriteNames bytes k → Whole (leads (At 100) 0) (leads (At 100) 1) after k
+unfolding opened
+whole k named =
+    subst (Whole (leads (At 100) 0) (leads (At 100) 1) after) (sym (named (record { key = run.key; epoch = 1; op = wireDelete 41 }) refl)) key-after
+
 writes : WritesAt (leads (At 100) 0) before after 5 1 bytes 0 wrote
 unfolding refused.counted
-writes = record { same = same; kept = λ e. not-both false e refl; count = refl }
+writes = record { same = same; kept = λ e. not-both false e refl; slots = λ e. slots-after; whole = λ e. whole; count = refl }
 
 -- ---- the engine
 
