@@ -1,0 +1,3 @@
+pub mod OfPick
+pub mod OfPut
+pub mod OfState

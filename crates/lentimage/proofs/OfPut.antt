@@ -1,0 +1,79 @@
+-- Laws of writing back. Assumes nothing.
+use Prim.Native.Nat.{ℕ, _≤_, _<_, min}
+use mathlib.Core.Path.{_≡_, refl, sym, ap, _∙_}
+use mathlib.Core.Bool.{Bool, true, cond}
+use mathlib.Core.List.{List}
+use native.Mathlib.Omega.{arith}
+use lib.Dec.{leb, ltb}
+use lib.ListN.{length, getD}
+use borrow.Author.Tests.{ltb-true, lt-ltb, le-ltb, leb-true}
+use Rattle.model.specs.Keys.{Key}
+use Rattle.model.proofs.Lists.{and-left, and-right}
+use Rattle.shard.specs.Table.{rowsOf}
+use Rattle.shard.specs.View.{logOf}
+use Rattle.shard.specs.Store.{Sized, wellFormedStore}
+use Rattle.shard.proofs.Facts.{facts}
+use Rattle.outgoing.specs.Sent.{Sendable}
+use Rattle.outgoing.proofs.OfEntry.{sendable}
+use Rattle.header.specs.declared.Kept.{Kept}
+use Rattle.header.specs.declared.Node.{Node}
+use Rattle.header.specs.View.{noKept}
+use Rattle.lend.specs.Lend.{Lot, storeOf, placeOf}
+use Rattle.headerimage.specs.Image.{headerLent, nodeAt, headerWritten}
+use Rattle.storeimage.specs.Write.{EntriesWritten, RowsWritten}
+use Rattle.lentimage.specs.Lent.{beginOf, keptReadable, keptOf, readable, lendsState, storePut, Writable, Puttable, Puts}
+
+-- ---- one store
+
+module _ (x y : Kept) (b : Lot) (w : Writable x y b) where
+  pub writable-sent : Sendable (b .columns) (y .held .last)
+  writable-sent = sendable (storeOf b y) (w .sized) (w .well)
+
+  pub writable-rows : (y .stored ≤ 1024) × (y .stored ≤ length (b .keys)) × (y .stored ≤ length (b .places))
+  writable-rows =
+      let m = facts (storeOf b y) (w .well) .stored in
+      (m, omega (arith, w .sized .keys), omega (arith, w .sized .places))
+
+-- the entries, then the rows
+pub store-put : (s t u : List ℕ) (x y : Kept) (b : Lot) (from : ℕ) → from ≡ min (x .held .last) (y .held .last)
+    → EntriesWritten s t (beginOf x) from (logOf (b .columns) (y .held .last))
+    → RowsWritten t u (beginOf x) (rowsOf (b .keys) (b .places) (y .stored)) → u ≡ storePut s x y b
+unfolding storePut
+store-put s t u x y b from q e r = rw (r .image, e .image, q) refl
+
+-- ---- the whole
+
+module _ (h h′ s s′ : List ℕ) (n p : Node) (b : Lot) (at : ℕ) (e : h′ ≡ headerWritten h p) where
+  pub puts-kept : at < n .count → s′ ≡ storePut s (getD (n .held) at noKept) (getD (p .held) at noKept) b → Puts h h′ s s′ n p b at
+  puts-kept under q = record {
+    header = e;
+    stores = q ∙ sym (ap (λ (t : Bool). cond t (storePut s (getD (n .held) at noKept) (getD (p .held) at noKept) b) s) (lt-ltb at (n .count) under));
+  }
+
+  pub puts-absent : n .count ≤ at → s′ ≡ s → Puts h h′ s s′ n p b at
+  puts-absent gone q = record {
+    header = e;
+    stores = q ∙ sym (ap (λ (t : Bool). cond t (storePut s (getD (n .held) at noKept) (getD (p .held) at noKept) b) s) (le-ltb at (n .count) gone));
+  }
+
+-- ---- a state that was picked may be written back
+
+-- by a call that leaves a shard which was held with a store that passes the test
+pub puttable : (h s : List ℕ) (k : Key) (p : Node) (b : Lot) → lendsState h s k ≡ true
+    → (let y = getD (p .held) (placeOf (nodeAt h) k) noKept in
+    ltb (placeOf (nodeAt h) k) (nodeAt h .count) ≡ true → Sized (storeOf b y) × (wellFormedStore (storeOf b y) ≡ true))
+    → Puttable s (nodeAt h) p b (placeOf (nodeAt h) k)
+unfolding lendsState keptReadable
+puttable h s k p b e w =
+    let n = nodeAt h in
+    let t₁ = and-right (headerLent h) _ e in
+    let t₂ = and-right (leb (n .count) 8) _ t₁ in
+    let few = leb-true (n .count) 8 (and-left (leb (n .count) 8) _ t₁) in
+    record {
+      room = leb-true 1392640 (length s) (and-left (leb 1392640 (length s)) _ t₂);
+      inside = λ q. let under = ltb-true (placeOf n k) (n .count) q in omega arith;
+      shard = λ q.
+          let r : keptReadable s (keptOf n k) ≡ true =
+          sym (ap (λ (c : Bool). cond c (keptReadable s (keptOf n k)) true) q) ∙ and-right (leb 1392640 (length s)) (readable s n k) t₂ in
+          record { slot = ltb-true (keptOf n k .slot) 8 (and-left (ltb (keptOf n k .slot) 8) _ r); sized = w q .0; well = w q .1 };
+    }
