@@ -1,0 +1,3 @@
+pub mod OfNumbers
+pub mod OfApply
+pub mod OfEmpty

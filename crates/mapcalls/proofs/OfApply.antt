@@ -1,0 +1,86 @@
+-- The ways through apply on an image: no map lent, and the call. Assumes nothing.
+use Prim.Native.Nat.{ℕ, _≤_, _<_}
+use mathlib.Core.Path.{_≡_, refl, sym, ap, subst, _∙_}
+use mathlib.Core.Bool.{Bool, true, false, cond}
+use mathlib.Core.List.{List}
+use mathlib.Core.Option.{Option, none}
+use native.Mathlib.Omega.{arith}
+use borrow.Author.Tests.{lt-leb, le-leb, ne-eqb}
+use Rattle.model.specs.Map.Calls.{reasonNumber}
+use Rattle.model.specs.Layout.Parts.{whenever}
+use Rattle.model.specs.Layout.Request.{Request, decodeRequest}
+use Rattle.model.proofs.Lists.{not-both}
+use Rattle.state.specs.View.{answerOf, viewRequest}
+use Rattle.state.specs.declared.ShardMap.{ShardMap}
+use Rattle.requests.specs.Read.{LoadedAll}
+use Rattle.requests.specs.declared.Loaded.{Loaded}
+use Rattle.settle.specs.declared.Settled.{Settled}
+use Rattle.apply.specs.Calls.{AppliesBytes, applyLent}
+use Rattle.mapimage.specs.Image.{mapAt, mapLent, mapWritten, noMap, lentMap}
+use Rattle.mapimage.specs.declared.Lent.{Lent}
+use Rattle.mapcalls.specs.Calls.{unlentOf, unlentNumber, noted, AppliesTo}
+
+-- ---- which answers are remembered
+
+pub older-not : (r : ℕ) → r ≡ 1 → noted r ≡ false
+older-not r e = ap noted e
+
+pub refused-not : (r : ℕ) → 16 < r → noted r ≡ false
+refused-not r h = rw (ne-eqb r 1 (λ e. omega arith), lt-leb r 16 h)
+
+pub noted-else : (r : ℕ) → (r ≡ 1 → ⊥) → r ≤ 16 → noted r ≡ true
+noted-else r n h = rw (ne-eqb r 1 n, le-leb r 16 h)
+
+-- ---- what a buffer lends
+
+module _ (s : List ℕ) (l : Lent) (read : l ≡ lentMap s) where
+  pub found-lent : (b : Bool) → l .found ≡ b → mapLent s ≡ b
+  found-lent b e = sym (ap (λ (x : Lent). x .found) read) ∙ e
+
+  pub map-lent : mapLent s ≡ true → l .map ≡ mapAt s
+  map-lent e = ap (λ (x : Lent). x .map) read ∙ ap (λ (b : Bool). cond b (mapAt s) noMap) e
+
+-- ---- the number where no map is lent
+
+module _ (bytes : List ℕ) (l : Loaded) (q : LoadedAll bytes l) where
+  read-as : (b : Bool) → l .found ≡ b → unlentOf (whenever b (viewRequest (l .request) (q .padding))) ≡ unlentNumber bytes
+  read-as b e = sym (ap unlentOf (q .read ∙ ap (λ (x : Bool). whenever x (viewRequest (l .request) (q .padding))) e))
+
+  pub unlent-24 : l .found ≡ true → 24 ≡ unlentNumber bytes
+  unlent-24 e = read-as true e
+
+  pub unlent-21 : l .found ≡ false → 21 ≡ unlentNumber bytes
+  unlent-21 e = read-as false e
+
+-- ---- the ways
+
+pub unlent-way : (s bytes : List ℕ) (r : ℕ) → mapLent s ≡ false → r ≡ unlentNumber bytes → AppliesTo s s bytes r
+unlent-way s bytes r f e = record {
+  undecoded = λ n. (e ∙ ap unlentOf n, refl);
+  unlent = λ q n g. (e ∙ ap unlentOf n, refl);
+  lent = λ t. not-both (mapLent s) t f;
+}
+
+module _ (s t bytes : List ℕ) (r : ℕ) (a : Settled) (given : mapLent s ≡ true) (called : AppliesBytes (mapAt s) bytes a)
+    (answer : r ≡ reasonNumber (answerOf (a .verdict))) (image : t ≡ cond (noted r) (mapWritten s (a .map)) s) where
+  undecoded-number : decodeRequest bytes ≡ none → r ≡ 21
+  undecoded-number n = answer ∙ ap reasonNumber (called .answer) ∙ ap (λ (o : Option Request). reasonNumber (applyLent (mapAt s) o .answer)) n
+
+  pub applied-way : AppliesTo s t bytes r
+  applied-way = record {
+    undecoded = λ n. (undecoded-number n, image ∙ ap (λ (k : ℕ). cond (noted k) (mapWritten s (a .map)) s) (undecoded-number n));
+    unlent = λ q n f. not-both (mapLent s) given f;
+    lent = λ _. record { after = a; called = called; answer = answer; image = image };
+  }
+
+module _ (s bytes : List ℕ) (r : ℕ) (m : ShardMap) (a : Settled) (given : mapLent s ≡ true) (same : m ≡ mapAt s)
+    (called : AppliesBytes m bytes a) (answer : r ≡ reasonNumber (answerOf (a .verdict))) where
+  called-at : AppliesBytes (mapAt s) bytes a
+  called-at = subst (λ (x : ShardMap). AppliesBytes x bytes a) same called
+
+  -- not remembered: no byte changes
+  pub kept-way : noted r ≡ false → AppliesTo s s bytes r
+  kept-way n = applied-way s s bytes r a given called-at answer (sym (ap (λ (b : Bool). cond b (mapWritten s (a .map)) s) n))
+
+  pub written-way : (t : List ℕ) → noted r ≡ true → t ≡ mapWritten s (a .map) → AppliesTo s t bytes r
+  written-way t n e = applied-way s t bytes r a given called-at answer (e ∙ sym (ap (λ (b : Bool). cond b (mapWritten s (a .map)) s) n))

@@ -1,0 +1,64 @@
+// The calls on a shard map as a host makes them: the map is a byte image that the host owns (docs/IMAGES.md), a request is bytes. A call
+// answers a number; a refused one leaves every byte as it was. What an answer says stands in specs/Calls.antt.
+ghost use mathlib.Core.Path.{_≡_};
+ghost use Prim.Native.Nat.{_≤_};
+ghost use lib.ListN.{length};
+ghost use Rattle.mapimage.specs.Image.{mapPut, noMap};
+ghost use Rattle.mapcalls.specs.Calls.{AppliesTo, Empties, unlentNumber};
+use crate::numbers::verdict_number;
+use mapimage::read_map;
+use mapimage::write_map;
+use requests::decode;
+
+mod numbers;
+
+// Version and counts of a map without rows.
+fn put_empty(map: &mut [u8])
+    requires { ⌜ 26536 ≤ length (now map) ⌝ }
+    ensures { λ r. ⌜ now (map .exit) ≡ mapPut (now (map .entry)) noMap ⌝ }
+{
+    num::put8(map, 0, 0);
+    num::put8(map, 8, 0);
+    num::put8(map, 16, 0);
+    num::put8(map, 24, 0);
+    num::put8(map, 32, 0);
+}
+
+// An empty map, at version 0. 24 for a buffer that is too short.
+pub fn empty_map(map: &mut [u8]) -> u32
+    ensures { λ r. ⌜ Empties (now (map .entry)) (now (map .exit)) r ⌝ }
+{
+    if map.len() < 26536 {
+        return 24;
+    }
+    put_empty(map);
+    0
+}
+
+// The answer where no map is lent: 21 comes before 24.
+fn unlent_number(request: &[u8]) -> u32
+    ensures { λ r. ⌜ r ≡ unlentNumber (now (request .entry)) ⌝ }
+{
+    let read = decode(request);
+    if read.found { 24 } else { 21 }
+}
+
+// A request is applied to the map. 0 applied; 1 to 16 rejected, which the map remembers of the client, 1 apart; 21, 23, 24, 25 refused.
+pub fn apply(map: &mut [u8], request: &[u8]) -> u32
+    ensures { λ r. ⌜ AppliesTo (now (map .entry)) (now (map .exit)) (now (request .entry)) r ⌝ }
+{
+    let lent = read_map(map);
+    if !lent.found {
+        return unlent_number(request);
+    }
+    let settled = apply::apply(lent.map, request);
+    let number = verdict_number(settled.verdict);
+    if number == 1 {
+        return number;
+    }
+    if 16 < number {
+        return number;
+    }
+    write_map(map, settled.map);
+    number
+}
