@@ -16,8 +16,7 @@ use Rattle.requests.specs.Read.{LoadedAll}
 use Rattle.requests.specs.declared.Loaded.{Loaded}
 use Rattle.settle.specs.declared.Settled.{Settled}
 use Rattle.apply.specs.Calls.{AppliesBytes, applyLent}
-use Rattle.mapimage.specs.Image.{mapAt, mapLent, mapWritten, noMap, lentMap}
-use Rattle.mapimage.specs.declared.Lent.{Lent}
+use Rattle.mapimage.specs.Image.{mapAt, mapLent, mapWritten}
 use Rattle.mapcalls.specs.Calls.{unlentOf, unlentNumber, noted, AppliesTo}
 
 -- ---- which answers are remembered
@@ -30,15 +29,6 @@ refused-not r h = rw (ne-eqb r 1 (λ e. omega arith), lt-leb r 16 h)
 
 pub noted-else : (r : ℕ) → (r ≡ 1 → ⊥) → r ≤ 16 → noted r ≡ true
 noted-else r n h = rw (ne-eqb r 1 n, le-leb r 16 h)
-
--- ---- what a buffer lends
-
-module _ (s : List ℕ) (l : Lent) (read : l ≡ lentMap s) where
-  pub found-lent : (b : Bool) → l .found ≡ b → mapLent s ≡ b
-  found-lent b e = sym (ap (λ (x : Lent). x .found) read) ∙ e
-
-  pub map-lent : mapLent s ≡ true → l .map ≡ mapAt s
-  map-lent e = ap (λ (x : Lent). x .map) read ∙ ap (λ (b : Bool). cond b (mapAt s) noMap) e
 
 -- ---- the number where no map is lent
 

@@ -2,7 +2,8 @@
 use borrow.Author.Needs.{needs}
 use mathlib.Core.Bool.{true, false}
 use borrow.Author.Tests.{not-true, not-false}
-use Rattle.mapcalls.proofs.OfApply.{older-not, refused-not, noted-else, found-lent, map-lent, unlent-way, kept-way, written-way}
+use Rattle.mapcalls.proofs.OfApply.{older-not, refused-not, noted-else, unlent-way, kept-way, written-way}
+use Rattle.mapcalls.proofs.OfLent.{found-lent, map-lent}
 use Rattle.mapcalls.proofs.apply.Statement.{statement}
 use Rattle.mapcalls.proofs.apply.Tie as tie
 

@@ -1,0 +1,120 @@
+-- The answers of place and replacement, case by case. Assumes nothing.
+use Prim.Native.Nat.{ℕ, _≤_, _<_}
+use mathlib.Core.Path.{_≡_, refl, sym, ap, subst, _∙_}
+use mathlib.Core.Bool.{Bool, true, false, cond}
+use mathlib.Core.List.{List}
+use lib.ListN.{length}
+use lib.Dec.{ltb}
+use lib.Seq.{sets}
+use borrow.Author.Tests.{lt-ltb, le-ltb}
+use Rattle.model.specs.Layout.Format.{bytesOf}
+use Rattle.model.specs.Refusals.{Refusal, numberOf}
+use Rattle.model.specs.Map.Place as place
+use Rattle.model.specs.Map.Place.{nobody, replacedBy, notReplaced, Placed, placedOn, notPlaced}
+use Rattle.model.proofs.Lists.{not-both}
+use Rattle.rpcw.specs.Written.{textFits, keyGiven}
+use Rattle.state.specs.Names.{viewKey}
+use Rattle.state.specs.declared.Placement.{Placement}
+use Rattle.state.specs.declared.ShardKey.{ShardKey}
+use Rattle.state.specs.declared.ShardMap.{ShardMap}
+use Rattle.placement.specs.Answers.{placedAs, placedOf, placeLent, replacedOf, replacementLent}
+use Rattle.placement.specs.declared.PlaceAnswer.{PlaceAnswer}
+use Rattle.placement.specs.declared.Placing.{Placing}
+use Rattle.placement.specs.declared.Replaced.{Replaced}
+use Rattle.mapimage.specs.Image.{mapAt, mapLent}
+use Rattle.mapcalls.specs.Places.{listsBytes, AnswersLists, AnswersNode, specGiven, Places, Replaces}
+
+-- ---- one node
+
+module _ (s : List ℕ) where
+  pub none-short : length s < 8 → AnswersNode nobody s s 23
+  none-short h = record { number = sym (ap (λ (b : Bool). cond b 23 1) (lt-ltb (length s) 8 h)); bytes = refl }
+
+  pub none-long : 8 ≤ length s → AnswersNode nobody s s 1
+  none-long h = record { number = sym (ap (λ (b : Bool). cond b 23 1) (le-ltb (length s) 8 h)); bytes = refl }
+
+  module _ (n : ℕ) where
+    pub node-short : length s < 8 → AnswersNode (replacedBy n) s s 23
+    node-short h = record {
+      number = sym (ap (λ (b : Bool). cond b 23 0) (lt-ltb (length s) 8 h));
+      bytes = sym (ap (λ (b : Bool). cond b s (sets s 0 (bytesOf 8 n))) (lt-ltb (length s) 8 h));
+    }
+
+    pub node-long : (t : List ℕ) → 8 ≤ length s → t ≡ sets s 0 (bytesOf 8 n) → AnswersNode (replacedBy n) s t 0
+    node-long t h e = record {
+      number = sym (ap (λ (b : Bool). cond b 23 0) (le-ltb (length s) 8 h));
+      bytes = e ∙ sym (ap (λ (b : Bool). cond b s (sets s 0 (bytesOf 8 n))) (le-ltb (length s) 8 h));
+    }
+
+  pub node-refused : (why : Refusal) (r : ℕ) → r ≡ numberOf why → AnswersNode (notReplaced why) s s r
+  node-refused why r e = record { number = e; bytes = refl }
+
+-- of the answer that the call gave
+pub told-node : (x y : Replaced) (s t : List ℕ) (r : ℕ) → x ≡ y → AnswersNode (replacedOf y) s t r → AnswersNode (replacedOf x) s t r
+told-node x y s t r e p = subst (λ (z : Replaced). AnswersNode (replacedOf z) s t r) (sym e) p
+
+-- ---- lists
+
+module _ (ls : List (List ℕ)) (s : List ℕ) where
+  pub lists-short : (k : ℕ) → k ≡ length (listsBytes ls) → length s < k → AnswersLists (placedOn ls) s s 23
+  lists-short k e h =
+      let g : ltb (length s) (length (listsBytes ls)) ≡ true = ap (ltb (length s)) (sym e) ∙ lt-ltb (length s) k h in
+      record {
+        number = sym (ap (λ (b : Bool). cond b 23 0) g);
+        bytes = sym (ap (λ (b : Bool). cond b s (sets s 0 (listsBytes ls))) g);
+      }
+
+  pub lists-long : (t : List ℕ) (k : ℕ) → k ≡ length (listsBytes ls) → k ≤ length s → t ≡ sets s 0 (listsBytes ls) → AnswersLists (placedOn ls) s t 0
+  lists-long t k e h q =
+      let g : ltb (length s) (length (listsBytes ls)) ≡ false = ap (ltb (length s)) (sym e) ∙ le-ltb (length s) k h in
+      record {
+        number = sym (ap (λ (b : Bool). cond b 23 0) g);
+        bytes = q ∙ sym (ap (λ (b : Bool). cond b s (sets s 0 (listsBytes ls))) g);
+      }
+
+pub lists-refused : (s : List ℕ) (why : Refusal) (r : ℕ) → r ≡ numberOf why → AnswersLists (notPlaced why) s s r
+lists-refused s why r e = record { number = e; bytes = refl }
+
+pub told-lists : (h g : Placing) (p : Placement) (s t : List ℕ) (r : ℕ) → h ≡ g → AnswersLists (placedAs g p) s t r → AnswersLists (placedAs h p) s t r
+told-lists h g p s t r e q = subst (λ (z : Placing). AnswersLists (placedAs z p) s t r) (sym e) q
+
+-- ---- the calls
+
+module _ (m : List ℕ) (shards replication : ℕ) (s : List ℕ) where
+  pub place-unlent : mapLent m ≡ false → Places m shards replication s s 24
+  place-unlent f = record { unlent = λ _. (refl, refl); lent = λ e. not-both (mapLent m) e f }
+
+  pub place-lent : (x : ShardMap) (a : PlaceAnswer) (t : List ℕ) (r : ℕ) → mapLent m ≡ true → x ≡ mapAt m
+      → placedOf a ≡ placeLent x (specGiven shards replication) → AnswersLists (placedOf a) s t r → Places m shards replication s t r
+  place-lent x a t r e q p k = record {
+    unlent = λ f. not-both (mapLent m) e f;
+    lent = λ _. subst (λ (y : Placed). AnswersLists y s t r) (p ∙ ap (λ (z : ShardMap). placeLent z (specGiven shards replication)) q) k;
+  }
+
+module _ (m name : List ℕ) (shard : ℕ) (s : List ℕ) where
+  pub replace-unnamed : textFits 32 name ≡ false → Replaces m name shard s s 21
+  replace-unnamed f = record {
+    unnamed = λ _. (refl, refl);
+    unlent = λ e _. not-both (textFits 32 name) e f;
+    lent = λ e _. not-both (textFits 32 name) e f;
+  }
+
+  module _ (fits : textFits 32 name ≡ true) where
+    pub replace-unlent : mapLent m ≡ false → Replaces m name shard s s 24
+    replace-unlent f = record {
+      unnamed = λ g. not-both (textFits 32 name) fits g;
+      unlent = λ _ _. (refl, refl);
+      lent = λ _ e. not-both (mapLent m) e f;
+    }
+
+    pub replace-lent : (x : ShardMap) (k : ShardKey) (a : Replaced) (t : List ℕ) (r : ℕ) → mapLent m ≡ true → x ≡ mapAt m
+        → viewKey k ≡ keyGiven name shard → replacedOf a ≡ replacementLent x k → AnswersNode (replacedOf a) s t r → Replaces m name shard s t r
+    replace-lent x k a t r e q v p n = record {
+      unnamed = λ g. not-both (textFits 32 name) fits g;
+      unlent = λ _ f. not-both (mapLent m) e f;
+      lent = λ _ _. record {
+        key = k;
+        named = v;
+        answer = subst (λ (y : place.Replaced). AnswersNode y s t r) (p ∙ ap (λ (z : ShardMap). replacementLent z k) q) n;
+      };
+    }

@@ -1,0 +1,88 @@
+// The answer of place as bytes: 8 for each node, a list behind the other.
+ghost use mathlib.Core.Path.{_≡_};
+ghost use Prim.Native.Nat.{_+_, _≤_};
+ghost use lib.ListN.{length};
+ghost use lib.Seq.{sets};
+ghost use Rattle.model.specs.Map.Place.{placedOn};
+ghost use Rattle.state.specs.View.{viewList, viewPlacement};
+ghost use Rattle.placement.specs.Answers.{placedOf};
+ghost use Rattle.mapcalls.specs.Places.{listBytes, listsBytes, AnswersLists};
+use crate::numbers::refusal_number;
+use image::bytes::in_use;
+use placement::PlaceAnswer;
+use placement::Placing;
+use state::NodeList;
+use state::Placement;
+
+// How many bytes a list takes.
+fn list_size(l: NodeList) -> usize
+    ensures { λ r. ⌜ (r ≡ length (listBytes (viewList l))) × (r ≤ 64) ⌝ }
+{
+    8 * in_use(8, l.count)
+}
+
+// And all of them.
+fn lists_size(p: Placement) -> usize
+    ensures { λ r. ⌜ r ≡ length (listsBytes (viewPlacement p)) ⌝ }
+{
+    let n = in_use(16, p.count);
+    let mut size: usize = 0;
+    let mut i: usize = 0;
+    while i < n {
+        let l = p.lists[i];
+        size += list_size(l);
+        i += 1;
+    }
+    size
+}
+
+fn put_list(out: &mut [u8], at: usize, l: NodeList)
+    requires { ⌜ at + length (listBytes (viewList l)) ≤ length (now out) ⌝ }
+    ensures { λ r. ⌜ now (out .exit) ≡ sets (now (out .entry)) at (listBytes (viewList l)) ⌝ }
+{
+    let n = in_use(8, l.count);
+    let mut i: usize = 0;
+    while i < n {
+        let id = l.nodes[i];
+        num::put8(out, at + 8 * i, id.0);
+        i += 1;
+    }
+}
+
+fn put_lists(out: &mut [u8], p: Placement)
+    requires { ⌜ length (listsBytes (viewPlacement p)) ≤ length (now out) ⌝ }
+    ensures { λ r. ⌜ now (out .exit) ≡ sets (now (out .entry)) 0 (listsBytes (viewPlacement p)) ⌝ }
+{
+    let n = in_use(16, p.count);
+    let mut at: usize = 0;
+    let mut i: usize = 0;
+    while i < n {
+        let l = p.lists[i];
+        put_list(out, at, l);
+        at += list_size(l);
+        i += 1;
+    }
+}
+
+// 23 where the lists do not fit.
+fn put_placement(out: &mut [u8], p: Placement) -> u32
+    ensures { λ r. ⌜ AnswersLists (placedOn (viewPlacement p)) (now (out .entry)) (now (out .exit)) r ⌝ }
+{
+    if out.len() < lists_size(p) {
+        return 23;
+    }
+    put_lists(out, p);
+    0
+}
+
+// Internal: what place answers.
+pub fn answer_lists(out: &mut [u8], a: PlaceAnswer) -> u32
+    ensures { λ r. ⌜ AnswersLists (placedOf a) (now (out .entry)) (now (out .exit)) r ⌝ }
+{
+    let how = a.how;
+    match how {
+        Placing::Nowhere => 1,
+        Placing::Placed => put_placement(out, a.placement),
+        Placing::Refused(r) => refusal_number(r),
+    }
+}
