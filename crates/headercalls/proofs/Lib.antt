@@ -1,0 +1,4 @@
+pub mod OfAsked
+pub mod OfCalls
+pub mod OfFresh
+pub mod OfWaits

@@ -1,0 +1,95 @@
+-- Laws of what every call is asked with. Assumes nothing.
+use Prim.Native.Nat.{ℕ, _≤_}
+use mathlib.Core.Bool.{Bool, true, false, not}
+use mathlib.Core.Path.{_≡_, refl, sym, ap, _∙_}
+use mathlib.Core.List.{List}
+use native.Mathlib.Omega.{arith}
+use lib.Dec.{leb, ltb}
+use lib.ListN.{length, take, drop}
+use lib.Seq.{take-all}
+use borrow.Author.Tests.{leb-true, not-false}
+use Rattle.model.specs.Lists.{_and_, _or_}
+use Rattle.model.specs.Limits.{maxName, maxTime}
+use Rattle.model.specs.Keys.{Key}
+use Rattle.model.specs.Node.Calls.{lateTime}
+use Rattle.model.proofs.LayoutLaws.Tests.{and-left, false-not-true}
+use Rattle.rpcw.specs.Written.{textFits}
+use Rattle.headercalls.specs.Asked.{keyNamed, unreadName, Asked}
+use Rattle.headercalls.specs.Settles.{unreadOutcome}
+use Rattle.headercalls.specs.Waits.{unreadWait}
+
+-- ---- 21, 24, and neither
+
+module _ {unread lent : Bool} {r : ℕ} {Same Called : Type 0} where
+  pub asked-unread : unread ≡ true → r ≡ 21 → Same → Asked unread lent r Same Called
+  asked-unread u a b = record {
+    undecodable = λ e. (a, b);
+    malformed = λ e l. absurd (false-not-true (sym e ∙ u));
+    called = λ e l. absurd (false-not-true (sym e ∙ u));
+  }
+
+  pub asked-malformed : unread ≡ false → lent ≡ false → r ≡ 24 → Same → Asked unread lent r Same Called
+  asked-malformed u h a b = record {
+    undecodable = λ e. absurd (false-not-true (sym u ∙ e));
+    malformed = λ e l. (a, b);
+    called = λ e l. absurd (false-not-true (sym h ∙ l));
+  }
+
+  pub asked-called : unread ≡ false → lent ≡ true → Called → Asked unread lent r Same Called
+  asked-called u h d = record {
+    undecodable = λ e. absurd (false-not-true (sym u ∙ e));
+    malformed = λ e l. absurd (false-not-true (sym l ∙ h));
+    called = λ e l. d;
+  }
+
+-- ---- times and names
+
+pub late-first : (a b : ℕ) → ltb maxTime a ≡ true → true ≡ (lateTime a or lateTime b)
+unfolding _or_
+late-first a b e = rw e
+
+pub late-second : (a b : ℕ) → ltb maxTime a ≡ false → ltb maxTime b ≡ (lateTime a or lateTime b)
+unfolding _or_
+late-second a b e = rw e
+
+pub key-whole : (name : List ℕ) (shard : ℕ) → record { collection = take (length name) (drop 0 name); shard = shard } ≡ keyNamed name shard
+key-whole name shard = ap (λ (x : List ℕ). keyNamed x shard) (take-all (length name) name (omega arith))
+
+first-fails : (a b : Bool) → (a or b) ≡ false → a ≡ false
+unfolding _or_
+first-fails true b e = e
+first-fails false b e = refl
+
+pub name-short : (name : List ℕ) (rest : Bool) → unreadName name rest ≡ false → length name ≤ 32
+unfolding textFits
+name-short name rest e = leb-true (length name) 32 (and-left _ _ (not-false _ (first-fails (not (textFits maxName name)) rest e)))
+
+-- ---- what is not readable
+
+module _ (name : List ℕ) (now timeout : ℕ) where
+  pub wait-unnamed : not (textFits maxName name) ≡ true → true ≡ unreadWait name now timeout
+  unfolding _or_
+  wait-unnamed e = rw e
+
+  pub wait-named : not (textFits maxName name) ≡ false → (lateTime now or lateTime timeout) ≡ unreadWait name now timeout
+  unfolding _or_
+  wait-named e = rw e
+
+module _ (name : List ℕ) (command applied : ℕ) where
+  pub outcome-unnamed : not (textFits maxName name) ≡ true → true ≡ unreadOutcome name command applied
+  unfolding _or_
+  outcome-unnamed e = rw e
+
+  module _ (named : not (textFits maxName name) ≡ false) where
+    pub outcome-unended : ltb 1 applied ≡ true → true ≡ unreadOutcome name command applied
+    unfolding _or_
+    outcome-unended e = rw named (rw e)
+
+    module _ (ended : ltb 1 applied ≡ false) where
+      pub outcome-under : ltb command 0x17 ≡ true → true ≡ unreadOutcome name command applied
+      unfolding _or_
+      outcome-under e = rw named (rw ended (rw e))
+
+      pub outcome-over : ltb command 0x17 ≡ false → ltb 0x18 command ≡ unreadOutcome name command applied
+      unfolding _or_
+      outcome-over e = rw named (rw ended (rw e))

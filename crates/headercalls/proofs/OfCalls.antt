@@ -1,0 +1,71 @@
+-- What a call on the header that was read is of the image. Assumes nothing.
+use Prim.Native.Nat.{ℕ}
+use mathlib.Core.Bool.{Bool, true}
+use mathlib.Core.Path.{_≡_, refl, sym, ap, _∙_, subst}
+use mathlib.Core.List.{List}
+use lib.Dec.{eqb}
+use Rattle.model.specs.Keys.{Key}
+use Rattle.node.specs.declared.OutcomeAnswer.{OutcomeAnswer}
+use Rattle.header.specs.declared.Node.{Node}
+use Rattle.header.specs.declared.GrantAnswer.{GrantAnswer}
+use Rattle.header.specs.declared.NodeGranted.{NodeGranted}
+use Rattle.header.specs.declared.Proposal.{Proposal}
+use Rattle.header.specs.declared.NodeSettled.{NodeSettled}
+use Rattle.header.specs.declared.NodeWaited.{NodeWaited}
+use Rattle.header.specs.Answers.{GrantsNode, SettlesNode, WaitsNode}
+use Rattle.header.specs.Arrays.{Fitting}
+use Rattle.headerimage.specs.declared.Lent.{Lent}
+use Rattle.headerimage.specs.Image.{headerLent, nodeAt, lentHeader}
+use Rattle.headercalls.specs.Asked.{keyNamed, imageAfter}
+use Rattle.headercalls.specs.Grants.{grantNumber, isGranted, GrantsImage}
+use Rattle.headercalls.specs.Settles.{proposalAt, outcomeNumber, isSettled, SettlesImage}
+use Rattle.headercalls.specs.Waits.{left, waitLeft, WaitsImage}
+
+module _ (s : List ℕ) (l : Lent) (read : l ≡ lentHeader s) where
+  pub as-lent : (b : Bool) → l .found ≡ b → headerLent s ≡ b
+  as-lent b e = ap (λ (x : Lent). x .found) (sym read) ∙ e
+
+  lent-node : headerLent s ≡ true → lentHeader s .node ≡ nodeAt s
+  lent-node e = rw e
+
+  module _ (found : l .found ≡ true) where
+    -- what holds of the header that was read holds of what the bytes are read as
+    on-lent : (P : Node → Type 0) → P (l .node) → P (nodeAt s)
+    on-lent P = subst P (ap (λ (x : Lent). x .node) read ∙ lent-node (as-lent true found))
+
+    pub grants-image : (t : List ℕ) (i sent lease r : ℕ) (after : NodeGranted) → GrantsNode (l .node) i sent lease after → Fitting (l .node) (after .node)
+        → (x : GrantAnswer) → after .answer ≡ x → r ≡ grantNumber x → t ≡ imageAfter (isGranted x) s (after .node)
+        → GrantsImage s t i sent lease r
+    grants-image t i sent lease r after call fits x e a b = record {
+      after = after;
+      call = on-lent (λ n. GrantsNode n i sent lease after) call;
+      fits = on-lent (λ n. Fitting n (after .node)) fits;
+      answer = a ∙ ap grantNumber (sym e);
+      image = b ∙ ap (λ (y : GrantAnswer). imageAfter (isGranted y) s (after .node)) (sym e);
+    }
+
+    module _ (name : List ℕ) (shard : ℕ) (k : Key) (key : k ≡ keyNamed name shard) where
+      pub settles-image : (t : List ℕ) (epoch peer command applied r : ℕ) (w : Proposal) → w ≡ proposalAt command → (after : NodeSettled)
+          → SettlesNode (l .node) k epoch peer w (eqb applied 1) after → Fitting (l .node) (after .node)
+          → (x : OutcomeAnswer) → after .answer ≡ x → r ≡ outcomeNumber x → t ≡ imageAfter (isSettled x) s (after .node)
+          → SettlesImage s t name shard epoch peer command applied r
+      settles-image t epoch peer command applied r w what after call fits x e a b = record {
+        after = after;
+        call = subst (λ v. SettlesNode (nodeAt s) v epoch peer (proposalAt command) (eqb applied 1) after) key
+            (subst (λ v. SettlesNode (nodeAt s) k epoch peer v (eqb applied 1) after) what
+            (on-lent (λ n. SettlesNode n k epoch peer w (eqb applied 1) after) call));
+        fits = on-lent (λ n. Fitting n (after .node)) fits;
+        answer = a ∙ ap outcomeNumber (sym e);
+        image = b ∙ ap (λ (y : OutcomeAnswer). imageAfter (isSettled y) s (after .node)) (sym e);
+      }
+
+      pub waits-image : (t p q a b : List ℕ) (epoch offset now timeout r : ℕ) (after : NodeWaited)
+          → WaitsNode (l .node) k epoch offset now timeout after → Fitting (l .node) (after .node)
+          → left r t q b ≡ waitLeft s p a after → WaitsImage s t p q a b name shard epoch offset now timeout r
+      waits-image t p q a b epoch offset now timeout r after call fits e = record {
+        after = after;
+        call = subst (λ v. WaitsNode (nodeAt s) v epoch offset now timeout after) key
+            (on-lent (λ n. WaitsNode n k epoch offset now timeout after) call);
+        fits = on-lent (λ n. Fitting n (after .node)) fits;
+        buffers = e;
+      }

@@ -1,0 +1,29 @@
+-- What every call over an image says first (paper 01, 'Who is turned down'), and what it leaves of the image. Definitions only.
+use Prim.Native.Nat.{ℕ}
+use mathlib.Core.Bool.{Bool, true, false, not, cond}
+use mathlib.Core.Path.{_≡_}
+use mathlib.Core.List.{List}
+use Rattle.model.specs.Lists.{_or_}
+use Rattle.model.specs.Limits.{maxName}
+use Rattle.model.specs.Keys.{Key}
+use Rattle.header.specs.declared.Node.{Node}
+use Rattle.rpcw.specs.Written.{textFits}
+use Rattle.headerimage.specs.Image.{headerWritten}
+
+-- the shard that a caller names
+abbrev pub keyNamed : List ℕ → ℕ → Key
+keyNamed name shard = record { collection = name; shard = shard }
+
+-- the name is none, or the rest is not readable
+abbrev pub unreadName : List ℕ → Bool → Bool
+unreadName name rest = not (textFits maxName name) or rest
+
+-- 21 for what is not readable, then 24 for an image that lends no state, and neither changes a byte; then the call
+pub record Asked (unread lent : Bool) (r : ℕ) (Same Called : Type 0) : Type 0 where
+  pub undecodable : unread ≡ true → (r ≡ 21) × Same
+  pub malformed : unread ≡ false → lent ≡ false → (r ≡ 24) × Same
+  pub called : unread ≡ false → lent ≡ true → Called
+
+-- an image after a call: written back if the call was not refused, as it was otherwise
+abbrev pub imageAfter : Bool → List ℕ → Node → List ℕ
+imageAfter done s n = cond done (headerWritten s n) s

@@ -1,0 +1,35 @@
+-- What a lease grant over a header's image promises: 21 and 24 as every call, then the contract of the grant on the header that the bytes are
+-- read as, its number, and every byte after. Definitions only.
+use Prim.Native.Nat.{ℕ}
+use mathlib.Core.Bool.{Bool, true, false}
+use mathlib.Core.Path.{_≡_}
+use mathlib.Core.List.{List}
+use Rattle.model.specs.Lists.{_or_}
+use Rattle.model.specs.Node.Calls.{lateTime}
+use Rattle.header.specs.declared.GrantAnswer.{GrantAnswer}
+use Rattle.header.specs.declared.GrantAnswer.the-variants as G
+use Rattle.header.specs.declared.NodeGranted.{NodeGranted}
+use Rattle.header.specs.Answers.{GrantsNode}
+use Rattle.header.specs.Arrays.{Fitting}
+use Rattle.headerimage.specs.Image.{headerLent, nodeAt}
+use Rattle.headercalls.specs.Asked.{Asked, imageAfter}
+
+abbrev pub grantNumber : GrantAnswer → ℕ
+grantNumber G.Granted = 0
+grantNumber (G.Refused k) = k
+
+abbrev pub isGranted : GrantAnswer → Bool
+isGranted G.Granted = true
+isGranted (G.Refused k) = false
+
+-- the image holds s before and t after
+pub record GrantsImage (s t : List ℕ) (incarnation sent lease r : ℕ) : Type 0 where
+  pub after : NodeGranted
+  pub call : GrantsNode (nodeAt s) incarnation sent lease after
+  pub fits : Fitting (nodeAt s) (after .node)
+  pub answer : r ≡ grantNumber (after .answer)
+  pub image : t ≡ imageAfter (isGranted (after .answer)) s (after .node)
+
+abbrev pub Grants : (s t : List ℕ) → (incarnation sent lease r : ℕ) → Type 0
+Grants s t incarnation sent lease r =
+    Asked (lateTime sent or lateTime lease) (headerLent s) r (t ≡ s) (GrantsImage s t incarnation sent lease r)

@@ -1,0 +1,5 @@
+pub mod Asked
+pub mod Grants
+pub mod Settles
+pub mod Fresh
+pub mod Waits

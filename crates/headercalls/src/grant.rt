@@ -1,0 +1,30 @@
+// Lease grant over a header's image (paper 01, 'The node').
+ghost use Rattle.headercalls.specs.Grants.{Grants};
+use crate::named::late;
+use header::GrantAnswer;
+use headerimage::read_header;
+use headerimage::write_header;
+
+// 21 a time above 2^62, 24; then the grant.
+pub fn grant(header: &mut [u8], incarnation: u64, sent: u64, lease: u64) -> u32
+    ensures { λ r. ⌜ Grants (now (header .entry)) (now (header .exit)) incarnation sent lease r ⌝ }
+{
+    if late(sent, lease) {
+        return 21;
+    }
+    let lent = read_header(header);
+    if !lent.found {
+        return 24;
+    }
+    let n = lent.node;
+    let a = header::grant::grant(n, incarnation, sent, lease);
+    let answer = a.answer;
+    match answer {
+        GrantAnswer::Refused(k) => k as u32,
+        GrantAnswer::Granted => {
+            let out = a.node;
+            write_header(header, out);
+            0
+        }
+    }
+}
