@@ -5,7 +5,7 @@ use lib.Dec.{T}
 use lib.Ieee.{Float}
 use Rattle.model.specs.Nearest.Root.{rootable}
 use Rattle.model.proofs.Nearest.NoNan.{squares-rootable, norm-rootable}
-use Rattle.ieee.proofs.Arms.{euclid-made, angle-made, measured}
+use Rattle.ieee.proofs.Arms.{own-root, euclid-made, angle-made, measured}
 use Rattle.ieee.proofs.sums.measure.Statement.{statement}
 use Rattle.ieee.proofs.sums.measure.Tie as tie
 
@@ -33,8 +33,7 @@ dot-requires-2 c κs = search needs
 angle-requires : tie.Need-angle-requires
 angle-requires c κs =
     let at = c .before .before .before .before .before .before in
-    subst (λ (x : Float). T (rootable x)) (sym (c .dot2 .ensures))
-    (norm-rootable (at .args .vector .now) (at .pre .1))
+    own-root _ _ (c .dot2 .ensures) (norm-rootable (at .args .vector .now) (at .pre .1))
 
 returns : tie.Need-returns
 returns c =
