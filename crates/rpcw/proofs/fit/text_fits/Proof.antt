@@ -1,9 +1,10 @@
 -- `fit::text_fits` meets its contract. Assumes nothing.
 use Prim.Native.Nat.{ℕ, _-_, _≤_, _<_}
 use mathlib.Core.Path.{_≡_, refl, sym, ap, _∙_}
-use mathlib.Core.Bool.{true}
+use mathlib.Core.Bool.{true, false}
 use native.Mathlib.Omega.{arith}
-use lib.ListN.{length, drop}
+use lib.Dec.{leb}
+use lib.ListN.{length, drop, getD}
 use borrow.Author.Tests.{lt-leb, le-leb}
 use Rattle.model.specs.Lists.{_and_}
 use Rattle.model.specs.Layout.Format.{inRange}
@@ -36,7 +37,8 @@ returns-2 c =
     let l = c .before .before .before .loop in
     let a = c .before .before .before .before .before .args in
     let h : l .i < length (a .v .now) = omega arith in
-    sym (rw (le-leb _ _ (l .inv .1)) (and-true _ ∙ l .inv .2 ∙ range-step (a .v .now) (l .i) h ∙ (rw (lt-leb _ _ (c .if2 .taken)) (and-false _))))
+    let low : leb 0x20 (getD (a .v .now) (l .i) 0) ≡ false = lt-leb _ _ (c .if2 .taken) in
+    sym (rw (le-leb _ _ (l .inv .1)) (and-true _ ∙ l .inv .2 ∙ range-step (a .v .now) (l .i) h ∙ (rw low (and-false _))))
 
 returns-3 : tie.Need-returns-3 Inv-loop μ-loop
 unfolding textFits
@@ -44,7 +46,9 @@ returns-3 c =
     let l = c .before .before .before .before .loop in
     let a = c .before .before .before .before .before .before .args in
     let h : l .i < length (a .v .now) = omega arith in
-    sym (rw (le-leb _ _ (l .inv .1)) (and-true _ ∙ l .inv .2 ∙ range-step (a .v .now) (l .i) h ∙ (rw (le-leb _ _ (c .before .if2 .left), lt-leb _ _ (c .if3 .taken)) (and-true _ ∙ and-false _))))
+    let from : leb 0x20 (getD (a .v .now) (l .i) 0) ≡ true = le-leb _ _ (c .before .if2 .left) in
+    let high : leb (getD (a .v .now) (l .i) 0) 0x7E ≡ false = lt-leb _ _ (c .if3 .taken) in
+    sym (rw (le-leb _ _ (l .inv .1)) (and-true _ ∙ l .inv .2 ∙ range-step (a .v .now) (l .i) h ∙ (rw (from, high) (and-true _ ∙ and-false _))))
 
 add-i : tie.Need-add-i Inv-loop μ-loop
 add-i c = omega arith
@@ -57,7 +61,9 @@ loop-again c =
     let l = c .before .before .before .before .loop in
     let a = c .before .before .before .before .before .before .args in
     let h : l .i < length (a .v .now) = omega arith in
-    (omega arith, l .inv .1, l .inv .2 ∙ range-step (a .v .now) (l .i) h ∙ (rw (le-leb _ _ (c .before .if2 .left), le-leb _ _ (c .if3 .left)) (and-true _ ∙ and-true _)))
+    let from : leb 0x20 (getD (a .v .now) (l .i) 0) ≡ true = le-leb _ _ (c .before .if2 .left) in
+    let upto : leb (getD (a .v .now) (l .i) 0) 0x7E ≡ true = le-leb _ _ (c .if3 .left) in
+    (omega arith, l .inv .1, l .inv .2 ∙ range-step (a .v .now) (l .i) h ∙ (rw (from, upto) (and-true _ ∙ and-true _)))
 
 returns-4 : tie.Need-returns-4 Inv-loop μ-loop
 unfolding textFits
