@@ -25,7 +25,8 @@ write-entries-requires c κs =
     let w = s .pre .1 in
     let slot = w .slot in
     let l = c .before .least in
-    (writable-sent (s .args .x) (s .args .y) (columnsOf s) w, subst (λ (i : ℕ). i ≤ s .args .y .held .last) (sym (l .ensures)) (min-le-right (s .args .x .held .last) (s .args .y .held .last)), omega (arith, s .pre .0))
+    let below = subst (λ (i : ℕ). i ≤ s .args .y .held .last) (sym (l .ensures)) (min-le-right (s .args .x .held .last) (s .args .y .held .last)) in
+    (writable-sent (s .args .x) (s .args .y) (columnsOf s) w, omega (arith, below), omega (arith, s .pre .0))
 
 write-table-requires : tie.Need-write-table-requires
 write-table-requires c κs =
