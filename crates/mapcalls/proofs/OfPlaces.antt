@@ -75,7 +75,8 @@ module _ (ls : List (List ℕ)) (s : List ℕ) where
 pub lists-refused : (s : List ℕ) (why : Refusal) (r : ℕ) → r ≡ numberOf why → AnswersLists (notPlaced why) s s r
 lists-refused s why r e = record { number = e; bytes = refl }
 
-pub told-lists : (h g : Placing) (p : Placement) (s t : List ℕ) (r : ℕ) → h ≡ g → AnswersLists (placedAs g p) s t r → AnswersLists (placedAs h p) s t r
+pub told-lists : (h g : Placing) (p : Placement) (s t : List ℕ) (r : ℕ) → h ≡ g
+    → AnswersLists (placedAs g p) s t r → AnswersLists (placedAs h p) s t r
 told-lists h g p s t r e q = subst (λ (z : Placing). AnswersLists (placedAs z p) s t r) (sym e) q
 
 -- ---- the calls

@@ -1,5 +1,6 @@
 -- `apply` meets its contract. Assumes nothing.
 use borrow.Author.Needs.{needs}
+use native.Mathlib.Omega.{arith}
 use mathlib.Core.Bool.{true, false}
 use borrow.Author.Tests.{not-true, not-false}
 use Rattle.mapcalls.proofs.OfApply.{older-not, refused-not, noted-else, unlent-way, kept-way, written-way}
@@ -47,7 +48,7 @@ returns-3 c =
     let l = c .before .before .before .before .before .before .read-map .result in
     let e = c .before .before .before .before .before .before .read-map .ensures in
     let f = found-lent s l e true (not-false _ (c .before .before .before .before .if1 .left)) in
-    kept-way s (c .before .before .before .before .before .before .before .before .before .before .args .request .now) (c .before .before .verdict-number .result) (l .map) (c .before .before .before .apply .result) f (map-lent s l e f) (c .before .before .before .apply .ensures) (c .before .before .verdict-number .ensures) (refused-not _ (c .if3 .taken))
+    kept-way s (c .before .before .before .before .before .before .before .before .before .before .args .request .now) (c .before .before .verdict-number .result) (l .map) (c .before .before .before .apply .result) f (map-lent s l e f) (c .before .before .before .apply .ensures) (c .before .before .verdict-number .ensures) (refused-not (c .before .before .verdict-number .result) (omega (arith, c .if3 .taken)))
 
 write-map-requires : tie.Need-write-map-requires
 write-map-requires c κs = search needs
@@ -61,7 +62,7 @@ returns-4 c =
     let l = c .before .before .before .before .before .before .before .before .before .before .read-map .result in
     let e = c .before .before .before .before .before .before .before .before .before .before .read-map .ensures in
     let f = found-lent s l e true (not-false _ (c .before .before .before .before .before .before .before .before .if1 .left)) in
-    written-way s (c .before .before .before .before .before .before .before .before .before .before .before .before .before .before .args .request .now) (c .before .before .before .before .before .before .verdict-number .result) (l .map) (c .before .before .before .before .before .before .before .apply .result) f (map-lent s l e f) (c .before .before .before .before .before .before .before .apply .ensures) (c .before .before .before .before .before .before .verdict-number .ensures) _ (noted-else _ (c .before .before .before .before .before .if2 .left) (c .before .before .before .before .if3 .left)) (c .before .before .write-map .ensures)
+    written-way s (c .before .before .before .before .before .before .before .before .before .before .before .before .before .before .args .request .now) (c .before .before .before .before .before .before .verdict-number .result) (l .map) (c .before .before .before .before .before .before .before .apply .result) f (map-lent s l e f) (c .before .before .before .before .before .before .before .apply .ensures) (c .before .before .before .before .before .before .verdict-number .ensures) _ (noted-else (c .before .before .before .before .before .before .verdict-number .result) (c .before .before .before .before .before .if2 .left) (omega (arith, c .before .before .before .before .if3 .left))) (c .before .before .write-map .ensures)
 
 pub apply-spec : {M : Type 1} → statement M
 apply-spec =
