@@ -15,6 +15,7 @@ use Rattle.model.specs.Node.Calls.{lateTime}
 use Rattle.model.proofs.LayoutLaws.Tests.{and-left, false-not-true}
 use Rattle.rpcw.specs.Written.{textFits}
 use Rattle.headercalls.specs.Asked.{keyNamed, unreadName, Asked}
+use Rattle.headercalls.specs.Acks.{unreadReply, unreadAck}
 use Rattle.headercalls.specs.Settles.{unreadOutcome}
 use Rattle.headercalls.specs.Waits.{unreadWait}
 
@@ -93,3 +94,22 @@ module _ (name : List ℕ) (command applied : ℕ) where
       pub outcome-over : ltb command 0x17 ≡ false → ltb 0x18 command ≡ unreadOutcome name command applied
       unfolding _or_
       outcome-over e = rw named (rw ended (rw e))
+
+module _ (name : List ℕ) (step : ℕ) (reply : List ℕ) where
+  pub ack-unnamed : not (textFits maxName name) ≡ true → true ≡ unreadAck name step reply
+  unfolding _or_
+  ack-unnamed e = rw e
+
+  module _ (named : not (textFits maxName name) ≡ false) where
+    pub ack-under : ltb step 2 ≡ true → true ≡ unreadAck name step reply
+    unfolding _or_
+    ack-under e = rw named (rw e)
+
+    module _ (low : ltb step 2 ≡ false) where
+      pub ack-over : ltb 4 step ≡ true → true ≡ unreadAck name step reply
+      unfolding _or_
+      ack-over e = rw named (rw low (rw e))
+
+      pub ack-step : ltb 4 step ≡ false → unreadReply reply ≡ unreadAck name step reply
+      unfolding _or_
+      ack-step e = rw named (rw low (rw e))

@@ -5,19 +5,31 @@ use mathlib.Core.Path.{_≡_, refl, sym, ap, _∙_, subst}
 use mathlib.Core.List.{List}
 use lib.Dec.{eqb}
 use Rattle.model.specs.Keys.{Key}
+use mathlib.Core.Option.{Option, none, some}
+use Rattle.model.specs.Layout.Message as message
+use Rattle.model.specs.Node.Ack.{badReply}
+use Rattle.node.specs.declared.AckAnswer.{AckAnswer}
 use Rattle.node.specs.declared.OutcomeAnswer.{OutcomeAnswer}
+use Rattle.node.specs.declared.Reply.{Reply}
+use Rattle.node.specs.declared.Sent.{Sent}
+use Rattle.node.specs.Acks.{replyOf}
 use Rattle.header.specs.declared.Node.{Node}
 use Rattle.header.specs.declared.GrantAnswer.{GrantAnswer}
 use Rattle.header.specs.declared.NodeGranted.{NodeGranted}
 use Rattle.header.specs.declared.Proposal.{Proposal}
 use Rattle.header.specs.declared.NodeSettled.{NodeSettled}
 use Rattle.header.specs.declared.NodeWaited.{NodeWaited}
+use Rattle.header.specs.declared.NodeAcked.{NodeAcked}
 use Rattle.header.specs.Answers.{GrantsNode, SettlesNode, WaitsNode}
 use Rattle.header.specs.Arrays.{Fitting}
+use Rattle.hears.specs.declared.Heard.{Heard}
+use Rattle.hears.specs.declared.Heard.the-variants as H
+use Rattle.hears.specs.Hears.{heardOf, HearsReply}
 use Rattle.headerimage.specs.declared.Lent.{Lent}
 use Rattle.headerimage.specs.Image.{headerLent, nodeAt, lentHeader}
 use Rattle.headercalls.specs.Asked.{keyNamed, imageAfter}
 use Rattle.headercalls.specs.Grants.{grantNumber, isGranted, GrantsImage}
+use Rattle.headercalls.specs.Acks.{sentAt, noReply, ackNumber, isAcked, AcksImage}
 use Rattle.headercalls.specs.Settles.{proposalAt, outcomeNumber, isSettled, SettlesImage}
 use Rattle.headercalls.specs.Waits.{left, waitLeft, WaitsImage}
 
@@ -33,7 +45,8 @@ module _ (s : List ℕ) (l : Lent) (read : l ≡ lentHeader s) where
     on-lent : (P : Node → Type 0) → P (l .node) → P (nodeAt s)
     on-lent P = subst P (ap (λ (x : Lent). x .node) read ∙ lent-node (as-lent true found))
 
-    pub grants-image : (t : List ℕ) (i sent lease r : ℕ) (after : NodeGranted) → GrantsNode (l .node) i sent lease after → Fitting (l .node) (after .node)
+    pub grants-image : (t : List ℕ) (i sent lease r : ℕ) (after : NodeGranted)
+        → GrantsNode (l .node) i sent lease after → Fitting (l .node) (after .node)
         → (x : GrantAnswer) → after .answer ≡ x → r ≡ grantNumber x → t ≡ imageAfter (isGranted x) s (after .node)
         → GrantsImage s t i sent lease r
     grants-image t i sent lease r after call fits x e a b = record {
@@ -59,6 +72,20 @@ module _ (s : List ℕ) (l : Lent) (read : l ≡ lentHeader s) where
         image = b ∙ ap (λ (y : OutcomeAnswer). imageAfter (isSettled y) s (after .node)) (sym e);
       }
 
+      pub acks-image : (t reply : List ℕ) (epoch peer step r : ℕ) (w : Sent) → w ≡ sentAt step → (after : NodeAcked)
+          → HearsReply (l .node) k epoch peer w reply after → Fitting (l .node) (after .node)
+          → (x : AckAnswer) → after .answer ≡ x → r ≡ ackNumber x → t ≡ imageAfter (isAcked x) s (after .node)
+          → AcksImage s t name reply shard epoch peer step r
+      acks-image t reply epoch peer step r w sent after call fits x e a b = record {
+        after = after;
+        call = subst (λ v. HearsReply (nodeAt s) v epoch peer (sentAt step) reply after) key
+            (subst (λ v. HearsReply (nodeAt s) k epoch peer v reply after) sent
+            (on-lent (λ n. HearsReply n k epoch peer w reply after) call));
+        fits = on-lent (λ n. Fitting n (after .node)) fits;
+        answer = a ∙ ap ackNumber (sym e);
+        image = b ∙ ap (λ (y : AckAnswer). imageAfter (isAcked y) s (after .node)) (sym e);
+      }
+
       pub waits-image : (t p q a b : List ℕ) (epoch offset now timeout r : ℕ) (after : NodeWaited)
           → WaitsNode (l .node) k epoch offset now timeout after → Fitting (l .node) (after .node)
           → left r t q b ≡ waitLeft s p a after → WaitsImage s t p q a b name shard epoch offset now timeout r
@@ -69,3 +96,23 @@ module _ (s : List ℕ) (l : Lent) (read : l ≡ lentHeader s) where
         fits = on-lent (λ n. Fitting n (after .node)) fits;
         buffers = e;
       }
+
+-- ---- a reply, as it was heard
+
+abbrev heardNone : Heard → Bool
+heardNone H.Nothing = true
+heardNone (H.Reply a) = badReply (replyOf a)
+
+none-heard : (o : Option message.Reply) → noReply o ≡ heardNone (heardOf o)
+none-heard none = refl
+none-heard (some (message.replyStored n)) = refl
+none-heard (some (message.replyGap n)) = refl
+none-heard (some (message.replyStale n)) = refl
+none-heard (some (message.replyAdopted n)) = refl
+
+module _ (o : Option message.Reply) where
+  pub reply-none : heardOf o ≡ H.Nothing → true ≡ noReply o
+  reply-none e = sym (none-heard o ∙ ap heardNone e)
+
+  pub reply-some : (a : Reply) → heardOf o ≡ H.Reply a → badReply (replyOf a) ≡ noReply o
+  reply-some a e = sym (none-heard o ∙ ap heardNone e)

@@ -50,13 +50,18 @@ module _ (s : List ℕ) (id incarnation : ℕ) (room : 10288 ≤ length s) (smal
 
   long : 10288 ≤ length (headerPut s (freshNode id incarnation))
   unfolding headerPut
-  long = let k = length-sets s 0 (headBytes (freshNode id incarnation)) in let m = length-sets (sets s 0 (headBytes (freshNode id incarnation))) 48 [] in omega arith
+  long =
+      let b = headBytes (freshNode id incarnation) in
+      let k = length-sets s 0 b in
+      let m = length-sets (sets s 0 b) 48 [] in
+      omega arith
 
   lends : headerLent (headerPut s (freshNode id incarnation)) ≡ true
   unfolding headerLent
   lends = and-intro (le-leb 10288 _ long) (codes-listed s (freshNode id incarnation) room fits)
 
-  pub fresh-made : (t : List ℕ) (r : ℕ) (free : List Kept) → r ≡ 0 → t ≡ headerWritten s (withFree id incarnation free) → Freshens s t id incarnation r
+  pub fresh-made : (t : List ℕ) (r : ℕ) (free : List Kept) → r ≡ 0 → t ≡ headerWritten s (withFree id incarnation free)
+      → Freshens s t id incarnation r
   fresh-made t r free a e =
       let put = e ∙ put-free free in
       record {

@@ -1,5 +1,6 @@
 pub mod Asked
 pub mod Grants
+pub mod Acks
 pub mod Settles
 pub mod Fresh
 pub mod Waits

@@ -30,8 +30,8 @@ pub fn wait(
     peers: &mut [u8],
     answer: &mut [u8],
 ) -> u32
-    ensures { λ r. ⌜ Waits (now (header .entry)) (now (header .exit)) (now (peers .entry)) (now (peers .exit)) (now (answer .entry)) (now (answer .exit))
-        (now (name .entry)) shard epoch offset clock timeout r ⌝ }
+    ensures { λ r. ⌜ Waits (now (header .entry)) (now (header .exit)) (now (peers .entry)) (now (peers .exit))
+        (now (answer .entry)) (now (answer .exit)) (now (name .entry)) shard epoch offset clock timeout r ⌝ }
 {
     if unread(name, clock, timeout) {
         return 21;
