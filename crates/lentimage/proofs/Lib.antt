@@ -1,3 +1,4 @@
 pub mod OfPick
 pub mod OfPut
 pub mod OfState
+pub mod OfBack

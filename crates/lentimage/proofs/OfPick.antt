@@ -71,11 +71,12 @@ module _ (s : List ℕ) (x : Kept) (there : 1392640 ≤ length s) (slot : x .slo
       }
 
   -- the store of a slot, read into fresh columns
-  pub kept-read : (a b : Lot) (r : Bool) → a ≡ noLot
-      → Reads s (beginOf x) (x .held .last) (a .columns) (b .columns) (a .keys) (a .places) (b .keys) (b .places) r → KeptRead s x b r
-  kept-read a b r fresh q =
+  pub kept-read : (a b : Lot) (r : Bool) (base : ℕ) → a ≡ noLot
+      → Reads s base (x .held .last) (a .columns) (b .columns) (a .keys) (a .places) (b .keys) (b .places) r → base ≡ beginOf x → KeptRead s x b r
+  kept-read a b r base fresh q e =
+      let p = subst (λ (i : ℕ). Reads s i (x .held .last) (a .columns) (b .columns) (a .keys) (a .places) (b .keys) (b .places) r) e q in
       read-fresh b r
-      (subst (λ (z : Lot). Reads s (beginOf x) (x .held .last) (z .columns) (b .columns) (z .keys) (z .places) (b .keys) (b .places) r) fresh q)
+      (subst (λ (z : Lot). Reads s (beginOf x) (x .held .last) (z .columns) (b .columns) (z .keys) (z .places) (b .keys) (b .places) r) fresh p)
 
 -- a slot that none of the eight is
 pub kept-none : (s : List ℕ) (x : Kept) (b : Lot) → 8 ≤ x .slot → KeptRead s x b false

@@ -8,7 +8,7 @@ use lib.Dec.{leb, ltb}
 use lib.ListN.{length, getD}
 use borrow.Author.Tests.{ltb-true, lt-ltb, le-ltb, leb-true}
 use Rattle.model.specs.Keys.{Key}
-use Rattle.model.proofs.Lists.{and-left, and-right}
+use Rattle.model.proofs.Lists.{and-left, and-right, not-both}
 use Rattle.shard.specs.Table.{rowsOf}
 use Rattle.shard.specs.View.{logOf}
 use Rattle.shard.specs.Store.{Sized, wellFormedStore}
@@ -21,7 +21,7 @@ use Rattle.header.specs.View.{noKept}
 use Rattle.lend.specs.Lend.{Lot, storeOf, placeOf}
 use Rattle.headerimage.specs.Image.{headerLent, nodeAt, headerWritten}
 use Rattle.storeimage.specs.Write.{EntriesWritten, RowsWritten}
-use Rattle.lentimage.specs.Lent.{beginOf, keptReadable, keptOf, readable, lendsState, storePut, Writable, Puttable, Puts}
+use Rattle.lentimage.specs.Lent.{beginOf, keptReadable, keptOf, readable, lendsState, storePut, Writable, Puttable, StorePuts, Puts}
 
 -- ---- one store
 
@@ -37,23 +37,27 @@ module _ (x y : Kept) (b : Lot) (w : Writable x y b) where
 -- the entries, then the rows
 pub store-put : (s t u : List ℕ) (x y : Kept) (b : Lot) (from : ℕ) → from ≡ min (x .held .last) (y .held .last)
     → EntriesWritten s t (beginOf x) from (logOf (b .columns) (y .held .last))
-    → RowsWritten t u (beginOf x) (rowsOf (b .keys) (b .places) (y .stored)) → u ≡ storePut s x y b
+    → RowsWritten t u (beginOf x) (rowsOf (b .keys) (b .places) (y .stored)) → StorePuts s u x y b
 unfolding storePut
-store-put s t u x y b from q e r = rw (r .image, e .image, q) refl
+store-put s t u x y b from q e r = record { image = rw (r .image, e .image, q) refl; fits = record { log = e .fits; rows = r .fits } }
 
 -- ---- the whole
 
 module _ (h h′ s s′ : List ℕ) (n p : Node) (b : Lot) (at : ℕ) (e : h′ ≡ headerWritten h p) where
-  pub puts-kept : at < n .count → s′ ≡ storePut s (getD (n .held) at noKept) (getD (p .held) at noKept) b → Puts h h′ s s′ n p b at
+  pub puts-kept : at < n .count → StorePuts s s′ (getD (n .held) at noKept) (getD (p .held) at noKept) b → Puts h h′ s s′ n p b at
   puts-kept under q = record {
     header = e;
-    stores = q ∙ sym (ap (λ (t : Bool). cond t (storePut s (getD (n .held) at noKept) (getD (p .held) at noKept) b) s) (lt-ltb at (n .count) under));
+    stores =
+        q .image
+        ∙ sym (ap (λ (t : Bool). cond t (storePut s (getD (n .held) at noKept) (getD (p .held) at noKept) b) s) (lt-ltb at (n .count) under));
+    fits = λ t. q .fits;
   }
 
   pub puts-absent : n .count ≤ at → s′ ≡ s → Puts h h′ s s′ n p b at
   puts-absent gone q = record {
     header = e;
     stores = q ∙ sym (ap (λ (t : Bool). cond t (storePut s (getD (n .held) at noKept) (getD (p .held) at noKept) b) s) (le-ltb at (n .count) gone));
+    fits = λ t. not-both _ t (le-ltb at (n .count) gone);
   }
 
 -- ---- a state that was picked may be written back

@@ -9,6 +9,7 @@ use lib.ListN.{length, getD, replicate}
 use Rattle.model.specs.Lists.{_and_}
 use Rattle.model.specs.Limits.{maxEntries, maxHeld, minFloats}
 use Rattle.model.specs.Keys.{Key}
+use Rattle.model.specs.Layout.Format.{All}
 use Rattle.model.specs.Node.Wire.{floatOf}
 use Rattle.shard.specs.View.{columns, logOf}
 use Rattle.shard.specs.Table.{rowsOf}
@@ -20,7 +21,7 @@ use Rattle.lend.specs.Lend.{Lot, lot, storeOf, placeOf}
 use Rattle.headerimage.specs.Image.{headerLent, nodeAt, headerWritten}
 use Rattle.storeimage.specs.Image.{storeSize, keysIn, placesIn}
 use Rattle.storeimage.specs.Read.{columnsAt, allReadable}
-use Rattle.storeimage.specs.Write.{logPut, rowsPut}
+use Rattle.storeimage.specs.Write.{logPut, rowsPut, Fits, RowFits}
 use Rattle.lentimage.specs.declared.Picked.{Picked}
 
 -- ---- one store among the eight
@@ -116,6 +117,17 @@ pub record Puttable (s : List ℕ) (n p : Node) (b : Lot) (at : ℕ) : Type 0 wh
   pub inside : ltb at (n .count) ≡ true → at < maxHeld
   pub shard : ltb at (n .count) ≡ true → Writable (getD (n .held) at noKept) (getD (p .held) at noKept) b
 
+-- what was written of a store can be read again: each number fits its column
+pub record StoreFits (y : Kept) (b : Lot) : Type 0 where
+  pub log : All Fits (logOf (b .columns) (y .held .last))
+  pub rows : All RowFits (rowsOf (b .keys) (b .places) (y .stored))
+
+-- the stores t are s with that of the shard
+pub record StorePuts (s t : List ℕ) (x y : Kept) (b : Lot) : Type 0 where
+  pub image : t ≡ storePut s x y b
+  pub fits : StoreFits y b
+
 pub record Puts (h h′ s s′ : List ℕ) (n p : Node) (b : Lot) (at : ℕ) : Type 0 where
   pub header : h′ ≡ headerWritten h p
   pub stores : s′ ≡ storesPut s n p b at
+  pub fits : ltb at (n .count) ≡ true → StoreFits (getD (p .held) at noKept) b

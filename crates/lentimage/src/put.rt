@@ -1,9 +1,8 @@
 // What a call left of the state, written back over the images that it was read from. Internal: callers have picked the state.
-ghost use mathlib.Core.Path.{_≡_};
 ghost use Prim.Native.Nat.{_≤_};
 ghost use lib.ListN.{length};
 ghost use Rattle.lend.specs.Lend.{lot};
-ghost use Rattle.lentimage.specs.Lent.{storePut, Writable, Puttable, Puts};
+ghost use Rattle.lentimage.specs.Lent.{Writable, Puttable, StorePuts, Puts};
 use header::Kept;
 use header::Node;
 use headerimage::write_header;
@@ -27,7 +26,7 @@ fn put_store(
 )
     requires { ⌜ (1392640 ≤ length (now stores))
         × (Writable x y (lot (now epochs) (now offsets) (now ids) (now codes) (now lengths) (now floats) (now keys) (now places))) ⌝ }
-    ensures { λ _. ⌜ now (stores .exit) ≡ storePut (now (stores .entry)) x y
+    ensures { λ _. ⌜ StorePuts (now (stores .entry)) (now (stores .exit)) x y
         (lot (now (epochs .entry)) (now (offsets .entry)) (now (ids .entry)) (now (codes .entry)) (now (lengths .entry)) (now (floats .entry)) (now (keys .entry)) (now (places .entry))) ⌝ }
 {
     let base = x.slot * 174080;

@@ -8,7 +8,6 @@ use lib.Dec.{leb}
 use lib.Seq.{take-all}
 use native.Mathlib.Omega.{arith}
 use borrow.Author.Tests.{leb-true}
-use Rattle.model.specs.Keys.{Key}
 use Rattle.model.specs.Layout.Format.{inRange}
 use Rattle.model.proofs.Lists.{and-left}
 use Rattle.rpcw.specs.Written.{textFits, keyGiven}

@@ -1,6 +1,6 @@
 -- Lists of nodes as bytes: how long they are, and the steps of the loops over them. Assumes nothing.
 use Prim.Native.Nat.{ℕ, _+_, _*_, _<_}
-use mathlib.Core.Path.{_≡_, refl, sym, ap, _∙_}
+use mathlib.Core.Path.{_≡_, refl, ap, _∙_}
 use mathlib.Core.List.{List, [], _∷_, _++_, map}
 use lib.ListN.{length, getD, take, drop, length-append, length-map}
 use lib.Seq.{drop-cons, drop-length, getD-take}
@@ -30,7 +30,7 @@ pub rows-bytes : (ls : List NodeList) → listsBytes (map viewList ls) ≡ conca
 rows-bytes [] = refl
 rows-bytes (l ∷ ls) = ap (λ (x : List ℕ). rowBytes l ++ x) (rows-bytes ls)
 
-length-ids : (ns : List ℕ) → length (listBytes ns) ≡ 8 * length ns
+pub length-ids : (ns : List ℕ) → length (listBytes ns) ≡ 8 * length ns
 length-ids [] = refl
 length-ids (n ∷ ns) = length-append (bytesOf 8 n) (listBytes ns) ∙ (rw (length-bytes 8 n, length-ids ns) (omega arith))
 

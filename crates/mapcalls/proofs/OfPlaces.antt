@@ -23,6 +23,7 @@ use Rattle.placement.specs.declared.Placing.{Placing}
 use Rattle.placement.specs.declared.Replaced.{Replaced}
 use Rattle.mapimage.specs.Image.{mapAt, mapLent}
 use Rattle.mapcalls.specs.Places.{listsBytes, AnswersLists, AnswersNode, specGiven, Places, Replaces}
+use Rattle.mapcalls.proofs.OfPlacement.{placed-laid}
 
 -- ---- one node
 
@@ -83,13 +84,18 @@ told-lists h g p s t r e q = subst (λ (z : Placing). AnswersLists (placedAs z p
 
 module _ (m : List ℕ) (shards replication : ℕ) (s : List ℕ) where
   pub place-unlent : mapLent m ≡ false → Places m shards replication s s 24
-  place-unlent f = record { unlent = λ _. (refl, refl); lent = λ e. not-both (mapLent m) e f }
+  place-unlent f = record {
+    unlent = λ _. (refl, refl);
+    lent = λ e. not-both (mapLent m) e f;
+    laid = placed-laid (mapAt m) (specGiven shards replication);
+  }
 
   pub place-lent : (x : ShardMap) (a : PlaceAnswer) (t : List ℕ) (r : ℕ) → mapLent m ≡ true → x ≡ mapAt m
       → placedOf a ≡ placeLent x (specGiven shards replication) → AnswersLists (placedOf a) s t r → Places m shards replication s t r
   place-lent x a t r e q p k = record {
     unlent = λ f. not-both (mapLent m) e f;
     lent = λ _. subst (λ (y : Placed). AnswersLists y s t r) (p ∙ ap (λ (z : ShardMap). placeLent z (specGiven shards replication)) q) k;
+    laid = placed-laid (mapAt m) (specGiven shards replication);
   }
 
 module _ (m name : List ℕ) (shard : ℕ) (s : List ℕ) where

@@ -1,13 +1,13 @@
 -- What place and replacement answer of a map's image, and what they leave of the buffer for the answer: s and t are its bytes at entry
 -- and at exit, r the number that is answered (paper 01, 'Place' and 'Who is turned down'). Definitions only.
-use Prim.Native.Nat.{ℕ}
+use Prim.Native.Nat.{ℕ, _*_}
 use mathlib.Core.Path.{_≡_}
 use mathlib.Core.Bool.{true, false, cond}
 use mathlib.Core.List.{List}
 use lib.ListN.{length}
 use lib.Dec.{ltb}
 use lib.Seq.{sets}
-use Rattle.model.specs.Layout.Format.{bytesOf, concatMap}
+use Rattle.model.specs.Layout.Format.{bytesOf, concatMap, All}
 use Rattle.model.specs.Limits.{maxName}
 use Rattle.model.specs.Refusals.{undecodable, noRoom, malformed, numberOf}
 use Rattle.model.specs.declared.Metric.the-variants.{Euclidean}
@@ -27,6 +27,12 @@ listBytes ns = concatMap (bytesOf 8) ns
 
 abbrev pub listsBytes : List (List ℕ) → List ℕ
 listsBytes ls = concatMap listBytes ls
+
+-- as many lists as shards, each of as many nodes as replicas: the list of shard i begins at byte i * (8 * replication)
+pub record Laid (shards replication : ℕ) (ls : List (List ℕ)) : Type 0 where
+  pub lists : length ls ≡ shards
+  pub nodes : All (λ (ns : List ℕ). length ns ≡ replication) ls
+  pub bytes : length (listsBytes ls) ≡ shards * (8 * replication)
 
 -- 0 for the lists, 1 for none; 23 where the buffer is shorter than the lists
 abbrev pub placedNumber : Placed → List ℕ → ℕ
@@ -72,6 +78,7 @@ specGiven shards replication = record { dimension = 0; metric = Euclidean; shard
 pub record Places (m : List ℕ) (shards replication : ℕ) (s t : List ℕ) (r : ℕ) : Type 0 where
   pub unlent : mapLent m ≡ false → Refuses malformed s t r
   pub lent : mapLent m ≡ true → AnswersLists (placeLent (mapAt m) (specGiven shards replication)) s t r
+  pub laid : (ls : List (List ℕ)) → placeLent (mapAt m) (specGiven shards replication) ≡ placedOn ls → Laid shards replication ls
 
 -- replacement's own answer, of the key with that name and shard
 pub record ReplacesImage (m name : List ℕ) (shard : ℕ) (s t : List ℕ) (r : ℕ) : Type 0 where

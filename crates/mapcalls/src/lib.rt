@@ -53,7 +53,8 @@ fn unlent_number(request: &[u8]) -> u32
     if read.found { 24 } else { 21 }
 }
 
-// A request is applied to the map. 0 applied; 1 to 16 rejected, which the map remembers of the client, 1 apart; 21, 23, 24, 25 refused.
+// A request is applied to the map. 0 applied; 1 to 16 rejected, which the map remembers of the client (1, an older command, it does not: no
+// byte changes); 21, 23, 24, 25 refused.
 pub fn apply(map: &mut [u8], request: &[u8]) -> u32
     ensures { λ r. ⌜ AppliesTo (now (map .entry)) (now (map .exit)) (now (request .entry)) r ⌝ }
 {

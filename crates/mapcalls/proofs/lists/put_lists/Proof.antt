@@ -5,12 +5,11 @@ use native.Mathlib.Nat.{zero-add}
 use mathlib.Core.Path.{_≡_, refl, sym, ap, _∙_}
 use mathlib.Core.List.{List}
 use Prim.Native.Nat.{ℕ, _+_, _-_, _*_, _≤_, _<_}
-use lib.ListN.{length, getD, take, drop}
+use lib.ListN.{length, getD, drop}
 use lib.Seq.{sets}
 use Rattle.model.specs.Layout.Format.{concatMap}
 use Rattle.state.specs.View.{viewPlacement}
 use Rattle.state.proofs.Tables.{of-field}
-use Rattle.image.specs.Shape.{Stored}
 use Rattle.image.proofs.Images.{table-step, length-used, put-end}
 use Rattle.mapcalls.specs.Places.{listsBytes}
 use Rattle.mapcalls.proofs.OfLists.{pastList, rowBytes, rowsOf, rows-bytes, size-step}

@@ -1,5 +1,4 @@
 -- `named::key_named` meets its contract. Assumes nothing.
-use borrow.Author.Needs.{needs}
 use native.Mathlib.Omega.{arith}
 use mathlib.Core.Path.{_∙_}
 use Rattle.mapcalls.proofs.OfKey.{name-short, all-named}

@@ -1,5 +1,4 @@
 -- `replaced::put_none` meets its contract. Assumes nothing.
-use borrow.Author.Needs.{needs}
 use Rattle.mapcalls.proofs.OfPlaces.{none-short, none-long}
 use Rattle.mapcalls.proofs.replaced.put_none.Statement.{statement}
 use Rattle.mapcalls.proofs.replaced.put_none.Tie as tie

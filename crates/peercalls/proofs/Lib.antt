@@ -1,0 +1,3 @@
+mod OfEnds
+mod OfServes
+mod OfMessages

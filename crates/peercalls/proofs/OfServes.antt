@@ -1,0 +1,83 @@
+-- Laws of a primary's messages over the images, one for each way out. Assumes nothing.
+use Prim.Native.Nat.{ℕ}
+use mathlib.Core.Path.{_≡_, refl, sym, ap, subst, _∙_}
+use mathlib.Core.Bool.{Bool, true, false}
+use mathlib.Core.List.{List}
+use mathlib.Core.Option.{Option, none, some}
+use Rattle.model.specs.Keys.{Key}
+use Rattle.model.proofs.Lists.{not-both, none-some, some-same}
+use Rattle.header.specs.declared.Node.{Node}
+use Rattle.headerimage.specs.Image.{nodeAt}
+use Rattle.lend.specs.Lend.{Lot, placeOf, Whole}
+use Rattle.lentimage.specs.declared.Picked.{Picked}
+use Rattle.lentimage.specs.Lent.{lendsState, lotIn, Picks, Puttable}
+use Rattle.lentimage.proofs.OfPut.{puttable}
+use Rattle.peers.specs.declared.PeerAnswer.{PeerAnswer}
+use Rattle.peercalls.specs.PeerCalls.{Buffers, buffers, ended, endedWith, AtShard, Serves}
+
+-- ---- at the shard of a key
+
+module _ (Call : Node → (a b : Lot) → List ℕ → PeerAnswer → Type 0) (m h s t : List ℕ) (k : Key) (x : Lot) (l : Picked) (d : Picks h s k x l) where
+  pub unlent : l .found ≡ false → AtShard Call k m (buffers h s t) (buffers h s t) 24
+  unlent f = record {
+    unlent = λ e. (refl, refl);
+    lent = λ e. not-both (lendsState h s k) e (sym (d .found) ∙ f);
+  }
+
+  module _ (f : l .found ≡ true) (y : Lot) (a : PeerAnswer) (called : Call (l .node) x y m a) where
+    lends : lendsState h s k ≡ true
+    lends = sym (d .found) ∙ f
+
+    called-at : Call (nodeAt h) (lotIn s (nodeAt h) k) y m a
+    called-at =
+        subst (λ (n : Node). Call n (lotIn s (nodeAt h) k) y m a) (d .read lends)
+        (subst (λ (z : Lot). Call (l .node) z y m a) (d .lot lends) called)
+
+    -- what the call left may be written back
+    pub may-put : ((n : Node) (z : Lot) → Call n z y m a → Whole n (a .node) y k) → Puttable s (l .node) (a .node) y (l .at)
+    may-put whole =
+        subst (λ (n : Node). Puttable s n (a .node) y (l .at)) (sym (d .read lends))
+        (subst (λ (i : ℕ). Puttable s (nodeAt h) (a .node) y i) (sym (d .at lends))
+        (puttable h s k (a .node) y lends (whole (nodeAt h) (lotIn s (nodeAt h) k) called-at)))
+
+    pub at-shard : (c : Buffers) (r : ℕ) → ended r c ≡ endedWith (buffers h s t) (l .node) (l .at) y a → AtShard Call k m (buffers h s t) c r
+    at-shard c r q = record {
+      unlent = λ e. not-both (lendsState h s k) lends e;
+      lent = λ e. record {
+        after = a;
+        columns = y;
+        called = called-at;
+        ends = q
+            ∙ ap (λ (n : Node). endedWith (buffers h s t) n (l .at) y a) (d .read lends)
+            ∙ ap (λ (i : ℕ). endedWith (buffers h s t) (nodeAt h) i y a) (d .at lends);
+      };
+    }
+
+-- ---- a message
+
+module _ {A : Type 0} (read : Option A) (fine : A → Bool) (key : A → Key) (Call : Node → (a b : Lot) → List ℕ → PeerAnswer → Type 0)
+    (m : List ℕ) (b : Buffers) where
+  pub unread : read ≡ none → Serves A read fine key Call m b b 21
+  unread e = record {
+    undecoded = λ i. (refl, refl);
+    outside = λ v i z. none-some (sym e ∙ i);
+    inside = λ v i z. none-some (sym e ∙ i);
+  }
+
+  module _ (v : A) (is : read ≡ some v) (f : Bool) (told : f ≡ fine v) where
+    same : (w : A) → read ≡ some w → f ≡ fine w
+    same w i = told ∙ ap fine (some-same (sym is ∙ i))
+
+    pub outside : f ≡ false → Serves A read fine key Call m b b 22
+    outside e = record {
+      undecoded = λ i. none-some (sym i ∙ is);
+      outside = λ w i z. (refl, refl);
+      inside = λ w i z. not-both (fine w) z (sym (same w i) ∙ e);
+    }
+
+    pub inside : f ≡ true → (k : Key) → k ≡ key v → (c : Buffers) (r : ℕ) → AtShard Call k m b c r → Serves A read fine key Call m b c r
+    inside e k named c r d = record {
+      undecoded = λ i. none-some (sym i ∙ is);
+      outside = λ w i z. not-both (fine w) (sym (same w i) ∙ e) z;
+      inside = λ w i z. subst (λ (j : Key). AtShard Call j m b c r) (named ∙ ap key (some-same (sym is ∙ i))) d;
+    }

@@ -1,0 +1,156 @@
+-- `copy::copy_at` meets its contract. Assumes nothing.
+use mathlib.Core.Path.{refl}
+use borrow.Author.Needs.{needs}
+use borrow.Author.Tests.{not-true, not-false}
+use Rattle.lentimage.specs.Lent.{noLot}
+use Rattle.peers.specs.Peers.{CopiesAt}
+use Rattle.peercalls.proofs.OfServes.{unlent, may-put, at-shard}
+use Rattle.peercalls.proofs.copy.copy_at.Statement.{statement}
+use Rattle.peercalls.proofs.copy.copy_at.Tie as tie
+
+slice-aggregate-pick : tie.Need-slice-aggregate-pick
+slice-aggregate-pick c = search needs
+
+slice-aggregate-pick-2 : tie.Need-slice-aggregate-pick-2
+slice-aggregate-pick-2 c = search needs
+
+slice-aggregate-pick-3 : tie.Need-slice-aggregate-pick-3
+slice-aggregate-pick-3 c = search needs
+
+slice-aggregate-pick-4 : tie.Need-slice-aggregate-pick-4
+slice-aggregate-pick-4 c = search needs
+
+slice-aggregate-pick-5 : tie.Need-slice-aggregate-pick-5
+slice-aggregate-pick-5 c = search needs
+
+slice-aggregate-pick-6 : tie.Need-slice-aggregate-pick-6
+slice-aggregate-pick-6 c = search needs
+
+slice-aggregate-pick-7 : tie.Need-slice-aggregate-pick-7
+slice-aggregate-pick-7 c = search needs
+
+slice-aggregate-pick-8 : tie.Need-slice-aggregate-pick-8
+slice-aggregate-pick-8 c = search needs
+
+pick-requires : tie.Need-pick-requires
+unfolding noLot
+pick-requires c κs = refl
+
+same-length : tie.Need-same-length
+same-length c = search needs
+
+same-length-2 : tie.Need-same-length-2
+same-length-2 c = search needs
+
+returns : tie.Need-returns
+returns c =
+    unlent CopiesAt _ _ _ _ _ _ _ (c .before .before .before .before .before .before .before .before .before .before .pick .ensures) (not-true _ (c .if1 .taken))
+
+slice-aggregate-copy : tie.Need-slice-aggregate-copy
+slice-aggregate-copy c = search needs
+
+slice-aggregate-copy-2 : tie.Need-slice-aggregate-copy-2
+slice-aggregate-copy-2 c = search needs
+
+slice-aggregate-copy-3 : tie.Need-slice-aggregate-copy-3
+slice-aggregate-copy-3 c = search needs
+
+slice-aggregate-copy-4 : tie.Need-slice-aggregate-copy-4
+slice-aggregate-copy-4 c = search needs
+
+slice-aggregate-copy-5 : tie.Need-slice-aggregate-copy-5
+slice-aggregate-copy-5 c = search needs
+
+slice-aggregate-copy-6 : tie.Need-slice-aggregate-copy-6
+slice-aggregate-copy-6 c = search needs
+
+slice-aggregate-copy-7 : tie.Need-slice-aggregate-copy-7
+slice-aggregate-copy-7 c = search needs
+
+slice-aggregate-copy-8 : tie.Need-slice-aggregate-copy-8
+slice-aggregate-copy-8 c = search needs
+
+copy-requires : tie.Need-copy-requires
+copy-requires c κs = search needs
+
+slice-aggregate-finish : tie.Need-slice-aggregate-finish
+slice-aggregate-finish c = search needs
+
+slice-aggregate-finish-2 : tie.Need-slice-aggregate-finish-2
+slice-aggregate-finish-2 c = search needs
+
+slice-aggregate-finish-3 : tie.Need-slice-aggregate-finish-3
+slice-aggregate-finish-3 c = search needs
+
+slice-aggregate-finish-4 : tie.Need-slice-aggregate-finish-4
+slice-aggregate-finish-4 c = search needs
+
+slice-aggregate-finish-5 : tie.Need-slice-aggregate-finish-5
+slice-aggregate-finish-5 c = search needs
+
+slice-aggregate-finish-6 : tie.Need-slice-aggregate-finish-6
+slice-aggregate-finish-6 c = search needs
+
+slice-aggregate-finish-7 : tie.Need-slice-aggregate-finish-7
+slice-aggregate-finish-7 c = search needs
+
+slice-aggregate-finish-8 : tie.Need-slice-aggregate-finish-8
+slice-aggregate-finish-8 c = search needs
+
+finish-requires : tie.Need-finish-requires
+finish-requires c κs =
+    λ z. may-put CopiesAt _ _ _ (c .before .before .before .before .before .before .before .before .before .before .before .before .before .before .before .before .before .before .before .before .before .before .before .before .before .before .before .before .before .before .before .before .before .before .before .before .before .before .before .before .before .before .before .before .before .before .before .before .before .before .before .before .before .before .args .reply .now) _ _ _ (c .before .before .before .before .before .before .before .before .before .before .before .before .before .before .before .before .before .before .before .before .before .before .before .before .before .before .before .before .before .before .before .before .before .before .before .before .before .before .before .pick .ensures) (not-false _ (c .before .before .before .before .before .before .before .before .before .before .before .before .before .before .before .before .before .before .before .before .before .before .before .before .before .before .before .before .before .if1 .left)) _ _ (c .before .before .before .before .before .before .before .before .before .before .before .before .before .before .before .before .before .before .before .copy .ensures)
+    (λ n x d. d .whole z _ (c .before .before .before .before .before .before .before .before .before .before .before .before .before .before .before .before .before .before .before .before .before .before .before .before .before .before .before .before .before .before .before .before .before .before .before .before .before .before .before .before .before .before .before .before .before .before .before .before .before .before .before .before .before .before .pre))
+
+same-length-3 : tie.Need-same-length-3
+same-length-3 c = search needs
+
+same-length-4 : tie.Need-same-length-4
+same-length-4 c = search needs
+
+same-length-5 : tie.Need-same-length-5
+same-length-5 c = search needs
+
+returns-2 : tie.Need-returns-2
+returns-2 c =
+    at-shard CopiesAt _ _ _ _ _ _ _ (c .before .before .before .before .before .before .before .before .before .before .before .before .before .before .before .before .before .before .before .before .before .before .before .before .before .before .before .before .before .before .before .before .before .before .before .before .before .before .before .before .before .before .before .before .before .before .pick .ensures) (not-false _ (c .before .before .before .before .before .before .before .before .before .before .before .before .before .before .before .before .before .before .before .before .before .before .before .before .before .before .before .before .before .before .before .before .before .before .before .before .if1 .left)) _ _ (c .before .before .before .before .before .before .before .before .before .before .before .before .before .before .before .before .before .before .before .before .before .before .before .before .before .before .copy .ensures) _ _
+    (c .before .before .before .before .before .before .finish .ensures)
+
+pub copy-at-spec : {M : Type 1} → statement M
+copy-at-spec =
+    tie.close
+    (tie.spec
+    slice-aggregate-pick
+    slice-aggregate-pick-2
+    slice-aggregate-pick-3
+    slice-aggregate-pick-4
+    slice-aggregate-pick-5
+    slice-aggregate-pick-6
+    slice-aggregate-pick-7
+    slice-aggregate-pick-8
+    pick-requires
+    same-length
+    same-length-2
+    returns
+    slice-aggregate-copy
+    slice-aggregate-copy-2
+    slice-aggregate-copy-3
+    slice-aggregate-copy-4
+    slice-aggregate-copy-5
+    slice-aggregate-copy-6
+    slice-aggregate-copy-7
+    slice-aggregate-copy-8
+    copy-requires
+    slice-aggregate-finish
+    slice-aggregate-finish-2
+    slice-aggregate-finish-3
+    slice-aggregate-finish-4
+    slice-aggregate-finish-5
+    slice-aggregate-finish-6
+    slice-aggregate-finish-7
+    slice-aggregate-finish-8
+    finish-requires
+    same-length-3
+    same-length-4
+    same-length-5
+    returns-2)

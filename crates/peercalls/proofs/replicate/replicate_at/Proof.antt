@@ -1,0 +1,156 @@
+-- `replicate::replicate_at` meets its contract. Assumes nothing.
+use mathlib.Core.Path.{refl}
+use borrow.Author.Needs.{needs}
+use borrow.Author.Tests.{not-true, not-false}
+use Rattle.lentimage.specs.Lent.{noLot}
+use Rattle.peers.specs.Peers.{ReplicatesAt}
+use Rattle.peercalls.proofs.OfServes.{unlent, may-put, at-shard}
+use Rattle.peercalls.proofs.replicate.replicate_at.Statement.{statement}
+use Rattle.peercalls.proofs.replicate.replicate_at.Tie as tie
+
+slice-aggregate-pick : tie.Need-slice-aggregate-pick
+slice-aggregate-pick c = search needs
+
+slice-aggregate-pick-2 : tie.Need-slice-aggregate-pick-2
+slice-aggregate-pick-2 c = search needs
+
+slice-aggregate-pick-3 : tie.Need-slice-aggregate-pick-3
+slice-aggregate-pick-3 c = search needs
+
+slice-aggregate-pick-4 : tie.Need-slice-aggregate-pick-4
+slice-aggregate-pick-4 c = search needs
+
+slice-aggregate-pick-5 : tie.Need-slice-aggregate-pick-5
+slice-aggregate-pick-5 c = search needs
+
+slice-aggregate-pick-6 : tie.Need-slice-aggregate-pick-6
+slice-aggregate-pick-6 c = search needs
+
+slice-aggregate-pick-7 : tie.Need-slice-aggregate-pick-7
+slice-aggregate-pick-7 c = search needs
+
+slice-aggregate-pick-8 : tie.Need-slice-aggregate-pick-8
+slice-aggregate-pick-8 c = search needs
+
+pick-requires : tie.Need-pick-requires
+unfolding noLot
+pick-requires c κs = refl
+
+same-length : tie.Need-same-length
+same-length c = search needs
+
+same-length-2 : tie.Need-same-length-2
+same-length-2 c = search needs
+
+returns : tie.Need-returns
+returns c =
+    unlent ReplicatesAt _ _ _ _ _ _ _ (c .before .before .before .before .before .before .before .before .before .before .pick .ensures) (not-true _ (c .if1 .taken))
+
+slice-aggregate-replicate : tie.Need-slice-aggregate-replicate
+slice-aggregate-replicate c = search needs
+
+slice-aggregate-replicate-2 : tie.Need-slice-aggregate-replicate-2
+slice-aggregate-replicate-2 c = search needs
+
+slice-aggregate-replicate-3 : tie.Need-slice-aggregate-replicate-3
+slice-aggregate-replicate-3 c = search needs
+
+slice-aggregate-replicate-4 : tie.Need-slice-aggregate-replicate-4
+slice-aggregate-replicate-4 c = search needs
+
+slice-aggregate-replicate-5 : tie.Need-slice-aggregate-replicate-5
+slice-aggregate-replicate-5 c = search needs
+
+slice-aggregate-replicate-6 : tie.Need-slice-aggregate-replicate-6
+slice-aggregate-replicate-6 c = search needs
+
+slice-aggregate-replicate-7 : tie.Need-slice-aggregate-replicate-7
+slice-aggregate-replicate-7 c = search needs
+
+slice-aggregate-replicate-8 : tie.Need-slice-aggregate-replicate-8
+slice-aggregate-replicate-8 c = search needs
+
+replicate-requires : tie.Need-replicate-requires
+replicate-requires c κs = search needs
+
+slice-aggregate-finish : tie.Need-slice-aggregate-finish
+slice-aggregate-finish c = search needs
+
+slice-aggregate-finish-2 : tie.Need-slice-aggregate-finish-2
+slice-aggregate-finish-2 c = search needs
+
+slice-aggregate-finish-3 : tie.Need-slice-aggregate-finish-3
+slice-aggregate-finish-3 c = search needs
+
+slice-aggregate-finish-4 : tie.Need-slice-aggregate-finish-4
+slice-aggregate-finish-4 c = search needs
+
+slice-aggregate-finish-5 : tie.Need-slice-aggregate-finish-5
+slice-aggregate-finish-5 c = search needs
+
+slice-aggregate-finish-6 : tie.Need-slice-aggregate-finish-6
+slice-aggregate-finish-6 c = search needs
+
+slice-aggregate-finish-7 : tie.Need-slice-aggregate-finish-7
+slice-aggregate-finish-7 c = search needs
+
+slice-aggregate-finish-8 : tie.Need-slice-aggregate-finish-8
+slice-aggregate-finish-8 c = search needs
+
+finish-requires : tie.Need-finish-requires
+finish-requires c κs =
+    λ z. may-put ReplicatesAt _ _ _ (c .before .before .before .before .before .before .before .before .before .before .before .before .before .before .before .before .before .before .before .before .before .before .before .before .before .before .before .before .before .before .before .before .before .before .before .before .before .before .before .before .before .before .before .before .before .before .before .before .before .before .before .before .before .before .args .reply .now) _ _ _ (c .before .before .before .before .before .before .before .before .before .before .before .before .before .before .before .before .before .before .before .before .before .before .before .before .before .before .before .before .before .before .before .before .before .before .before .before .before .before .before .pick .ensures) (not-false _ (c .before .before .before .before .before .before .before .before .before .before .before .before .before .before .before .before .before .before .before .before .before .before .before .before .before .before .before .before .before .if1 .left)) _ _ (c .before .before .before .before .before .before .before .before .before .before .before .before .before .before .before .before .before .before .before .replicate .ensures)
+    (λ n x d. d .whole z _ (c .before .before .before .before .before .before .before .before .before .before .before .before .before .before .before .before .before .before .before .before .before .before .before .before .before .before .before .before .before .before .before .before .before .before .before .before .before .before .before .before .before .before .before .before .before .before .before .before .before .before .before .before .before .before .pre))
+
+same-length-3 : tie.Need-same-length-3
+same-length-3 c = search needs
+
+same-length-4 : tie.Need-same-length-4
+same-length-4 c = search needs
+
+same-length-5 : tie.Need-same-length-5
+same-length-5 c = search needs
+
+returns-2 : tie.Need-returns-2
+returns-2 c =
+    at-shard ReplicatesAt _ _ _ _ _ _ _ (c .before .before .before .before .before .before .before .before .before .before .before .before .before .before .before .before .before .before .before .before .before .before .before .before .before .before .before .before .before .before .before .before .before .before .before .before .before .before .before .before .before .before .before .before .before .before .pick .ensures) (not-false _ (c .before .before .before .before .before .before .before .before .before .before .before .before .before .before .before .before .before .before .before .before .before .before .before .before .before .before .before .before .before .before .before .before .before .before .before .before .if1 .left)) _ _ (c .before .before .before .before .before .before .before .before .before .before .before .before .before .before .before .before .before .before .before .before .before .before .before .before .before .before .replicate .ensures) _ _
+    (c .before .before .before .before .before .before .finish .ensures)
+
+pub replicate-at-spec : {M : Type 1} → statement M
+replicate-at-spec =
+    tie.close
+    (tie.spec
+    slice-aggregate-pick
+    slice-aggregate-pick-2
+    slice-aggregate-pick-3
+    slice-aggregate-pick-4
+    slice-aggregate-pick-5
+    slice-aggregate-pick-6
+    slice-aggregate-pick-7
+    slice-aggregate-pick-8
+    pick-requires
+    same-length
+    same-length-2
+    returns
+    slice-aggregate-replicate
+    slice-aggregate-replicate-2
+    slice-aggregate-replicate-3
+    slice-aggregate-replicate-4
+    slice-aggregate-replicate-5
+    slice-aggregate-replicate-6
+    slice-aggregate-replicate-7
+    slice-aggregate-replicate-8
+    replicate-requires
+    slice-aggregate-finish
+    slice-aggregate-finish-2
+    slice-aggregate-finish-3
+    slice-aggregate-finish-4
+    slice-aggregate-finish-5
+    slice-aggregate-finish-6
+    slice-aggregate-finish-7
+    slice-aggregate-finish-8
+    finish-requires
+    same-length-3
+    same-length-4
+    same-length-5
+    returns-2)

@@ -1,0 +1,3 @@
+pub mod OfCodes
+pub mod OfAsked
+pub mod OfSteps

@@ -1,0 +1,94 @@
+-- Laws of a worker's step over the images, one for each way out. Assumes nothing.
+use Prim.Native.Nat.{ℕ, _≤_, _<_}
+use native.Mathlib.Omega.{arith}
+use mathlib.Core.Path.{_≡_, refl, sym, ap, subst, _∙_}
+use mathlib.Core.Bool.{Bool, true, false}
+use mathlib.Core.List.{List}
+use lib.ListN.{length}
+use lib.Seq.{take-length}
+use borrow.Author.Tests.{leb-true, lt-leb, le-leb}
+use Rattle.model.specs.Limits.{maxName}
+use Rattle.model.specs.Lists.{_and_}
+use Rattle.model.specs.Keys.{Key}
+use Rattle.model.specs.Node.Worker as worker
+use Rattle.model.specs.declared.Metric.{Metric}
+use Rattle.model.proofs.Lists.{not-both, and-left}
+use Rattle.rpc.specs.declared.KeyPart.{KeyPart}
+use Rattle.rpcw.specs.Written.{textFits}
+use Rattle.header.specs.declared.Node.{Node}
+use Rattle.headerimage.specs.Image.{nodeAt}
+use Rattle.lend.specs.Lend.{Lot}
+use Rattle.lend.specs.Named.{KeyThere, keyIn}
+use Rattle.lentimage.specs.declared.Picked.{Picked}
+use Rattle.lentimage.specs.Lent.{lendsState, lotIn, Picks}
+use Rattle.workercalls.specs.Steps.{Asking, decodes, keyOf, metricOf, formOf, Outputs, StepAsked, StepsImage}
+
+-- ---- the operands
+
+-- the whole name stands in itself
+abbrev whole : Asking → KeyPart
+whole w = record { name = record { at = 0; len = length (w .name) }; shard = w .shard }
+
+-- a name that fits is short enough for a key
+pub there : (w : Asking) (b : Bool) → b ≡ textFits maxName (w .name) → b ≡ true → KeyThere (w .name) (whole w)
+unfolding textFits
+there w b e t = (leb-true (length (w .name)) maxName (and-left _ _ (sym e ∙ t)), omega arith)
+
+pub named : (w : Asking) (k : Key) → k ≡ keyIn (w .name) (whole w) → k ≡ keyOf w
+named w k e = e ∙ ap (λ (s : List ℕ). record { collection = s; shard = w .shard }) (take-length (w .name))
+
+module _ (w : Asking) (b : Bool) (e : b ≡ textFits maxName (w .name)) where
+  pub bad-name : b ≡ false → decodes w ≡ false
+  unfolding decodes _and_
+  bad-name t = rw (sym e ∙ t) refl
+
+  module _ (t : b ≡ true) where
+    pub bad-metric : 1 < w .metric → decodes w ≡ false
+    unfolding decodes _and_
+    bad-metric m = rw (sym e ∙ t) (rw (lt-leb (w .metric) 1 m) refl)
+
+    module _ (m : w .metric ≤ 1) where
+      pub bad-form : 1 < w .form → decodes w ≡ false
+      unfolding decodes _and_
+      bad-form f = rw (sym e ∙ t) (rw (le-leb (w .metric) 1 m) (rw (lt-leb (w .form) 1 f) refl))
+
+      pub decoded : w .form ≤ 1 → decodes w ≡ true
+      unfolding decodes _and_
+      decoded f = rw (sym e ∙ t) (rw (le-leb (w .metric) 1 m) (rw (le-leb (w .form) 1 f) refl))
+
+-- ---- the ways out
+
+module _ (h s : List ℕ) (w : Asking) (o : Outputs) where
+  pub undecoded : decodes w ≡ false → StepsImage h s w o o 21
+  undecoded e = record {
+    undecoded = λ z. record { answer = refl; kept = refl };
+    unlent = λ z i. not-both (decodes w) z e;
+    asked = λ z i. not-both (decodes w) z e;
+  }
+
+  module _ (e : decodes w ≡ true) (k : Key) (name : k ≡ keyOf w) (b : Lot) (l : Picked) (d : Picks h s k b l) where
+    picks : Picks h s (keyOf w) b l
+    picks = subst (λ (i : Key). Picks h s i b l) name d
+
+    pub unlent : l .found ≡ false → StepsImage h s w o o 24
+    unlent f = record {
+      undecoded = λ z. not-both (decodes w) e z;
+      unlent = λ z i. record { answer = refl; kept = refl };
+      asked = λ z i. not-both (lendsState h s (keyOf w)) i (sym (picks .found) ∙ f);
+    }
+
+    module _ (m : Metric) (is-metric : m ≡ metricOf (w .metric)) (form : worker.Form) (is-form : form ≡ formOf (w .form)) where
+      abbrev StepOf : Node → Lot → Key → Metric → worker.Form → (p : Outputs) → ℕ → Type 0
+      StepOf n a i metric f p r = StepAsked n a i (w .epoch) (w .peer) metric f o p r
+
+      pub asked : l .found ≡ true → (p : Outputs) (r : ℕ) → StepOf (l .node) b k m form p r → StepsImage h s w o p r
+      asked f p r a = record {
+        undecoded = λ z. not-both (decodes w) e z;
+        unlent = λ z i. not-both (lendsState h s (keyOf w)) (sym (picks .found) ∙ f) i;
+        asked = λ z i.
+            subst (λ (x : Node). StepOf x (lotIn s (nodeAt h) (keyOf w)) (keyOf w) (metricOf (w .metric)) (formOf (w .form)) p r) (picks .read i)
+            (subst (λ (x : Lot). StepOf (l .node) x (keyOf w) (metricOf (w .metric)) (formOf (w .form)) p r) (picks .lot i)
+            (subst (λ (x : Key). StepOf (l .node) b x (metricOf (w .metric)) (formOf (w .form)) p r) name
+            (subst (λ (x : worker.Form). StepOf (l .node) b k (metricOf (w .metric)) x p r) is-form
+            (subst (λ (x : Metric). StepOf (l .node) b k x form p r) is-metric a))));
+      }

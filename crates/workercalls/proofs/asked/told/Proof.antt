@@ -1,0 +1,71 @@
+-- `asked::told` meets its contract. Assumes nothing.
+use borrow.Author.Needs.{needs}
+use Rattle.outgoing.specs.declared.Request.the-variants as request
+use Rattle.workercalls.proofs.OfAsked.{told-as}
+use Rattle.workercalls.proofs.asked.told.Statement.{statement}
+use Rattle.workercalls.proofs.asked.told.Tie as tie
+
+enum-known-w : tie.Need-enum-known-w
+enum-known-w c = search needs
+
+cast-result : tie.Need-cast-result
+cast-result c = search needs
+
+enum-told : tie.Need-enum-told
+enum-told c = search needs
+
+put8-requires : tie.Need-put8-requires
+put8-requires c κs = search needs
+
+quiet-number-requires : tie.Need-quiet-number-requires
+quiet-number-requires c κs = search needs
+
+enum-known-w-2 : tie.Need-enum-known-w-2
+enum-known-w-2 c = search needs
+
+put8-requires-2 : tie.Need-put8-requires-2
+put8-requires-2 c κs = search needs
+
+sent-number-requires : tie.Need-sent-number-requires
+sent-number-requires c κs = search needs
+
+returns : tie.Need-returns
+returns c = search needs
+
+same-length : tie.Need-same-length
+same-length c = search needs
+
+returns-2 : tie.Need-returns-2
+returns-2 c =
+    let w = c .before .before .before .before .before in
+    let a = w .before .before .before .before .args in
+    told-as (a .s) (a .w) request.Unsent (a .request .now) (a .answer .now) _ _ (w .enum-told .given .1)
+    (c .quiet-number .ensures, c .before .before .before .put8 .ensures)
+
+same-length-2 : tie.Need-same-length-2
+same-length-2 c = search needs
+
+returns-3 : tie.Need-returns-3
+returns-3 c =
+    let w = c .before .before .before .before .before .before in
+    let a = w .before .before .before .before .args in
+    told-as (a .s) (a .w) _ (a .request .now) (a .answer .now) _ _ (w .w2 .given .1)
+    (c .sent-number .ensures, c .before .before .before .put82 .ensures)
+
+pub told-spec : {M : Type 1} → statement M
+told-spec =
+    tie.close
+    (tie.spec
+    enum-known-w
+    cast-result
+    enum-told
+    put8-requires
+    quiet-number-requires
+    enum-known-w-2
+    put8-requires-2
+    sent-number-requires
+    returns
+    same-length
+    returns-2
+    same-length-2
+    returns-3)
