@@ -2,3 +2,4 @@ pub mod OfAsked
 pub mod OfCalls
 pub mod OfFresh
 pub mod OfWaits
+pub mod OfStarts

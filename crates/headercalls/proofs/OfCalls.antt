@@ -1,9 +1,10 @@
 -- What a call on the header that was read is of the image. Assumes nothing.
 use Prim.Native.Nat.{ℕ}
-use mathlib.Core.Bool.{Bool, true}
+use mathlib.Core.Bool.{Bool, true, false}
 use mathlib.Core.Path.{_≡_, refl, sym, ap, _∙_, subst}
 use mathlib.Core.List.{List}
 use lib.Dec.{eqb}
+use Rattle.model.specs.Lists.{_and_}
 use Rattle.model.specs.Keys.{Key}
 use mathlib.Core.Option.{Option, none, some}
 use Rattle.model.specs.Layout.Message as message
@@ -24,7 +25,11 @@ use Rattle.header.specs.Answers.{GrantsNode, SettlesNode, WaitsNode}
 use Rattle.header.specs.Arrays.{Fitting}
 use Rattle.hears.specs.declared.Heard.{Heard}
 use Rattle.hears.specs.declared.Heard.the-variants as H
-use Rattle.hears.specs.Hears.{heardOf, HearsReply}
+use Rattle.hears.specs.Hears.{heardOf, HearsMap, HearsReply}
+use Rattle.shown.specs.declared.NodeShown.{NodeShown}
+use Rattle.state.specs.declared.ShardMap.{ShardMap}
+use Rattle.mapimage.specs.declared.Lent as map
+use Rattle.mapimage.specs.Image.{mapLent, mapAt, lentMap}
 use Rattle.headerimage.specs.declared.Lent.{Lent}
 use Rattle.headerimage.specs.Image.{headerLent, nodeAt, lentHeader}
 use Rattle.headercalls.specs.Asked.{keyNamed, imageAfter}
@@ -32,6 +37,7 @@ use Rattle.headercalls.specs.Grants.{grantNumber, isGranted, GrantsImage
 use Rattle.headercalls.specs.Acks.{sentAt, noReply, ackNumber, isAcked, AcksImage}
 use Rattle.headercalls.specs.Settles.{proposalAt, outcomeNumber, isSettled, SettlesImage}
 use Rattle.headercalls.specs.Waits.{left, waitLeft, WaitsImage}
+use Rattle.headercalls.specs.Shows.{showLeft, ShowsImage}
 
 module _ (s : List ℕ) (l : Lent) (read : l ≡ lentHeader s) where
   pub as-lent : (b : Bool) → l .found ≡ b → headerLent s ≡ b
@@ -96,6 +102,35 @@ module _ (s : List ℕ) (l : Lent) (read : l ≡ lentHeader s) where
         fits = on-lent (λ n. Fitting n (after .node)) fits;
         buffers = e;
       }
+
+-- ---- the map that was read
+
+module _ (m : List ℕ) (l : map.Lent) (read : l ≡ lentMap m) where
+  pub as-map : (b : Bool) → l .found ≡ b → mapLent m ≡ b
+  as-map b e = ap (λ (x : map.Lent). x .found) (sym read) ∙ e
+
+  lent-map : mapLent m ≡ true → lentMap m .map ≡ mapAt m
+  lent-map e = rw e
+
+  on-map : (P : ShardMap → Type 0) → l .found ≡ true → P (l .map) → P (mapAt m)
+  on-map P e = subst P (ap (λ (x : map.Lent). x .map) read ∙ lent-map (as-map true e))
+
+  pub shows-image : (s : List ℕ) (h : Lent) → h ≡ lentHeader s → h .found ≡ true → l .found ≡ true
+      → (t p q a b : List ℕ) (fresh r : ℕ) (after : NodeShown)
+      → HearsMap (h .node) (l .map) fresh after → left r t q b ≡ showLeft s p a after → ShowsImage s t m p q a b fresh r
+  shows-image s h is found known t p q a b fresh r after call e = record {
+    after = after;
+    call = on-map (λ k. HearsMap (nodeAt s) k fresh after) known (on-lent s h is found (λ n. HearsMap n (l .map) fresh after) call);
+    buffers = e;
+  }
+
+pub lent-first : (a b : Bool) → a ≡ false → (a and b) ≡ false
+unfolding _and_
+lent-first a b e = rw e
+
+pub lent-both : (a b : Bool) → a ≡ true → (a and b) ≡ b
+unfolding _and_
+lent-both a b e = rw e
 
 -- ---- a reply, as it was heard
 

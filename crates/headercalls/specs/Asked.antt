@@ -27,3 +27,8 @@ pub record Asked (unread lent : Bool) (r : ℕ) (Same Called : Type 0) : Type 0 
 -- an image after a call: written back if the call was not refused, as it was otherwise
 abbrev pub imageAfter : Bool → List ℕ → Node → List ℕ
 imageAfter done s n = cond done (headerWritten s n) s
+
+-- internal: what putting it there leaves, and the number passed on
+pub record After (s t : List ℕ) (n : Node) (done : Bool) (number r : ℕ) : Type 0 where
+  pub answer : r ≡ number
+  pub image : t ≡ imageAfter done s n

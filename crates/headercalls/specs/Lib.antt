@@ -4,3 +4,4 @@ pub mod Acks
 pub mod Settles
 pub mod Fresh
 pub mod Waits
+pub mod Shows

@@ -43,16 +43,20 @@ idBytes x = bytesOf 8 (x .0)
 abbrev pub answerPut : List ℕ → ℕ → List ℕ
 answerPut a v = cond (leb 8 (length a)) (sets a 0 (bytesOf 8 v)) a
 
--- room for how many peers, and for each
-abbrev pub waitRoom : (peers answer : List ℕ) → List DataNodeId → Bool
-waitRoom p a l = leb 8 (length a) and leb (8 * length l) (length p)
+module _ {A : Type 0} (bytes : A → List ℕ) (w : ℕ) where
+  -- room for how many rows there are, and for each
+  abbrev pub rowsRoom : (rows answer : List ℕ) → List A → Bool
+  rowsRoom p a l = leb 8 (length a) and leb (w * length l) (length p)
 
--- 23 without room, and then nothing is written
+  -- rows of w bytes, how many they are, and the header; 23 without room, and then nothing is written
+  abbrev pub rowsPut : ℕ → (header rows answer : List ℕ) → List A → Node → Left
+  rowsPut said s p a l n =
+      cond (rowsRoom p a l)
+      (left said (headerWritten s n) (sets p 0 (concatMap bytes l)) (sets a 0 (bytesOf 8 (length l))))
+      (left 23 s p a)
+
 abbrev pub waitPut : ℕ → (header peers answer : List ℕ) → List DataNodeId → Node → Left
-waitPut said s p a l n =
-    cond (waitRoom p a l)
-    (left said (headerWritten s n) (sets p 0 (concatMap idBytes l)) (sets a 0 (bytesOf 8 (length l))))
-    (left 23 s p a)
+waitPut said s p a l n = rowsPut idBytes 8 said s p a l n
 
 -- 0 done, 1 waiting; 18 tells the own epoch, every other refusal its number alone
 abbrev pub waitSaid : WaitAnswer → (header peers answer : List ℕ) → List DataNodeId → Node → Left

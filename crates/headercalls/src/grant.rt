@@ -1,9 +1,9 @@
 // Lease grant over a header's image (paper 01, 'The node').
 ghost use Rattle.headercalls.specs.Grants.{Grants};
+use crate::after::put_after;
 use crate::named::late;
 use header::GrantAnswer;
 use headerimage::read_header;
-use headerimage::write_header;
 
 // 21 a time above 2^62, 24; then the grant.
 pub fn grant(header: &mut [u8], incarnation: u64, sent: u64, lease: u64) -> u32
@@ -19,12 +19,9 @@ pub fn grant(header: &mut [u8], incarnation: u64, sent: u64, lease: u64) -> u32
     let n = lent.node;
     let a = header::grant::grant(n, incarnation, sent, lease);
     let answer = a.answer;
+    let out = a.node;
     match answer {
-        GrantAnswer::Refused(k) => k as u32,
-        GrantAnswer::Granted => {
-            let out = a.node;
-            write_header(header, out);
-            0
-        }
+        GrantAnswer::Refused(k) => put_after(header, out, false, k as u32),
+        GrantAnswer::Granted => put_after(header, out, true, 0),
     }
 }

@@ -2,9 +2,12 @@
 // value, and writes the image back if the call was not refused; a refused call leaves every byte of every buffer as it was, but for the own
 // epoch beside 18. These calls ask nothing of their caller.
 pub mod ack;
+pub mod after;
 pub mod fresh;
 pub mod grant;
 pub mod named;
 pub mod outcome;
 pub mod peers;
+pub mod show;
+mod starts;
 pub mod wait;

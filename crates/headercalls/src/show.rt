@@ -1,0 +1,81 @@
+// A map shown to a node, over the images of its header and of the map (paper 01, 'Map shown', 'Who is turned down').
+ghost use mathlib.Core.Path.{_≡_};
+ghost use lib.ListN.{take};
+ghost use Rattle.shown.specs.Shows.{viewStarts};
+ghost use Rattle.headercalls.specs.Waits.{left, rowsPut};
+ghost use Rattle.headercalls.specs.Shows.{workerBytes, showLeft, Shows};
+use crate::starts::put_starts;
+use crate::starts::rows_in;
+use header::Node;
+use headerimage::read_header;
+use headerimage::write_header;
+use mapimage::read_map;
+use shown::NodeShown;
+use shown::ShownAnswer;
+use shown::Start;
+
+// Internal: the workers to start, how many they are, and the header; 23 if an output is too short, and then nothing.
+fn put_all(
+    header: &mut [u8],
+    n: Node,
+    rows: [Start; 8],
+    count: usize,
+    starts: &mut [u8],
+    answer: &mut [u8],
+) -> u32
+    ensures { λ r. ⌜ left r (now (header .exit)) (now (starts .exit)) (now (answer .exit))
+        ≡ rowsPut workerBytes 54 0 (now (header .entry)) (now (starts .entry)) (now (answer .entry)) (viewStarts (take count rows)) n ⌝ }
+{
+    let many = rows_in(rows, count);
+    if answer.len() < 8 {
+        return 23;
+    }
+    if starts.len() < 54 * many {
+        return 23;
+    }
+    put_starts(starts, rows, count);
+    num::put8(answer, 0, many as u64);
+    write_header(header, n);
+    0
+}
+
+// Internal: what a map shown brings about, put where the host looks for it.
+fn put_shown(header: &mut [u8], a: NodeShown, starts: &mut [u8], answer: &mut [u8]) -> u32
+    ensures { λ r. ⌜ left r (now (header .exit)) (now (starts .exit)) (now (answer .exit))
+        ≡ showLeft (now (header .entry)) (now (starts .entry)) (now (answer .entry)) a ⌝ }
+{
+    let said = a.answer;
+    match said {
+        ShownAnswer::Refused(k) => k as u32,
+        ShownAnswer::Shown => {
+            let rows = a.starts;
+            let n = a.node;
+            put_all(header, n, rows, a.count, starts, answer)
+        }
+    }
+}
+
+// 24; then the map is shown.
+pub fn show_map(
+    header: &mut [u8],
+    map: &[u8],
+    fresh: u64,
+    starts: &mut [u8],
+    answer: &mut [u8],
+) -> u32
+    ensures { λ r. ⌜ Shows (now (header .entry)) (now (header .exit)) (now (map .entry)) (now (starts .entry)) (now (starts .exit))
+        (now (answer .entry)) (now (answer .exit)) fresh r ⌝ }
+{
+    let lent = read_header(header);
+    if !lent.found {
+        return 24;
+    }
+    let known = read_map(map);
+    if !known.found {
+        return 24;
+    }
+    let n = lent.node;
+    let m = known.map;
+    let a = hears::show::show(n, m, fresh);
+    put_shown(header, a, starts, answer)
+}
