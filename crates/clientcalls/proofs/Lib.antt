@@ -3,3 +3,4 @@ pub mod OfHits
 pub mod OfRoom
 pub mod OfFound
 pub mod OfSearched
+pub mod OfWritten

@@ -2,3 +2,4 @@ pub mod Count
 pub mod Hits
 pub mod Found
 pub mod Searched
+pub mod Written

@@ -1,0 +1,164 @@
+-- Laws of a Write over the images, one for each way out. Assumes nothing.
+use Prim.Native.Nat.{ℕ, _≤_, _<_}
+use mathlib.Core.Path.{_≡_, refl, sym, ap, subst, _∙_}
+use mathlib.Core.Bool.{Bool, true, false}
+use mathlib.Core.List.{List}
+use mathlib.Core.Option.{none, some}
+use lib.ListN.{length}
+use lib.Seq.{sets}
+use borrow.Author.Tests.{le-leb, lt-leb}
+use Rattle.model.specs.Keys.{Key}
+use Rattle.model.specs.Layout.Format.{bytesOf}
+use Rattle.model.specs.Layout.Message as message
+use Rattle.model.specs.Layout.Parts.{WireOp}
+use Rattle.model.specs.Node.Wire.{opInDomain}
+use Rattle.model.specs.Node.Calls.{lateTime}
+use Rattle.model.proofs.Lists.{not-both, none-some}
+use Rattle.rpc.specs.declared.WritePart.{WritePart}
+use Rattle.rpc.proofs.Decoded.{write-decoded}
+use Rattle.arrivals.specs.Parts.{opIn}
+use Rattle.arrivals.proofs.OfMessages.{write-op}
+use Rattle.lend.specs.Named.{keyIn}
+use Rattle.header.specs.declared.Node.{Node}
+use Rattle.headerimage.specs.Image.{nodeAt, headerWritten}
+use Rattle.lend.specs.Lend.{Lot, placeOf}
+use Rattle.lentimage.specs.Lent.{lendsState, lotIn, storesPut, Picks, Puttable, Puts}
+use Rattle.lentimage.specs.declared.Picked.{Picked}
+use Rattle.lentimage.proofs.OfPut.{puttable}
+use Rattle.clientwrites.specs.declared.WriteReply.{WriteReply}
+use Rattle.clientwrites.specs.declared.WriteReply.the-variants as R
+use Rattle.clientwrites.specs.declared.WriteAnswer.{WriteAnswer}
+use Rattle.clientwrites.specs.ClientWrites.{turnedDown, IsWrite, WriteNames, WritesAt}
+use Rattle.clientwrites.proofs.OfNamed.{write-key}
+use Rattle.clientcalls.specs.Count.{numberPut}
+use Rattle.clientcalls.specs.Searched.{lendsCall}
+use Rattle.clientcalls.specs.Written.{Buffers, buffers, WriteEnded, ended, acceptedIn, endedAs, writeEnded, WriteServed, WritesShard, WritesRead, WritesBytes}
+use Rattle.clientcalls.proofs.OfSearched.{lends-short, lends-long}
+
+-- ---- by the answer
+
+module _ (h s a : List ℕ) (n : Node) (at : ℕ) (l : Lot) (w : WriteAnswer) where
+  abbrev b : Buffers
+  b = buffers h s a
+
+  abbrev h₁ : List ℕ
+  h₁ = headerWritten h (w .node)
+
+  abbrev s₁ : List ℕ
+  s₁ = storesPut s n (w .node) l at
+
+  as-told : (x : WriteReply) → w .answer ≡ x → (e : WriteEnded) → e ≡ endedAs b h₁ s₁ x → e ≡ writeEnded b n at l w
+  as-told x q e f = f ∙ ap (endedAs b h₁ s₁) (sym q)
+
+  pub told-short : (o : ℕ) → w .answer ≡ R.Accepted (record { 0 = o }) → length a < 8 → ended 23 b ≡ writeEnded b n at l w
+  told-short o q e = as-told (R.Accepted (record { 0 = o })) q _ (rw (lt-leb 8 (length a) e) refl)
+
+  pub told-accepted : (o : ℕ) → w .answer ≡ R.Accepted (record { 0 = o }) → 8 ≤ length a → (h′ s′ a′ : List ℕ)
+      → Puts h h′ s s′ n (w .node) l at → a′ ≡ sets a 0 (bytesOf 8 o) → ended 0 (buffers h′ s′ a′) ≡ writeEnded b n at l w
+  told-accepted o q e h′ s′ a′ p f = as-told (R.Accepted (record { 0 = o })) q _
+      (ap (λ (x : List ℕ). ended 0 (buffers x s′ a′)) (p .header)
+      ∙ ap (λ (x : List ℕ). ended 0 (buffers h₁ x a′)) (p .stores)
+      ∙ ap (λ (x : List ℕ). ended 0 (buffers h₁ s₁ x)) f
+      ∙ (rw (le-leb 8 (length a) e) refl))
+
+  pub told-elsewhere : (o : ℕ) → w .answer ≡ R.NotPrimary (record { 0 = o }) → (a′ : List ℕ) → a′ ≡ numberPut a o
+      → ended 18 (buffers h s a′) ≡ writeEnded b n at l w
+  told-elsewhere o q a′ f = as-told (R.NotPrimary (record { 0 = o })) q _ (ap (λ (x : List ℕ). ended 18 (buffers h s x)) f)
+
+  pub told-refused : (x : ℕ) → w .answer ≡ R.Refused x → ended x b ≡ writeEnded b n at l w
+  told-refused x q = as-told (R.Refused x) q _ refl
+
+pub accepted-stands : (x : WriteReply) (o : ℕ) → x ≡ R.Accepted (record { 0 = o }) → turnedDown x ≡ false
+accepted-stands x o q = ap turnedDown q
+
+-- ---- at the shard of a key
+
+module _ (h s a : List ℕ) (k : Key) (b : Lot) (l : Picked) (d : Picks h s k b l) (clock least : ℕ) (m : List ℕ) where
+  pub shard-unlent : l .found ≡ false → WritesShard (buffers h s a) k clock least m (ended 24 (buffers h s a))
+  shard-unlent e = record { unlent = λ z. refl; lent = λ z. not-both _ z (sym (d .found) ∙ e) }
+
+  module _ (f : l .found ≡ true) (x : Lot) (w : WriteAnswer) (call : WritesAt (l .node) b x clock least m 0 w) where
+    lends : lendsState h s k ≡ true
+    lends = sym (d .found) ∙ f
+
+    called : WritesAt (nodeAt h) (lotIn s (nodeAt h) k) x clock least m 0 w
+    called =
+        subst (λ (y : Lot). WritesAt (nodeAt h) y x clock least m 0 w) (d .lot lends)
+        (subst (λ (n : Node). WritesAt n b x clock least m 0 w) (d .read lends) call)
+
+    pub shard-puttable : WriteNames m k → turnedDown (w .answer) ≡ false → Puttable s (l .node) (w .node) x (l .at)
+    shard-puttable names t =
+        subst (λ (i : ℕ). Puttable s (l .node) (w .node) x i) (sym (d .at lends))
+        (subst (λ (n : Node). Puttable s n (w .node) x (placeOf (nodeAt h) k)) (sym (d .read lends))
+        (puttable h s k (w .node) x lends (called .whole t k names)))
+
+    pub shard-lent : (e : WriteEnded) → e ≡ writeEnded (buffers h s a) (l .node) (l .at) x w → WritesShard (buffers h s a) k clock least m e
+    shard-lent e q = record {
+      unlent = λ y. not-both _ lends y;
+      lent = λ y. record {
+        left = x;
+        told = w;
+        call = called;
+        is =
+            q
+            ∙ ap (λ (n : Node). writeEnded (buffers h s a) n (l .at) x w) (d .read lends)
+            ∙ ap (λ (i : ℕ). writeEnded (buffers h s a) (nodeAt h) i x w) (d .at lends);
+      };
+    }
+
+-- ---- a message
+
+module _ (h s a c : List ℕ) (clock least : ℕ) (m : List ℕ) where
+  abbrev u : Buffers
+  u = buffers h s a
+
+  pub bytes-late : lateTime clock ≡ true → WritesBytes u c clock least m (ended 21 u)
+  bytes-late e = record { late = λ z. refl; undecoded = λ z. refl; read = λ z v q. not-both _ e z }
+
+  module _ (early : lateTime clock ≡ false) where
+    pub bytes-undecoded : message.decodeWrite m ≡ none → WritesBytes u c clock least m (ended 21 u)
+    bytes-undecoded e = record { late = λ z. refl; undecoded = λ z. refl; read = λ z v q. none-some (sym e ∙ q) }
+
+    module _ (p : WritePart) (i : IsWrite m p) where
+      by-read : (e : WriteEnded) → ((v : message.Write) → message.decodeWrite m ≡ some v → WritesRead u c clock least m v e) → WritesBytes u c clock least m e
+      by-read e f = record {
+        late = λ z. not-both _ z early;
+        undecoded = λ z. none-some (sym z ∙ write-decoded m p i .decoded);
+        read = λ z v q. f v q;
+      }
+
+      -- the key that the message names
+      pub names : (k : Key) → k ≡ keyIn m (p .key) → WriteNames m k
+      names k e v q = e ∙ write-key m p i v q
+
+      module _ (t : Bool) (tested : t ≡ opInDomain (opIn m (p .op))) where
+        tells : (v : message.Write) → message.decodeWrite m ≡ some v → t ≡ opInDomain (v .op)
+        tells v q = tested ∙ ap opInDomain (write-op m p i v q)
+
+        pub bytes-outside : t ≡ false → WritesBytes u c clock least m (ended 22 u)
+        bytes-outside e = by-read (ended 22 u) (λ v q.
+            let no = sym (tells v q) ∙ e in
+            record { outside = λ z. refl; unlent = λ z y. not-both _ z no; lent = λ z y. not-both _ z no })
+
+        module _ (inside : t ≡ true) where
+          pub bytes-uncounted : length c < 4 → WritesBytes u c clock least m (ended 24 u)
+          bytes-uncounted e = by-read (ended 24 u) (λ v q.
+              let yes = sym (tells v q) ∙ inside in
+              record {
+                outside = λ z. not-both _ yes z;
+                unlent = λ z y. refl;
+                lent = λ z y. not-both _ y (lends-short c h s (v .key) e);
+              })
+
+          pub bytes-named : 4 ≤ length c → (k : Key) → k ≡ keyIn m (p .key) → (e : WriteEnded) → WritesShard u k clock least m e
+              → WritesBytes u c clock least m e
+          bytes-named long k named e d = by-read e (λ v q.
+              let yes = sym (tells v q) ∙ inside in
+              let same : k ≡ v .key = named ∙ write-key m p i v q in
+              let g = subst (λ (x : Key). WritesShard u x clock least m e) same d in
+              let is = lends-long c h s (v .key) long in
+              record {
+                outside = λ z. not-both _ yes z;
+                unlent = λ z y. g .unlent (sym is ∙ y);
+                lent = λ z y. g .lent (sym is ∙ y);
+              })

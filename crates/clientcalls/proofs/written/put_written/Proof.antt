@@ -1,0 +1,78 @@
+-- `written::put_written` meets its contract. Assumes nothing.
+use borrow.Author.Needs.{needs}
+use native.Mathlib.Omega.{arith}
+use Rattle.lend.specs.Lend.{lot}
+use Rattle.clientcalls.proofs.OfWritten.{told-short, told-accepted, told-elsewhere, told-refused, accepted-stands}
+use Rattle.clientcalls.proofs.written.put_written.Statement.{statement}
+use Rattle.clientcalls.proofs.written.put_written.Tie as tie
+
+enum-known-reply : tie.Need-enum-known-reply
+enum-known-reply c = search needs
+
+returns : tie.Need-returns
+returns c =
+    let a = c .before .before .before .before .before .before .before .before .before .before .before .before .before .before .before .args in
+    told-short (a .header .now) (a .stores .now) (a .answer .now) (a .n) (a .at) (lot (a .epochs .now) (a .offsets .now) (a .ids .now) (a .codes .now) (a .lengths .now) (a .floats .now) (a .keys .now) (a .places .now)) (a .told) _ (c .before .before .reply .given .1) (c .if1 .taken)
+
+put8-requires : tie.Need-put8-requires
+put8-requires c κs = search needs
+
+put-images-requires : tie.Need-put-images-requires
+put-images-requires c κs =
+    c .before .before .before .before .before .before .before .before .before .before .before .before .before .before .before .before .before .before .before .before .before .before .pre (accepted-stands _ _ (c .before .before .before .before .before .before .before .before .before .reply .given .1))
+
+enum-known-reply-2 : tie.Need-enum-known-reply-2
+enum-known-reply-2 c = search needs
+
+put-number-requires : tie.Need-put-number-requires
+put-number-requires c κs = search needs
+
+enum-known-reply-3 : tie.Need-enum-known-reply-3
+enum-known-reply-3 c = search needs
+
+same-length : tie.Need-same-length
+same-length c = search needs
+
+same-length-2 : tie.Need-same-length-2
+same-length-2 c = search needs
+
+same-length-3 : tie.Need-same-length-3
+same-length-3 c = search needs
+
+returns-2 : tie.Need-returns-2
+returns-2 c =
+    let a = c .before .before .before .before .before .before .before .before .before .before .before .before .before .before .before .before .before .before .before .before .before .before .before .before .before .before .before .args in
+    told-accepted (a .header .now) (a .stores .now) (a .answer .now) (a .n) (a .at) (lot (a .epochs .now) (a .offsets .now) (a .ids .now) (a .codes .now) (a .lengths .now) (a .floats .now) (a .keys .now) (a .places .now)) (a .told) _ (c .before .before .before .before .before .before .before .before .before .before .before .before .before .before .reply .given .1) (omega (arith, c .before .before .before .before .before .before .before .before .before .before .before .before .if1 .left)) _ _ _
+    (c .before .before .before .before .put-images .ensures) (c .before .before .before .before .before .before .before .before .before .before .put8 .ensures)
+
+same-length-4 : tie.Need-same-length-4
+same-length-4 c = search needs
+
+returns-3 : tie.Need-returns-3
+returns-3 c =
+    let a = c .before .before .before .before .before .before .before .before .before .before .before .before .before .before .before .before .before .before .args in
+    told-elsewhere (a .header .now) (a .stores .now) (a .answer .now) (a .n) (a .at) (lot (a .epochs .now) (a .offsets .now) (a .ids .now) (a .codes .now) (a .lengths .now) (a .floats .now) (a .keys .now) (a .places .now)) (a .told) _ (c .before .before .before .before .before .reply2 .given .1) _ (c .before .before .put-number .ensures)
+
+returns-4 : tie.Need-returns-4
+returns-4 c =
+    let a = c .before .before .before .before .before .before .before .before .before .before .before .before .before .before .args in
+    told-refused (a .header .now) (a .stores .now) (a .answer .now) (a .n) (a .at) (lot (a .epochs .now) (a .offsets .now) (a .ids .now) (a .codes .now) (a .lengths .now) (a .floats .now) (a .keys .now) (a .places .now)) (a .told) _ (c .before .reply3 .given .1)
+
+pub put-written-spec : {M : Type 1} → statement M
+put-written-spec =
+    tie.close
+    (tie.spec
+    enum-known-reply
+    returns
+    put8-requires
+    put-images-requires
+    enum-known-reply-2
+    put-number-requires
+    enum-known-reply-3
+    same-length
+    same-length-2
+    same-length-3
+    returns-2
+    same-length-4
+    returns-3
+    returns-4)

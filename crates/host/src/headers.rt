@@ -1,0 +1,93 @@
+// What the map, the clock and peers bring to a node's header.
+ghost use Rattle.headercalls.specs.Acks.{Acks};
+ghost use Rattle.headercalls.specs.Fresh.{Freshens};
+ghost use Rattle.headercalls.specs.Grants.{Grants};
+ghost use Rattle.headercalls.specs.Settles.{Settles};
+ghost use Rattle.headercalls.specs.Shows.{Shows};
+ghost use Rattle.headercalls.specs.Waits.{Waits};
+
+#[no_mangle]
+pub extern "C" fn catalogue_fresh_node(header: &mut [u8], id: u64, incarnation: u64) -> u32
+    ensures { λ r. ⌜ Freshens (now (header .entry)) (now (header .exit)) id incarnation r ⌝ }
+{
+    headercalls::fresh::fresh_node(header, id, incarnation)
+}
+
+#[no_mangle]
+pub extern "C" fn catalogue_show_map(
+    header: &mut [u8],
+    map: &[u8],
+    fresh: u64,
+    starts: &mut [u8],
+    answer: &mut [u8],
+) -> u32
+    ensures { λ r. ⌜ Shows (now (header .entry)) (now (header .exit)) (now (map .entry)) (now (starts .entry)) (now (starts .exit))
+        (now (answer .entry)) (now (answer .exit)) fresh r ⌝ }
+{
+    headercalls::show::show_map(header, map, fresh, starts, answer)
+}
+
+#[no_mangle]
+pub extern "C" fn catalogue_grant(header: &mut [u8], incarnation: u64, sent: u64, lease: u64) -> u32
+    ensures { λ r. ⌜ Grants (now (header .entry)) (now (header .exit)) incarnation sent lease r ⌝ }
+{
+    headercalls::grant::grant(header, incarnation, sent, lease)
+}
+
+#[no_mangle]
+pub extern "C" fn catalogue_wait(
+    header: &mut [u8],
+    name: &[u8],
+    shard: u32,
+    epoch: u64,
+    offset: u64,
+    clock: u64,
+    timeout: u64,
+    peers: &mut [u8],
+    answer: &mut [u8],
+) -> u32
+    ensures { λ r. ⌜ Waits (now (header .entry)) (now (header .exit)) (now (peers .entry)) (now (peers .exit))
+        (now (answer .entry)) (now (answer .exit)) (now (name .entry)) shard epoch offset clock timeout r ⌝ }
+{
+    headercalls::wait::wait(
+        header,
+        name,
+        shard,
+        epoch,
+        offset,
+        clock,
+        timeout,
+        peers,
+        answer,
+    )
+}
+
+#[no_mangle]
+pub extern "C" fn catalogue_ack(
+    header: &mut [u8],
+    name: &[u8],
+    shard: u32,
+    epoch: u64,
+    peer: u64,
+    step: u8,
+    reply: &[u8],
+) -> u32
+    ensures { λ r. ⌜ Acks (now (header .entry)) (now (header .exit)) (now (name .entry)) (now (reply .entry)) shard epoch peer step r ⌝ }
+{
+    headercalls::ack::ack(header, name, shard, epoch, peer, step, reply)
+}
+
+#[no_mangle]
+pub extern "C" fn catalogue_outcome(
+    header: &mut [u8],
+    name: &[u8],
+    shard: u32,
+    epoch: u64,
+    peer: u64,
+    command: u8,
+    applied: u8,
+) -> u32
+    ensures { λ r. ⌜ Settles (now (header .entry)) (now (header .exit)) (now (name .entry)) shard epoch peer command applied r ⌝ }
+{
+    headercalls::outcome::outcome(header, name, shard, epoch, peer, command, applied)
+}
