@@ -1,12 +1,9 @@
-# The catalogue engine. `make run` shows it at work, `make test` is the gate; both need the Rattle toolchain alone.
+# The catalogue engine. `make run` shows it at work and needs the Rattle toolchain and a C compiler; `make test` is the
+# gate and needs the Rattle toolchain alone.
 .PHONY: run test
 
-run: ## requests that the repository ships, applied to a shard map: what each comes to
-	@mkdir -p target
-	@rt check applymap > target/run.log 2>&1 || { cat target/run.log; exit 1; }
-	@echo "requests of crates/applymap/stdin, applied to an empty shard map: index, what became of it, the reason (0 if"
-	@echo "applied), the map's version. The first twenty:"
-	@target/bin/applymap < crates/applymap/stdin | head -n 20
+run: dome ## a dome of three nodes in one process, told step by step (examples/dome.c)
+	@target/host/dome
 
 test: ## every proof, every edit that must fail, every program against its stored answers
 	bash .ci/run
@@ -20,6 +17,9 @@ export ENGINE_APPLYMAP ?= target/bin/applymap
 export ENGINE_STREAMS ?= target/bin/streams
 export ENGINE_SEARCH ?= target/bin/searches
 export ENGINE_HISTORY ?= target/bin/histories
+
+# Hosts in C and Rust over the entry points.
+-include host/host.mk
 
 # The Rust this engine is a port of, as an oracle: needs cargo and the source files, never the gate.
 -include oracle/oracle.mk

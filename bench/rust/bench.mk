@@ -1,7 +1,7 @@
 # The engine beside the unchanged Rust: one program links both and times them in turns on the same input. From the
 # repository's root: make bench [PARTS="search apply"]. It needs cargo and the published files (make oracle); no part of the gate.
 BENCH_RUST := target/bench/rust
-BENCH_LIBS := benchshard benchmap
+BENCH_LIBS := benchshard benchmap host
 
 .PHONY: bench
 bench: oracle-ready ## the engine and the unchanged Rust on the same input, as ratios from one run

@@ -3,14 +3,17 @@
 
 mod map;
 mod measure;
+mod node;
 mod shard;
 
 fn main() {
-    let parts: [(&str, fn()); 4] = [
+    let parts: [(&str, fn()); 6] = [
         ("search", shard::search),
         ("append", shard::append),
         ("adopt", shard::adopt),
         ("apply", map::apply),
+        ("map", map::images),
+        ("node", node::node),
     ];
     let asked: Vec<String> = std::env::args().skip(1).collect();
     for (name, run) in parts {

@@ -1,6 +1,8 @@
 //! The shard map: commands on maps from nearly empty to full, decoding included.
 
-use controlplane::state::StateMachine;
+use catalogue::sys;
+use controlplane::state::{self, StateMachine};
+use rpc::{CollectionSpec, Metric};
 use wire::{Change, Command, Key, Message, Request, Spec};
 
 use crate::measure;
@@ -118,19 +120,9 @@ const CHANGES: usize = 400;
 
 pub fn apply() {
     measure::head("Apply, one Shrink or Expand: decoding and the test of the lent map included");
-    for (name, nodes, collections, shards, replicas, clients) in [
-        ("2 nodes, 1 shard, 1 client", 2, 1, 1, 2, 1),
-        ("8 nodes, 16 shards of 3, 16 clients", 8, 4, 4, 3, 16),
-        ("32 nodes, 64 shards of 8, 64 clients", 32, 16, 4, 8, 64),
-    ] {
+    for (name, filling) in &FILLINGS {
         let mut requests = Requests { all: vec![] };
-        requests.fill(&Filling {
-            nodes,
-            collections,
-            shards,
-            replicas,
-            clients,
-        });
+        requests.fill(filling);
         let start = requests.all.clone();
         requests.change(CHANGES);
         one(name, &start, &requests.all);
@@ -164,4 +156,159 @@ fn one(name: &str, start: &[Vec<u8>], all: &[Vec<u8>]) {
         black(unsafe { engine_map_test(first.as_ptr(), first.len(), times) });
     });
     println!("| the test of that map alone | {test:.0} | | | |");
+}
+
+// ----- The entry points, over the map's byte image ----------------------------------------
+
+const FILLINGS: [(&str, Filling); 3] = [
+    ("2 nodes, 1 shard, 1 client", filling(2, 1, 1, 2, 1)),
+    (
+        "8 nodes, 16 shards of 3, 16 clients",
+        filling(8, 4, 4, 3, 16),
+    ),
+    (
+        "32 nodes, 64 shards of 8, 64 clients",
+        filling(32, 16, 4, 8, 64),
+    ),
+];
+
+const fn filling(
+    nodes: u64,
+    collections: u64,
+    shards: u32,
+    replicas: u64,
+    clients: u64,
+) -> Filling {
+    Filling {
+        nodes,
+        collections,
+        shards,
+        replicas,
+        clients,
+    }
+}
+
+fn image_apply(image: &mut [u8], request: &[u8]) -> u32 {
+    unsafe {
+        sys::catalogue_apply(
+            image.as_mut_ptr(),
+            image.len(),
+            request.as_ptr(),
+            request.len(),
+        )
+    }
+}
+
+/// The image and the Rust's machine after the same requests.
+fn filled(f: &Filling) -> (Vec<u8>, StateMachine, Requests) {
+    let mut requests = Requests { all: vec![] };
+    requests.fill(f);
+    let (mut image, mut machine) = (vec![0; catalogue::MAP], StateMachine::default());
+    for bytes in &requests.all {
+        assert_eq!(image_apply(&mut image, bytes), 0);
+        let Some(Message::Request(r)) = wire::read(bytes) else {
+            unreachable!("a request")
+        };
+        machine.apply(r.index, &rpc_request(&r));
+    }
+    (image, machine, requests)
+}
+
+fn rpc_request(r: &Request) -> rpc::Request {
+    rpc::Request {
+        client: r.client,
+        seq: r.seq,
+        command: front::convert::command(&r.command),
+    }
+}
+
+/// The engine's image is put back before each Shrink; the Rust goes on with Shrink and Expand in turn.
+fn images_apply() {
+    measure::head("apply over the map's image, one Shrink or Expand");
+    for (name, f) in &FILLINGS {
+        let (start, mut machine, mut requests) = filled(f);
+        requests.change(2);
+        let last = &requests.all[requests.all.len() - 2..];
+        let mut image = start.clone();
+        let read = |bytes: &[u8]| match wire::read(bytes) {
+            Some(Message::Request(r)) => rpc_request(&r),
+            _ => unreachable!("a request"),
+        };
+        let mut turns = [read(&last[0]), read(&last[1])];
+        let mut n = requests.all.len() as u64;
+        let row = measure::row(
+            name,
+            1.0,
+            &mut || {
+                image.copy_from_slice(&start);
+                assert_eq!(image_apply(&mut image, &last[0]), 0);
+            },
+            &mut || {
+                n += 1;
+                let request = &mut turns[(n % 2) as usize];
+                request.seq = n;
+                std::hint::black_box(machine.apply(n, request));
+            },
+        );
+        measure::print(&row);
+    }
+}
+
+fn images_place() {
+    measure::head("place of 4 shards of 2, and replacement, over the map's image");
+    for (name, f) in &FILLINGS {
+        let (image, machine, _) = filled(f);
+        let spec = CollectionSpec {
+            dimension: 1,
+            metric: Metric::Euclidean,
+            shards: 4,
+            replication: 2,
+        };
+        let mut lists = [0; 1024];
+        let row = measure::row(
+            &format!("place, {name}"),
+            1.0,
+            &mut || {
+                let out = lists.as_mut_ptr();
+                assert_eq!(
+                    unsafe { sys::catalogue_place(image.as_ptr(), image.len(), 4, 2, out, 1024) },
+                    0
+                );
+            },
+            &mut || assert!(std::hint::black_box(state::place(machine.map(), &spec)).is_some()),
+        );
+        measure::print(&row);
+        let (name_of, mut answer) = (b"catalogue-00", [0; 8]);
+        let key = front::convert::key(&Key {
+            name: name_of.to_vec(),
+            shard: 0,
+        });
+        let row = measure::row(
+            &format!("replacement, {name}"),
+            1.0,
+            &mut || {
+                let (n, out) = (name_of.as_ptr(), answer.as_mut_ptr());
+                unsafe {
+                    sys::catalogue_replacement(
+                        image.as_ptr(),
+                        image.len(),
+                        n,
+                        name_of.len(),
+                        0,
+                        out,
+                        8,
+                    )
+                };
+            },
+            &mut || {
+                std::hint::black_box(state::replacement(machine.map(), &key));
+            },
+        );
+        measure::print(&row);
+    }
+}
+
+pub fn images() {
+    images_apply();
+    images_place();
 }

@@ -1,0 +1,699 @@
+//! The data node: the engine's C entry points over byte images beside the unchanged Rust's transitions. Every call of
+//! the engine reads the images and tests the lent state (24); a call that is refused right after that test is timed
+//! too. The engine is put back to its state between calls by copying its header, since what lies past a log's end is
+//! free; the Rust's log just grows, which costs it nothing.
+
+use std::sync::Arc;
+
+use catalogue::sys;
+use datanode::node::Node as Rust;
+use datanode::node::inside::{self, Settings};
+use front::convert;
+use rpc::{CopyShard, Epoch, LogEntry, Metric, NewEpoch, Replicate, SearchQuery, ShardMap, Write};
+use wire::{Command, Entry, Key, Message, Op, Request, Spec};
+
+use crate::measure;
+
+const LEASE: u64 = 1 << 40;
+const LENGTH: usize = 32;
+const EPOCH: u64 = 1;
+const BATCH: u64 = 256;
+
+/// How many entries the log has, in each table.
+const LOGS: [u64; 4] = [0, 64, 512, 767];
+
+fn key() -> Key {
+    Key {
+        name: b"stars".to_vec(),
+        shard: 0,
+    }
+}
+
+fn put(id: u64) -> Op {
+    Op::Put {
+        id,
+        vector: (0..LENGTH)
+            .map(|i| (i as f32 + id as f32).to_bits())
+            .collect(),
+    }
+}
+
+fn entry(offset: u64) -> Entry {
+    Entry {
+        epoch: EPOCH,
+        offset,
+        op: put(offset),
+    }
+}
+
+/// Two nodes, and a collection of one shard on both: node 1 is its primary.
+fn commands() -> Vec<Message> {
+    let register = |node| Command::Register {
+        node,
+        address: b"projector".to_vec(),
+        incarnation: 1,
+    };
+    let spec = Spec {
+        dimension: LENGTH as u32,
+        metric: 0,
+        shards: 1,
+        replication: 2,
+    };
+    let create = Command::Create {
+        name: b"stars".to_vec(),
+        spec,
+        placement: vec![vec![1, 2]],
+    };
+    let commands = [register(1), register(2), create];
+    (1..)
+        .zip(commands)
+        .map(|(n, command)| {
+            Message::Request(Request {
+                index: n,
+                client: 1,
+                seq: n,
+                command,
+            })
+        })
+        .collect()
+}
+
+fn write_of(id: u64) -> Message {
+    Message::Write {
+        key: key(),
+        epoch: EPOCH,
+        op: put(id),
+    }
+}
+
+// ----- The engine -------------------------------------------------------------------------
+
+/// A node's images, the header as it is before each call, and room for every output.
+struct Engine {
+    map: Vec<u8>,
+    before: Vec<u8>,
+    header: Vec<u8>,
+    stores: Vec<u8>,
+    refused: [u8; 4],
+    answer: [u8; 8],
+    out: Vec<u8>,
+}
+
+/// A slice as a call takes it.
+macro_rules! lent {
+    ($slice:expr) => {
+        ($slice.as_ptr(), $slice.len())
+    };
+}
+
+impl Engine {
+    fn new(id: u64) -> Engine {
+        let mut map = vec![0; catalogue::MAP];
+        for message in commands() {
+            let request = wire::write(&message);
+            let (bytes, len) = lent!(request);
+            assert_eq!(
+                unsafe { sys::catalogue_apply(map.as_mut_ptr(), map.len(), bytes, len) },
+                0
+            );
+        }
+        let mut header = vec![0; catalogue::HEADER];
+        assert_eq!(
+            unsafe { sys::catalogue_fresh_node(header.as_mut_ptr(), header.len(), id, 1) },
+            0
+        );
+        let stores = vec![0; catalogue::STORES];
+        let out = vec![0; 39472];
+        let mut engine = Engine {
+            map,
+            before: Vec::new(),
+            header,
+            stores,
+            refused: [0; 4],
+            answer: [0; 8],
+            out,
+        };
+        assert_eq!(engine.show(), 0);
+        assert_eq!(
+            unsafe {
+                sys::catalogue_grant(engine.header.as_mut_ptr(), engine.header.len(), 1, 0, LEASE)
+            },
+            0
+        );
+        engine
+    }
+
+    /// A node whose log has so many entries.
+    fn with_log(id: u64, entries: u64) -> Engine {
+        let mut engine = Engine::new(id);
+        for n in 1..=entries {
+            let said = match id {
+                1 => engine.write(&wire::write(&write_of(n))),
+                _ => engine.replicate(&wire::write(&replicate_of(n))),
+            };
+            assert_eq!(said, 0);
+        }
+        engine.before = engine.header.clone();
+        engine
+    }
+
+    fn put_back(&mut self) {
+        self.header.copy_from_slice(&self.before);
+    }
+
+    fn show(&mut self) -> u32 {
+        unsafe {
+            sys::catalogue_show_map(
+                self.header.as_mut_ptr(),
+                self.header.len(),
+                self.map.as_ptr(),
+                self.map.len(),
+                2,
+                self.out.as_mut_ptr(),
+                self.out.len(),
+                self.answer.as_mut_ptr(),
+                self.answer.len(),
+            )
+        }
+    }
+
+    fn write(&mut self, message: &[u8]) -> u32 {
+        unsafe {
+            sys::catalogue_write(
+                self.header.as_mut_ptr(),
+                self.header.len(),
+                self.stores.as_mut_ptr(),
+                self.stores.len(),
+                self.refused.as_mut_ptr(),
+                self.refused.len(),
+                1,
+                1,
+                message.as_ptr(),
+                message.len(),
+                self.answer.as_mut_ptr(),
+                self.answer.len(),
+            )
+        }
+    }
+
+    fn replicate(&mut self, message: &[u8]) -> u32 {
+        self.arrive(sys::catalogue_replicate, message)
+    }
+
+    fn copy(&mut self, message: &[u8]) -> u32 {
+        self.arrive(sys::catalogue_copy, message)
+    }
+
+    fn arrive(&mut self, call: Arrival, message: &[u8]) -> u32 {
+        unsafe {
+            call(
+                self.header.as_mut_ptr(),
+                self.header.len(),
+                self.stores.as_mut_ptr(),
+                self.stores.len(),
+                message.as_ptr(),
+                message.len(),
+                self.out.as_mut_ptr(),
+                self.out.len(),
+            )
+        }
+    }
+
+    fn wait(&mut self, offset: u64) -> u32 {
+        unsafe {
+            sys::catalogue_wait(
+                self.header.as_mut_ptr(),
+                self.header.len(),
+                b"stars".as_ptr(),
+                5,
+                0,
+                EPOCH,
+                offset,
+                1,
+                LEASE,
+                self.out.as_mut_ptr(),
+                self.out.len(),
+                self.answer.as_mut_ptr(),
+                self.answer.len(),
+            )
+        }
+    }
+
+    fn step(&mut self) -> u32 {
+        unsafe {
+            sys::catalogue_step(
+                self.header.as_ptr(),
+                self.header.len(),
+                self.stores.as_ptr(),
+                self.stores.len(),
+                b"stars".as_ptr(),
+                5,
+                0,
+                EPOCH,
+                2,
+                0,
+                1,
+                self.out.as_mut_ptr(),
+                self.out.len(),
+                self.answer.as_mut_ptr(),
+                self.answer.len(),
+            )
+        }
+    }
+
+    /// The peer's reply to a step: 2 align, 3 replicate.
+    fn acked(&mut self, step: u8, reply: &Message) -> u32 {
+        let reply = wire::write(reply);
+        let (bytes, len) = lent!(reply);
+        unsafe {
+            sys::catalogue_ack(
+                self.header.as_mut_ptr(),
+                self.header.len(),
+                b"stars".as_ptr(),
+                5,
+                0,
+                EPOCH,
+                2,
+                step,
+                bytes,
+                len,
+            )
+        }
+    }
+
+    fn outcome(&mut self) -> u32 {
+        unsafe {
+            sys::catalogue_outcome(
+                self.header.as_mut_ptr(),
+                self.header.len(),
+                b"stars".as_ptr(),
+                5,
+                0,
+                EPOCH,
+                2,
+                0x17,
+                0,
+            )
+        }
+    }
+
+    fn search(&mut self, message: &[u8]) -> u32 {
+        unsafe {
+            sys::catalogue_search(
+                self.header.as_ptr(),
+                self.header.len(),
+                self.stores.as_ptr(),
+                self.stores.len(),
+                self.refused.as_mut_ptr(),
+                self.refused.len(),
+                1,
+                message.as_ptr(),
+                message.len(),
+                self.out.as_mut_ptr(),
+                self.out.len(),
+                self.answer.as_mut_ptr(),
+                self.answer.len(),
+            )
+        }
+    }
+}
+
+type Arrival =
+    unsafe extern "C" fn(*mut u8, usize, *mut u8, usize, *const u8, usize, *mut u8, usize) -> u32;
+
+// ----- The Rust ---------------------------------------------------------------------------
+
+fn rust_map() -> ShardMap {
+    let mut map = front::map::Map::default();
+    for message in commands() {
+        let Message::Request(request) = message else {
+            unreachable!("commands are requests")
+        };
+        map.apply(&request);
+    }
+    map.machine.map().clone()
+}
+
+fn rust_node(id: u64, map: &ShardMap) -> Arc<Rust> {
+    let settings = Settings {
+        id,
+        incarnation: 1,
+        lease: LEASE,
+        ack_timeout: LEASE,
+        min_in_sync: 1,
+    };
+    let node = inside::make(&settings);
+    inside::show(&node, map.clone(), 2);
+    inside::grant(&node, 1, 0);
+    node
+}
+
+fn rust_write(node: &Arc<Rust>, write: &Write) {
+    inside::write(node, 1, write.clone()).expect("it is accepted");
+}
+
+fn rust_with_log(id: u64, entries: u64, map: &ShardMap) -> Arc<Rust> {
+    let node = rust_node(id, map);
+    for n in 1..=entries {
+        match id {
+            1 => rust_write(
+                &node,
+                &Write {
+                    shard: convert::key(&key()),
+                    epoch: Epoch(EPOCH),
+                    op: convert::op(&put(n)),
+                },
+            ),
+            _ => {
+                inside::replicate(&node, rust_replicate(n));
+            }
+        }
+    }
+    node
+}
+
+fn rust_replicate(offset: u64) -> Replicate {
+    Replicate {
+        shard: convert::key(&key()),
+        epoch: Epoch(EPOCH),
+        offset,
+        op: convert::op(&put(offset)),
+    }
+}
+
+fn replicate_of(offset: u64) -> Message {
+    Message::Replicate {
+        key: key(),
+        epoch: EPOCH,
+        offset,
+        op: put(offset),
+    }
+}
+
+// ----- The tables -------------------------------------------------------------------------
+
+fn writes(map: &ShardMap) {
+    measure::head("Write of a new vector of 32 components");
+    for n in LOGS {
+        let mut engine = Engine::with_log(1, n);
+        let message = wire::write(&write_of(n + 1));
+        let rust = rust_with_log(1, n, map);
+        let write = Write {
+            shard: convert::key(&key()),
+            epoch: Epoch(EPOCH),
+            op: convert::op(&put(n + 1)),
+        };
+        let row = measure::row(
+            &format!("{n} entries"),
+            1.0,
+            &mut || {
+                engine.put_back();
+                assert_eq!(engine.write(&message), 0);
+            },
+            &mut || rust_write(&rust, &write),
+        );
+        measure::print(&row);
+    }
+}
+
+fn replicates(map: &ShardMap) {
+    measure::head("Replicate of a new vector of 32 components");
+    for n in LOGS {
+        let mut engine = Engine::with_log(2, n);
+        let message = wire::write(&replicate_of(n + 1));
+        let rust = rust_with_log(2, n, map);
+        let mut next = rust_replicate(n);
+        let row = measure::row(
+            &format!("{n} entries"),
+            1.0,
+            &mut || {
+                engine.put_back();
+                assert_eq!(engine.replicate(&message), 0);
+            },
+            &mut || {
+                next.offset += 1;
+                inside::replicate(&rust, next.clone());
+            },
+        );
+        measure::print(&row);
+    }
+}
+
+fn copies(map: &ShardMap) {
+    measure::head("CopyShard of 256 new vectors of 32 components");
+    for n in LOGS {
+        let mut engine = Engine::with_log(2, n);
+        let entries: Vec<Entry> = (n + 1..=n + BATCH).map(entry).collect();
+        let message = wire::write(&Message::CopyShard {
+            key: key(),
+            epoch: EPOCH,
+            entries: entries.clone(),
+        });
+        let rust = rust_with_log(2, n, map);
+        let mut batch: Vec<LogEntry> = entries.iter().map(convert::entry).collect();
+        let row = measure::row(
+            &format!("{n} entries"),
+            1.0,
+            &mut || {
+                engine.put_back();
+                assert_eq!(engine.copy(&message), 0);
+            },
+            &mut || {
+                let entries = batch.clone();
+                inside::copy_shard(
+                    &rust,
+                    CopyShard {
+                        shard: convert::key(&key()),
+                        epoch: Epoch(EPOCH),
+                        entries,
+                    },
+                );
+                batch.iter_mut().for_each(|e| e.offset += BATCH);
+            },
+        );
+        measure::print(&row);
+    }
+}
+
+fn waits(map: &ShardMap) {
+    measure::head("wait for an entry that one peer lacks");
+    for n in [1, 1024] {
+        let mut engine = Engine::with_log(1, n);
+        let rust = rust_with_log(1, n, map);
+        let shard = convert::key(&key());
+        let row = measure::row(
+            &format!("{n} entries"),
+            1.0,
+            &mut || {
+                engine.put_back();
+                assert_eq!(engine.wait(n), 1);
+            },
+            &mut || {
+                let (done, _) = inside::wait(&rust, 1, &shard, EPOCH, n).expect("it is primary");
+                assert!(!done);
+            },
+        );
+        measure::print(&row);
+    }
+}
+
+fn steps(map: &ShardMap) {
+    measure::head(
+        "a worker's step: the request is written (the Rust's is encoded, and read again by the harness)",
+    );
+    for n in [0, 1, 256, 1024] {
+        let mut engine = Engine::with_log(1, n);
+        let rust = rust_with_log(1, n, map);
+        let shard = convert::key(&key());
+        let (align, sends) = (format!("align, {n} entries"), format!("send, {n} entries"));
+        let row = measure::row(
+            &align,
+            1.0,
+            &mut || assert_eq!(engine.step(), 2),
+            &mut || {
+                let _ =
+                    std::hint::black_box(inside::step(&rust, &shard, EPOCH, 2, Metric::Euclidean));
+            },
+        );
+        measure::print(&row);
+        assert_eq!(engine.acked(2, &Message::Adopted(0)), 0);
+        inside::record_ack(&rust, &shard, EPOCH, 2, 0, true);
+        let row = measure::row(
+            &sends,
+            1.0,
+            &mut || {
+                engine.step();
+            },
+            &mut || {
+                let _ =
+                    std::hint::black_box(inside::step(&rust, &shard, EPOCH, 2, Metric::Euclidean));
+            },
+        );
+        measure::print(&row);
+    }
+}
+
+fn shows(map: &ShardMap) {
+    measure::head("the same map shown again");
+    for n in [0, 1024] {
+        let mut engine = Engine::with_log(1, n);
+        let rust = rust_with_log(1, n, map);
+        let row = measure::row(
+            &format!("{n} entries"),
+            1.0,
+            &mut || {
+                engine.put_back();
+                assert_eq!(engine.show(), 0);
+            },
+            &mut || {
+                inside::show(&rust, map.clone(), 2);
+            },
+        );
+        measure::print(&row);
+    }
+}
+
+fn searches(map: &ShardMap) {
+    measure::head("Search over the images, 32 components, 1,024 entries");
+    let mut engine = Engine::with_log(1, 1024);
+    let rust = rust_with_log(1, 1024, map);
+    let vector: Vec<f32> = (0..LENGTH).map(|i| 500.0 + i as f32).collect();
+    for k in [10, 100, 1024] {
+        let bits = vector.iter().map(|x| x.to_bits()).collect();
+        let message = wire::write(&Message::Search {
+            key: key(),
+            epoch: EPOCH,
+            k,
+            vector: bits,
+        });
+        let query = SearchQuery {
+            shard: convert::key(&key()),
+            epoch: Epoch(EPOCH),
+            vector: vector.clone(),
+            k,
+        };
+        let row = measure::row(
+            &format!("k = {k}"),
+            1.0,
+            &mut || assert_eq!(engine.search(&message), 0),
+            &mut || {
+                std::hint::black_box(inside::search(&rust, 1, &query));
+            },
+        );
+        measure::print(&row);
+    }
+}
+
+/// The same epoch table again: nothing is cut.
+fn new_epochs(map: &ShardMap) {
+    measure::head("NewEpoch that cuts nothing");
+    for n in LOGS {
+        let mut engine = Engine::with_log(2, n);
+        let epochs = vec![(EPOCH, n)];
+        let message = wire::write(&Message::NewEpoch {
+            key: key(),
+            epoch: EPOCH + 1,
+            end_offset: n,
+            epochs,
+            metric: 0,
+        });
+        let rust = rust_with_log(2, n, map);
+        let announced = NewEpoch {
+            shard: convert::key(&key()),
+            epoch: Epoch(EPOCH + 1),
+            end_offset: n,
+            epochs: vec![(Epoch(EPOCH), n)],
+            metric: Metric::Euclidean,
+        };
+        let row = measure::row(
+            &format!("{n} entries"),
+            1.0,
+            &mut || {
+                engine.put_back();
+                assert_eq!(engine.arrive(sys::catalogue_new_epoch, &message), 0);
+            },
+            &mut || {
+                std::hint::black_box(inside::new_epoch(&rust, announced.clone()));
+            },
+        );
+        measure::print(&row);
+    }
+}
+
+fn headers(map: &ShardMap) {
+    measure::head(
+        "calls on a header alone (the Rust's grant is a heartbeat that the harness drives)",
+    );
+    let mut engine = Engine::with_log(1, 64);
+    let rust = rust_with_log(1, 64, map);
+    let shard = convert::key(&key());
+    let row = measure::row(
+        "grant",
+        1.0,
+        &mut || {
+            assert_eq!(
+                unsafe {
+                    sys::catalogue_grant(
+                        engine.header.as_mut_ptr(),
+                        engine.header.len(),
+                        1,
+                        0,
+                        LEASE,
+                    )
+                },
+                0
+            )
+        },
+        &mut || inside::grant(&rust, 1, 0),
+    );
+    measure::print(&row);
+    assert_eq!(engine.acked(2, &Message::Adopted(0)), 0);
+    inside::record_ack(&rust, &shard, EPOCH, 2, 0, true);
+    engine.before = engine.header.clone();
+    let row = measure::row(
+        "ack of one entry",
+        1.0,
+        &mut || {
+            engine.put_back();
+            assert_eq!(engine.acked(3, &Message::Stored(1)), 0);
+        },
+        &mut || {
+            std::hint::black_box(inside::record_ack(&rust, &shard, EPOCH, 2, 1, false));
+        },
+    );
+    measure::print(&row);
+    let time = measure::alone(1.0, &mut || {
+        engine.put_back();
+        assert_eq!(engine.outcome(), 0);
+    });
+    println!("| outcome of a proposal | {time:.0} | | | |");
+}
+
+/// A Write under another epoch is refused with 18 as soon as the lent state is tested: images read, nothing written.
+fn tests() {
+    println!("\nreading the images and their test alone (a Write refused with 18), ns\n");
+    for n in LOGS {
+        let mut engine = Engine::with_log(1, n);
+        let message = wire::write(&Message::Write {
+            key: key(),
+            epoch: EPOCH + 1,
+            op: put(n + 1),
+        });
+        let time = measure::alone(1.0, &mut || assert_eq!(engine.write(&message), 18));
+        println!("- {n} entries: {time:.0}");
+    }
+}
+
+pub fn node() {
+    let map = rust_map();
+    writes(&map);
+    replicates(&map);
+    copies(&map);
+    new_epochs(&map);
+    searches(&map);
+    waits(&map);
+    steps(&map);
+    shows(&map);
+    headers(&map);
+    tests();
+}

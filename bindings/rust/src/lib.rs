@@ -1,0 +1,19 @@
+//! Safe Rust over the catalogue engine's C entry points (include/catalogue.h). The engine keeps no state: [`Map`] and
+//! [`Node`] own the byte images and lend them to each call, so that the borrow checker sees to what a host owes: buffers
+//! that are valid and do not overlap, and one call at a time on one image. A call needs up to 2 MiB of stack.
+
+mod answer;
+mod map;
+mod node;
+pub mod sys;
+
+pub use answer::{
+    Form, Key, Metric, Neighbor, Outcome, Proposal, Refusal, Sent, Step, Waited, Worker,
+};
+pub use map::{MAP, Map};
+pub use node::{HEADER, Node, STORES};
+
+/// The number that bytes begin with, u64.
+fn number(bytes: &[u8]) -> u64 {
+    u64::from_le_bytes(bytes[..8].try_into().expect("eight bytes"))
+}

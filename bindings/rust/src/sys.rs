@@ -1,0 +1,166 @@
+//! The entry points as include/catalogue.h declares them. Every slice is a pointer and a length.
+
+unsafe extern "C" {
+    pub fn catalogue_empty_map(map: *mut u8, map_len: usize) -> u32;
+    pub fn catalogue_fresh_node(
+        header: *mut u8,
+        header_len: usize,
+        id: u64,
+        incarnation: u64,
+    ) -> u32;
+    pub fn catalogue_apply(
+        map: *mut u8,
+        map_len: usize,
+        request: *const u8,
+        request_len: usize,
+    ) -> u32;
+    pub fn catalogue_place(
+        map: *const u8,
+        map_len: usize,
+        shards: u32,
+        replication: u32,
+        lists: *mut u8,
+        lists_len: usize,
+    ) -> u32;
+    pub fn catalogue_replacement(
+        map: *const u8,
+        map_len: usize,
+        name: *const u8,
+        name_len: usize,
+        shard: u32,
+        answer: *mut u8,
+        answer_len: usize,
+    ) -> u32;
+    pub fn catalogue_show_map(
+        header: *mut u8,
+        header_len: usize,
+        map: *const u8,
+        map_len: usize,
+        fresh: u64,
+        starts: *mut u8,
+        starts_len: usize,
+        answer: *mut u8,
+        answer_len: usize,
+    ) -> u32;
+    pub fn catalogue_grant(
+        header: *mut u8,
+        header_len: usize,
+        incarnation: u64,
+        sent: u64,
+        lease: u64,
+    ) -> u32;
+    pub fn catalogue_write(
+        header: *mut u8,
+        header_len: usize,
+        stores: *mut u8,
+        stores_len: usize,
+        refused: *mut u8,
+        refused_len: usize,
+        now: u64,
+        least_in_sync: u64,
+        message: *const u8,
+        message_len: usize,
+        answer: *mut u8,
+        answer_len: usize,
+    ) -> u32;
+    pub fn catalogue_search(
+        header: *const u8,
+        header_len: usize,
+        stores: *const u8,
+        stores_len: usize,
+        refused: *mut u8,
+        refused_len: usize,
+        now: u64,
+        message: *const u8,
+        message_len: usize,
+        hits: *mut u8,
+        hits_len: usize,
+        answer: *mut u8,
+        answer_len: usize,
+    ) -> u32;
+    pub fn catalogue_wait(
+        header: *mut u8,
+        header_len: usize,
+        name: *const u8,
+        name_len: usize,
+        shard: u32,
+        epoch: u64,
+        offset: u64,
+        now: u64,
+        ack_timeout: u64,
+        peers: *mut u8,
+        peers_len: usize,
+        answer: *mut u8,
+        answer_len: usize,
+    ) -> u32;
+    pub fn catalogue_replicate(
+        header: *mut u8,
+        header_len: usize,
+        stores: *mut u8,
+        stores_len: usize,
+        message: *const u8,
+        message_len: usize,
+        reply: *mut u8,
+        reply_len: usize,
+    ) -> u32;
+    pub fn catalogue_new_epoch(
+        header: *mut u8,
+        header_len: usize,
+        stores: *mut u8,
+        stores_len: usize,
+        message: *const u8,
+        message_len: usize,
+        reply: *mut u8,
+        reply_len: usize,
+    ) -> u32;
+    pub fn catalogue_copy(
+        header: *mut u8,
+        header_len: usize,
+        stores: *mut u8,
+        stores_len: usize,
+        message: *const u8,
+        message_len: usize,
+        reply: *mut u8,
+        reply_len: usize,
+    ) -> u32;
+    pub fn catalogue_step(
+        header: *const u8,
+        header_len: usize,
+        stores: *const u8,
+        stores_len: usize,
+        name: *const u8,
+        name_len: usize,
+        shard: u32,
+        epoch: u64,
+        peer: u64,
+        metric: u8,
+        form: u8,
+        request: *mut u8,
+        request_len: usize,
+        answer: *mut u8,
+        answer_len: usize,
+    ) -> u32;
+    pub fn catalogue_ack(
+        header: *mut u8,
+        header_len: usize,
+        name: *const u8,
+        name_len: usize,
+        shard: u32,
+        epoch: u64,
+        peer: u64,
+        step: u8,
+        reply: *const u8,
+        reply_len: usize,
+    ) -> u32;
+    pub fn catalogue_outcome(
+        header: *mut u8,
+        header_len: usize,
+        name: *const u8,
+        name_len: usize,
+        shard: u32,
+        epoch: u64,
+        peer: u64,
+        command: u8,
+        applied: u8,
+    ) -> u32;
+}

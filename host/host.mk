@@ -1,0 +1,24 @@
+# Hosts of the engine's C entry points. These targets need the Rattle toolchain and a C compiler (CC); `bindings` needs
+# cargo too. `make conformance` and `make differential` find replay where this puts it.
+HOST_BUILD := target/host
+HOST_LIBRARY := target/staticlib/libhost.a
+HOST_CFLAGS := -std=c11 -Wall -Wextra -O2 -Iinclude
+
+.PHONY: host-library replay dome fuzz bindings
+
+host-library: ## the engine as a static library (target/staticlib/libhost.a)
+	@mkdir -p $(HOST_BUILD)
+	@rt staticlib host >$(HOST_BUILD)/host.log 2>&1 || { cat $(HOST_BUILD)/host.log >&2; exit 1; }
+
+replay: host-library ## calls in, answers out, by a host in C (target/host/replay)
+	@$(CC) $(HOST_CFLAGS) host/*.c $(HOST_LIBRARY) -o $(HOST_BUILD)/replay
+
+dome: host-library
+	@$(CC) $(HOST_CFLAGS) examples/dome.c $(HOST_LIBRARY) -o $(HOST_BUILD)/dome
+
+fuzz: host-library ## every entry point on CALLS random and mutated buffers of every length, with guarded pages
+	@$(CC) $(HOST_CFLAGS) -g host/fuzz/*.c $(HOST_LIBRARY) -o $(HOST_BUILD)/fuzz
+	@$(HOST_BUILD)/fuzz $(CALLS) $(SEED)
+
+bindings: host-library ## the Rust wrapper over the entry points, and its test
+	@cd bindings/rust && CATALOGUE_LIBRARY=$(CURDIR)/target/staticlib CARGO_TARGET_DIR=$(CURDIR)/target/bindings cargo test --offline --quiet
