@@ -3,6 +3,7 @@
 HOST_BUILD := target/host
 HOST_LIBRARY := target/staticlib/libhost.a
 HOST_CFLAGS := -std=c11 -Wall -Wextra -O2 -Iinclude
+CALLS ?= 1000000
 
 .PHONY: host-library replay dome fuzz bindings
 
