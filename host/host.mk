@@ -18,7 +18,7 @@ dome: host-library
 	@$(CC) $(HOST_CFLAGS) examples/dome.c $(HOST_LIBRARY) -o $(HOST_BUILD)/dome
 
 fuzz: host-library ## every entry point on CALLS random and mutated buffers of every length, with guarded pages
-	@$(CC) $(HOST_CFLAGS) -g host/fuzz/*.c $(HOST_LIBRARY) -o $(HOST_BUILD)/fuzz
+	@$(CC) $(HOST_CFLAGS) -g -pthread host/fuzz/*.c $(HOST_LIBRARY) -o $(HOST_BUILD)/fuzz
 	@$(HOST_BUILD)/fuzz $(CALLS) $(SEED)
 
 bindings: host-library ## the Rust wrapper over the entry points, and its test

@@ -14,6 +14,7 @@
 #include "catalogue_messages.h"
 
 #include <inttypes.h>
+#include <pthread.h>
 #include <setjmp.h>
 #include <signal.h>
 #include <stdbool.h>
@@ -699,6 +700,8 @@ static const struct entry entries[] = {
 
 /* ---- one trial */
 
+static uint64_t calls = 1000000; /* of each entry point */
+
 static struct buffer *const buffers[] = {&map, &header, &message, &reply, &answer, &refused, &wide, &name};
 enum { BUFFERS = sizeof buffers / sizeof buffers[0] };
 
@@ -762,7 +765,7 @@ static bool try_once(const struct entry *e)
     return !was_refused;
 }
 
-static void try_entry(const struct entry *e, uint64_t calls)
+static void try_entry(const struct entry *e)
 {
     uint64_t done = 0;
     for (uint64_t i = 0; i < calls; i++) {
@@ -778,9 +781,42 @@ static void try_entry(const struct entry *e, uint64_t calls)
         fail(e->name, "was never refused, or always", done);
 }
 
+/* ---- all calls, on a stack of their own that is painted first: how deep the paint is gone tells what they used */
+
+enum { STACK = 8 << 20, PAINT = 0xA5 };
+
+static void *try_all(void *unused)
+{
+    (void)unused;
+    for (size_t i = 0; i < sizeof entries / sizeof entries[0]; i++)
+        try_entry(&entries[i]);
+    return NULL;
+}
+
+static void try_on_a_stack(void)
+{
+    uint8_t *stack = reserve(STACK);
+    pthread_attr_t where;
+    pthread_t thread;
+    if (mprotect(stack, STACK, PROT_READ | PROT_WRITE) != 0)
+        fail("mprotect", "no memory", STACK);
+    memset(stack, PAINT, STACK);
+    pthread_attr_init(&where);
+    if (pthread_attr_setstack(&where, stack, STACK) != 0 || pthread_create(&thread, &where, try_all, NULL) != 0)
+        fail("pthread_create", "no thread", STACK);
+    pthread_join(thread, NULL);
+    size_t left = 0;
+    while (left < STACK && stack[left] == PAINT)
+        left++;
+    printf("the calls used %zu bytes of stack at most\n", STACK - left);
+    if (STACK - left > CATALOGUE_STACK)
+        fail("CATALOGUE_STACK", "is less than the calls used", STACK - left);
+}
+
 int main(int argc, char **argv)
 {
-    uint64_t calls = argc > 1 ? strtoull(argv[1], NULL, 10) : 1000000;
+    if (argc > 1)
+        calls = strtoull(argv[1], NULL, 10);
     state = argc > 2 ? strtoull(argv[2], NULL, 10) : 1;
     make_stores();
     catch_faults();
@@ -793,8 +829,7 @@ int main(int argc, char **argv)
     refused = make_buffer(16);
     wide = make_buffer(CATALOGUE_REQUEST);
     name = make_buffer(64);
-    for (size_t i = 0; i < sizeof entries / sizeof entries[0]; i++)
-        try_entry(&entries[i], calls);
+    try_on_a_stack();
     puts("no fault, no call without an end, and no refused call changed a byte");
     return EXIT_SUCCESS;
 }
