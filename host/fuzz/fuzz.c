@@ -25,6 +25,9 @@
 
 enum { PAGE = 4096, SECONDS_A_CALL = 20, ENTRIES = 40, MUTATIONS = 4 };
 
+/* The dome has two shards, and a NewEpoch may begin a third. */
+enum { SLOTS_USED = 3 };
+
 _Noreturn static void fail(const char *call, const char *what, uint64_t number)
 {
     fprintf(stderr, "fuzz: %s: %s (%" PRIu64 ")\n", call, what, number);
@@ -131,10 +134,11 @@ static void fill(struct buffer *b, const uint8_t *bytes, size_t length, bool mut
     if (mutate && one_in(3))
         kept = below(length + 1);
     set_length(b, mutate && one_in(8) ? kept + below(4) : kept);
-    if (length < kept)
-        kept = length;
-    for (size_t i = 0; i < b->length; i++)
-        b->at[i] = i < kept ? bytes[i] : (uint8_t)random_u64();
+    if (b->length < kept)
+        kept = b->length;
+    memcpy(b->at, bytes, kept);
+    for (size_t i = kept; i < b->length; i++)
+        b->at[i] = (uint8_t)random_u64();
     for (size_t n = mutate ? below(MUTATIONS) : 0; n > 0 && b->length > 0; n--)
         b->at[below(b->length)] = (uint8_t)random_u64();
 }
@@ -284,7 +288,7 @@ static bool stores_changed; /* since they were last the dome's */
 static void renew_stores(void)
 {
     if (stores_changed)
-        memcpy(stores.writable, stores.saved, CATALOGUE_STORES);
+        memcpy(stores.writable, stores.saved, SLOTS_USED * CATALOGUE_STORE);
     stores_changed = false;
 }
 

@@ -1,6 +1,6 @@
 //! Safe Rust over the catalogue engine's C entry points (include/catalogue.h). The engine keeps no state: [`Map`] and
 //! [`Node`] own the byte images and lend them to each call, so that the borrow checker sees to what a host owes: buffers
-//! that are valid and do not overlap, and one call at a time on one image. A call needs up to 2 MiB of stack.
+//! that are valid and do not overlap, and one call at a time on one image. A call needs up to 512 KiB of stack.
 
 mod answer;
 mod map;

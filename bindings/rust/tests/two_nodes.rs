@@ -162,9 +162,10 @@ fn what_is_refused_counts_and_changes_nothing() {
         (first.header(), first.stores()),
         (&before.0[..], &before.1[..])
     );
+    // A backup that no primary has aligned yet is at epoch 0.
     assert_eq!(
         second.search(10, &search(1, 1, &[1.0]), 1),
-        Err(Refusal::NotPrimary(1))
+        Err(Refusal::NotPrimary(0))
     );
 }
 
