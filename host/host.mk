@@ -4,6 +4,7 @@ HOST_BUILD := target/host
 HOST_LIBRARY := target/staticlib/libhost.a
 HOST_CFLAGS := -std=c11 -Wall -Wextra -O2 -Iinclude
 CALLS ?= 1000000
+FUZZ_FLAGS ?= -O1 -g -pthread -fsanitize=address,undefined -fno-sanitize-recover=undefined
 
 .PHONY: host-library replay dome fuzz bindings
 
@@ -17,9 +18,9 @@ replay: host-library ## calls in, answers out, by a host in C (target/host/repla
 dome: host-library
 	@$(CC) $(HOST_CFLAGS) examples/dome.c $(HOST_LIBRARY) -o $(HOST_BUILD)/dome
 
-fuzz: host-library ## every entry point on CALLS random and mutated buffers of every length, with guarded pages
-	@$(CC) $(HOST_CFLAGS) -g -pthread host/fuzz/*.c $(HOST_LIBRARY) -o $(HOST_BUILD)/fuzz
-	@$(HOST_BUILD)/fuzz $(CALLS) $(SEED)
+fuzz: host-library ## every entry point on CALLS random and mutated buffers of every length, in a sanitizer build
+	@$(CC) $(HOST_CFLAGS) $(FUZZ_FLAGS) host/fuzz/*.c $(HOST_LIBRARY) -o $(HOST_BUILD)/fuzz
+	@ASAN_OPTIONS=handle_segv=0:detect_leaks=0 $(HOST_BUILD)/fuzz $(CALLS) $(SEED)
 
 bindings: host-library ## the Rust wrapper over the entry points, and its test
 	@cd bindings/rust && CATALOGUE_LIBRARY=$(CURDIR)/target/staticlib CARGO_TARGET_DIR=$(CURDIR)/target/bindings cargo test --offline --quiet
