@@ -1,10 +1,12 @@
-# The engine beside the unchanged Rust: one program links both and times them in turns on the same input. From the
-# repository's root: make bench [PARTS="search apply"]. It needs cargo and the published files (make oracle); no part of the gate.
+# The engine beside its peers: the layout beside plain C, then all calls beside the unchanged Rust, which one program links
+# and times in turns on the same input. From the repository's root: make bench [PARTS="layout search append adopt apply map
+# node"]. It needs cargo and the published files (make oracle); no part of the gate.
 BENCH_RUST := target/bench/rust
 BENCH_LIBS := benchshard benchmap host
 
 .PHONY: bench
-bench: oracle-ready ## the engine and the unchanged Rust on the same input, as ratios from one run
+bench: oracle-ready ## the engine beside plain C and the unchanged Rust on the same input, as ratios from one run
+	@case " $(PARTS) " in "  " | *" layout "*) $(MAKE) --no-print-directory -f bench/layout/bench.mk bench-layout;; esac
 	@mkdir -p $(BENCH_RUST)
 	@for lib in $(BENCH_LIBS); do rt staticlib $$lib >$(BENCH_RUST).log 2>&1 || { cat $(BENCH_RUST).log; exit 1; }; done
 	@touch bench/rust/src/main.rs # cargo does not see that a library changed
