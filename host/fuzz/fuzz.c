@@ -146,8 +146,10 @@ static void fill(struct buffer *b, const uint8_t *bytes, size_t length, bool mut
 static void fill_random(struct buffer *b, size_t length)
 {
     set_length(b, length);
-    for (size_t i = 0; i < b->length; i++)
-        b->at[i] = (uint8_t)random_u64();
+    for (size_t i = 0; i < b->length; i += 8) {
+        uint64_t bytes = random_u64();
+        memcpy(b->at + i, &bytes, b->length - i < 8 ? b->length - i : 8);
+    }
 }
 
 /* An output: room enough, just enough, too little or none. */
