@@ -112,6 +112,11 @@ static void set_length(struct buffer *b, size_t length)
     b->at = b->end - b->length;
 }
 
+static void empty(struct buffer *b)
+{
+    set_length(b, 0);
+}
+
 static void remember(struct buffer *b)
 {
     memcpy(b->before, b->at, b->length);
@@ -308,12 +313,16 @@ static void damage_stores(void)
 }
 
 /* Node 1 three times in four, else node 2, which has the header alone and so often a store that is not its own. */
-static void renew_images(void)
+static void renew_node(void)
 {
     renew_stores();
     damage_stores();
-    fill(&map, good_map, sizeof good_map, one_in(4));
     fill(&header, good_header[one_in(4)], CATALOGUE_HEADER, one_in(4));
+}
+
+static void renew_map(void)
+{
+    fill(&map, good_map, sizeof good_map, one_in(4));
 }
 
 /* ---- messages: well formed ones of the dome, then mutated */
@@ -680,28 +689,29 @@ static uint32_t call_outcome(uint8_t *base)
 
 struct entry {
     const char *name;
+    enum { OF_MAP = 1, OF_NODE = 2, OF_BOTH = 3 } whose; /* which images it gets */
     void (*operands)(void);
     uint32_t (*call)(uint8_t *stores);
     uint32_t most_done; /* the largest answer that is no refusal */
 };
 
 static const struct entry entries[] = {
-    {"catalogue_empty_map", for_empty_map, call_empty_map, 0},
-    {"catalogue_fresh_node", for_fresh_node, call_fresh_node, 0},
-    {"catalogue_apply", any_request, call_apply, 16},
-    {"catalogue_place", for_place, call_place, 1},
-    {"catalogue_replacement", for_key, call_replacement, 1},
-    {"catalogue_show_map", for_show_map, call_show_map, 0},
-    {"catalogue_grant", some_numbers, call_grant, 0},
-    {"catalogue_write", for_write, call_write, 0},
-    {"catalogue_search", for_search, call_search, 0},
-    {"catalogue_wait", for_key, call_wait, 1},
-    {"catalogue_replicate", for_replicate, call_replicate, 0},
-    {"catalogue_new_epoch", for_new_epoch, call_new_epoch, 0},
-    {"catalogue_copy", for_copy, call_copy, 0},
-    {"catalogue_step", for_step, call_step, CATALOGUE_STEP_COPY},
-    {"catalogue_ack", for_ack, call_ack, 1},
-    {"catalogue_outcome", for_outcome, call_outcome, 0},
+    {"catalogue_empty_map", OF_MAP, for_empty_map, call_empty_map, 0},
+    {"catalogue_fresh_node", OF_NODE, for_fresh_node, call_fresh_node, 0},
+    {"catalogue_apply", OF_MAP, any_request, call_apply, 16},
+    {"catalogue_place", OF_MAP, for_place, call_place, 1},
+    {"catalogue_replacement", OF_MAP, for_key, call_replacement, 1},
+    {"catalogue_show_map", OF_BOTH, for_show_map, call_show_map, 0},
+    {"catalogue_grant", OF_NODE, some_numbers, call_grant, 0},
+    {"catalogue_write", OF_NODE, for_write, call_write, 0},
+    {"catalogue_search", OF_NODE, for_search, call_search, 0},
+    {"catalogue_wait", OF_NODE, for_key, call_wait, 1},
+    {"catalogue_replicate", OF_NODE, for_replicate, call_replicate, 0},
+    {"catalogue_new_epoch", OF_NODE, for_new_epoch, call_new_epoch, 0},
+    {"catalogue_copy", OF_NODE, for_copy, call_copy, 0},
+    {"catalogue_step", OF_NODE, for_step, call_step, CATALOGUE_STEP_COPY},
+    {"catalogue_ack", OF_NODE, for_ack, call_ack, 1},
+    {"catalogue_outcome", OF_NODE, for_outcome, call_outcome, 0},
 };
 
 /* ---- one trial */
@@ -758,9 +768,11 @@ static uint32_t make_call(const struct entry *e)
 
 static bool try_once(const struct entry *e)
 {
-    renew_images();
-    set_length(&message, 0);
-    set_length(&reply, 0);
+    for_all(empty);
+    if (e->whose & OF_MAP)
+        renew_map();
+    if (e->whose & OF_NODE)
+        renew_node();
     e->operands();
     for_all(remember);
     uint32_t said = make_call(e);
