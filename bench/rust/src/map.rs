@@ -209,7 +209,10 @@ fn filled(f: &Filling) -> (Vec<u8>, StateMachine, Requests) {
         let Some(Message::Request(r)) = wire::read(bytes) else {
             unreachable!("a request")
         };
-        machine.apply(r.index, &rpc_request(&r));
+        assert_eq!(
+            machine.apply(r.index, &rpc_request(&r)),
+            rpc::Outcome::Applied
+        );
     }
     (image, machine, requests)
 }
@@ -235,7 +238,7 @@ fn images_apply() {
             _ => unreachable!("a request"),
         };
         let mut turns = [read(&last[0]), read(&last[1])];
-        let mut n = requests.all.len() as u64;
+        let (mut n, mut turn) = (requests.all.len() as u64, 0);
         let row = measure::row(
             name,
             1.0,
@@ -244,10 +247,10 @@ fn images_apply() {
                 assert_eq!(image_apply(&mut image, &last[0]), 0);
             },
             &mut || {
-                n += 1;
-                let request = &mut turns[(n % 2) as usize];
+                let request = &mut turns[turn];
+                (n, turn) = (n + 1, 1 - turn);
                 request.seq = n;
-                std::hint::black_box(machine.apply(n, request));
+                assert_eq!(machine.apply(n, request), rpc::Outcome::Applied);
             },
         );
         measure::print(&row);

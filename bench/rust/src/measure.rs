@@ -95,10 +95,16 @@ pub fn head(what: &str) {
     println!("| | engine ns | Rust ns | ratio | 5% to 95% |\n|---|---|---|---|---|");
 }
 
+/// Two decimals, or three where a ratio is small.
+fn short(ratio: f64) -> String {
+    let decimals = if ratio < 0.1 { 3 } else { 2 };
+    format!("{ratio:.decimals$}")
+}
+
 pub fn print(row: &Row) {
-    let [low, middle, high] = row.ratio;
+    let [low, middle, high] = row.ratio.map(short);
     println!(
-        "| {} | {:.0} | {:.0} | {middle:.2} | {low:.2} to {high:.2} |",
+        "| {} | {:.0} | {:.0} | {middle} | {low} to {high} |",
         row.name, row.engine, row.peer
     );
 }

@@ -7,9 +7,12 @@ use std::sync::Arc;
 
 use catalogue::sys;
 use datanode::node::Node as Rust;
-use datanode::node::inside::{self, Settings};
+use datanode::node::inside::{self, Asked, Settings};
 use front::convert;
-use rpc::{CopyShard, Epoch, LogEntry, Metric, NewEpoch, Replicate, SearchQuery, ShardMap, Write};
+use rpc::{
+    CopyShard, CopyShardAck, Epoch, LogEntry, Metric, NewEpoch, NewEpochAck, Replicate,
+    ReplicateAck, SearchQuery, SearchResult, ShardMap, Write,
+};
 use wire::{Command, Entry, Key, Message, Op, Request, Spec};
 
 use crate::measure;
@@ -18,6 +21,10 @@ const LEASE: u64 = 1 << 40;
 const LENGTH: usize = 32;
 const EPOCH: u64 = 1;
 const BATCH: u64 = 256;
+
+/// Codes of replies.
+const STORED: u8 = 0x30;
+const ADOPTED: u8 = 0x33;
 
 /// How many entries the log has, in each table.
 const LOGS: [u64; 4] = [0, 64, 512, 767];
@@ -143,18 +150,36 @@ impl Engine {
         engine
     }
 
-    /// A node whose log has so many entries.
+    /// A node whose log has so many entries: the primary by writes, a backup, once aligned, by Replicate.
     fn with_log(id: u64, entries: u64) -> Engine {
         let mut engine = Engine::new(id);
+        if id == 2 {
+            assert_eq!(
+                engine.arrive(sys::catalogue_new_epoch, &wire::write(&aligning())),
+                0
+            );
+            engine.replied(ADOPTED, 0);
+        }
         for n in 1..=entries {
             let said = match id {
                 1 => engine.write(&wire::write(&write_of(n))),
                 _ => engine.replicate(&wire::write(&replicate_of(n))),
             };
             assert_eq!(said, 0);
+            if id == 2 {
+                engine.replied(STORED, n);
+            }
         }
         engine.before = engine.header.clone();
         engine
+    }
+
+    /// The reply that the last call left: what it is, and its number.
+    fn replied(&self, code: u8, number: u64) {
+        assert_eq!(
+            (self.out[0], &self.out[1..9]),
+            (code, &number.to_le_bytes()[..])
+        );
     }
 
     fn put_back(&mut self) {
@@ -354,6 +379,9 @@ fn rust_write(node: &Arc<Rust>, write: &Write) {
 
 fn rust_with_log(id: u64, entries: u64, map: &ShardMap) -> Arc<Rust> {
     let node = rust_node(id, map);
+    if id == 2 {
+        rust_align(&node);
+    }
     for n in 1..=entries {
         match id {
             1 => rust_write(
@@ -364,9 +392,7 @@ fn rust_with_log(id: u64, entries: u64, map: &ShardMap) -> Arc<Rust> {
                     op: convert::op(&put(n)),
                 },
             ),
-            _ => {
-                inside::replicate(&node, rust_replicate(n));
-            }
+            _ => rust_stored(&node, rust_replicate(n)),
         }
     }
     node
@@ -379,6 +405,39 @@ fn rust_replicate(offset: u64) -> Replicate {
         offset,
         op: convert::op(&put(offset)),
     }
+}
+
+/// What a primary sends first: an empty log, at its epoch.
+fn aligning() -> Message {
+    Message::NewEpoch {
+        key: key(),
+        epoch: EPOCH,
+        end_offset: 0,
+        epochs: vec![],
+        metric: 0,
+    }
+}
+
+fn rust_align(node: &Arc<Rust>) {
+    let announced = NewEpoch {
+        shard: convert::key(&key()),
+        epoch: Epoch(EPOCH),
+        end_offset: 0,
+        epochs: vec![],
+        metric: Metric::Euclidean,
+    };
+    assert_eq!(
+        inside::new_epoch(node, announced),
+        NewEpochAck::Adopted { through: 0 }
+    );
+}
+
+fn rust_stored(node: &Arc<Rust>, message: Replicate) {
+    let through = message.offset;
+    assert_eq!(
+        inside::replicate(node, message),
+        ReplicateAck::Stored { through }
+    );
 }
 
 fn replicate_of(offset: u64) -> Message {
@@ -432,9 +491,10 @@ fn replicates(map: &ShardMap) {
             },
             &mut || {
                 next.offset += 1;
-                inside::replicate(&rust, next.clone());
+                rust_stored(&rust, next.clone());
             },
         );
+        engine.replied(STORED, n + 1);
         measure::print(&row);
     }
 }
@@ -460,17 +520,20 @@ fn copies(map: &ShardMap) {
             },
             &mut || {
                 let entries = batch.clone();
-                inside::copy_shard(
-                    &rust,
-                    CopyShard {
-                        shard: convert::key(&key()),
-                        epoch: Epoch(EPOCH),
-                        entries,
-                    },
+                let message = CopyShard {
+                    shard: convert::key(&key()),
+                    epoch: Epoch(EPOCH),
+                    entries,
+                };
+                let through = batch[batch.len() - 1].offset;
+                assert_eq!(
+                    inside::copy_shard(&rust, message),
+                    CopyShardAck::Stored { through }
                 );
                 batch.iter_mut().for_each(|e| e.offset += BATCH);
             },
         );
+        engine.replied(STORED, n + BATCH);
         measure::print(&row);
     }
 }
@@ -497,6 +560,17 @@ fn waits(map: &ShardMap) {
     }
 }
 
+/// The engine's number for what the Rust's worker asks.
+fn code_of(asked: &Asked) -> u32 {
+    match asked {
+        Asked::Wait => 0,
+        Asked::Stop => 1,
+        Asked::Align(_) => 2,
+        Asked::Replicate(_) => 3,
+        Asked::Copy(_) => 4,
+    }
+}
+
 fn steps(map: &ShardMap) {
     measure::head(
         "a worker's step: the request is written (the Rust's is encoded, and read again by the harness)",
@@ -518,6 +592,8 @@ fn steps(map: &ShardMap) {
         measure::print(&row);
         assert_eq!(engine.acked(2, &Message::Adopted(0)), 0);
         inside::record_ack(&rust, &shard, EPOCH, 2, 0, true);
+        let (step, _) = inside::step(&rust, &shard, EPOCH, 2, Metric::Euclidean);
+        assert_eq!(engine.step(), code_of(&step));
         let row = measure::row(
             &sends,
             1.0,
@@ -577,9 +653,13 @@ fn searches(map: &ShardMap) {
             1.0,
             &mut || assert_eq!(engine.search(&message), 0),
             &mut || {
-                std::hint::black_box(inside::search(&rust, 1, &query));
+                let SearchResult::Found(found) = inside::search(&rust, 1, &query) else {
+                    panic!("it is primary")
+                };
+                assert_eq!(std::hint::black_box(found).len(), k as usize);
             },
         );
+        assert_eq!(engine.answer, u64::from(k).to_le_bytes());
         measure::print(&row);
     }
 }
@@ -613,9 +693,13 @@ fn new_epochs(map: &ShardMap) {
                 assert_eq!(engine.arrive(sys::catalogue_new_epoch, &message), 0);
             },
             &mut || {
-                std::hint::black_box(inside::new_epoch(&rust, announced.clone()));
+                assert_eq!(
+                    inside::new_epoch(&rust, announced.clone()),
+                    NewEpochAck::Adopted { through: n }
+                );
             },
         );
+        engine.replied(ADOPTED, n);
         measure::print(&row);
     }
 }
@@ -651,7 +735,7 @@ fn headers(map: &ShardMap) {
     inside::record_ack(&rust, &shard, EPOCH, 2, 0, true);
     engine.before = engine.header.clone();
     let row = measure::row(
-        "ack of one entry",
+        "ack of one entry (the Rust's is the same one again)",
         1.0,
         &mut || {
             engine.put_back();
