@@ -22,6 +22,7 @@
 #include "catalogue.h"
 #include "catalogue_images.h"
 #include "catalogue_messages.h"
+#include "catalogue_words.h"
 
 /* ---- settings. Times are in microseconds; the engine takes any unit */
 
@@ -118,37 +119,10 @@ static void give_up(const char *sentence)
 /* What a number means. Refusals mean the same in every call, rejections are the map's, other answers a call's own. */
 static const char *meaning(const char *call, uint32_t number)
 {
-    static const char *const rejections[] = {"applied",
-                                             "an older command of this client",
-                                             "the collection exists",
-                                             "a zero in the collection's numbers",
-                                             "the placement does not match",
-                                             "a node is not alive",
-                                             "no such collection",
-                                             "a known incarnation",
-                                             "another incarnation",
-                                             "no such shard",
-                                             "the shard has another epoch",
-                                             "the node holds the shard already",
-                                             "the primary cannot be removed",
-                                             "the node does not hold the shard",
-                                             "the node is not in sync",
-                                             "the primary stays in sync",
-                                             "the node is in sync already"};
-    static const char *const refusals[] = {"the node does not hold the shard",
-                                           "not the primary under that epoch",
-                                           "no lease holds",
-                                           "fewer in sync than asked for",
-                                           "bytes that are no such message, or a time above 2^62",
-                                           "a component outside the domain",
-                                           "a limit is reached, or an output is too short",
-                                           "an image that is too short or malformed",
-                                           "the epoch cannot rise",
-                                           "an ack for a peer without a worker"};
-    if (number >= CATALOGUE_UNKNOWN_SHARD && number <= CATALOGUE_NO_WORKER)
-        return refusals[number - CATALOGUE_UNKNOWN_SHARD];
-    if (number < CATALOGUE_UNKNOWN_SHARD && strcmp(call, "catalogue_apply") == 0)
-        return rejections[number];
+    if (catalogue_refusal(number))
+        return catalogue_refusal(number);
+    if (strcmp(call, "catalogue_apply") == 0)
+        return number == CATALOGUE_DONE ? "applied" : catalogue_rejection(number);
     if (number == 1 && strcmp(call, "catalogue_place") == 0)
         return "none, there are too few live nodes";
     return number == CATALOGUE_DONE ? "done" : "no answer that this call should give here";

@@ -3,7 +3,7 @@
  * The engine keeps no state of its own, and neither allocates, locks, reads a clock nor makes a system call. A host
  * owns the state as byte images, lends them to each call, and sends the messages. catalogue_images.h has the offsets in
  * an image (docs/IMAGES.md explains them), catalogue_messages.h writes the messages that a host makes itself
- * (docs/LAYOUT.md). examples/dome.c is a whole host to learn from.
+ * (docs/LAYOUT.md), catalogue_words.h says what a number means. examples/dome.c is a whole host to learn from.
  *
  * A call answers a number. CATALOGUE_DONE is 0; other answers are listed at the call, and a refusal is its number
  * (CATALOGUE_UNDECODABLE and so on). A refused call leaves every byte of every buffer as it was, two apart: `answer`
@@ -63,7 +63,7 @@ extern "C" {
 #define CATALOGUE_PROPOSE 1u /* ack: an Expand is to be proposed for the peer */
 
 /* why the map rejects a command */
-#define CATALOGUE_REJECTED_OLDER 1u             /* an older command of this client, or its last one again */
+#define CATALOGUE_REJECTED_OLDER 1u             /* older than this client's last one, which gets its old answer again */
 #define CATALOGUE_REJECTED_EXISTS 2u            /* the collection exists */
 #define CATALOGUE_REJECTED_ZERO 3u              /* a zero among the collection's numbers */
 #define CATALOGUE_REJECTED_PLACEMENT 4u         /* the lists do not match the collection's numbers */
