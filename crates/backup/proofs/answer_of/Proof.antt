@@ -27,7 +27,7 @@ returns-3 : tie.Need-returns-3
 returns-3 c = ap answerAs (sym (c .before .o3 .given .1))
 
 returns-4 : tie.Need-returns-4
-returns-4 c = search needs
+returns-4 c = ap answerAs (sym (c .enum-told .given .1))
 
 pub answer-of-spec : {M : Type 1} → statement M
 answer-of-spec =
