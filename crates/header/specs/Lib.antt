@@ -3,3 +3,4 @@ pub mod Formed
 pub mod Answers
 pub mod Grow
 pub mod Arrays
+pub mod Seats

@@ -1,0 +1,16 @@
+-- Which slot each shard of a header has: the store that keeps its log and its vectors. What the model does not speak of, and what a call
+-- that begins no shard and ends none leaves as it was. Definitions only.
+use Prim.Native.Nat.{ℕ}
+use mathlib.Core.Path.{_≡_}
+use mathlib.Core.List.{List, map}
+use Rattle.header.specs.declared.Kept.{Kept}
+use Rattle.header.specs.declared.Node.{Node}
+use Rattle.header.specs.View.{used}
+
+-- the slots of the shards in use, in their order
+abbrev pub slotsOf : Node → List ℕ
+slotsOf n = map (λ (x : Kept). x .slot) (used n)
+
+-- r has the shards of n, by their slots
+abbrev pub SameSlots : Node → Node → Type 0
+SameSlots n r = slotsOf r ≡ slotsOf n
