@@ -1,7 +1,7 @@
--- Laws of a header within its arrays: one shard put back keeps it so. Assumes nothing.
+-- Laws of a header within its arrays: one shard put back keeps it so, and keeps its slots. Assumes nothing.
 use mathlib.Core.Path.{_≡_, refl, sym, ap, _∙_, subst}
 use mathlib.Core.Bool.{Bool, true, false, not}
-use mathlib.Core.List.{List, [], _∷_}
+use mathlib.Core.List.{List, [], _∷_, map}
 use Prim.Native.Nat.{ℕ, zero, suc, _<_, _≤_}
 use native.Mathlib.Omega.{arith}
 use lib.Dec.{eqb, leb, ltb}
@@ -24,6 +24,7 @@ use Rattle.header.specs.declared.Node.{Node}
 use Rattle.header.specs.View.{used, keptAs, noKept, withShard}
 use Rattle.header.specs.Formed.{countsFit, onSlot, slotsFit}
 use Rattle.header.specs.Arrays.{atMost, Trims, arraysFit, Fitting}
+use Rattle.header.specs.Seats.{slotsOf, SameSlots, Keeps}
 use Rattle.header.proofs.OfLists.{by-case}
 
 -- ---- a count cut to its array
@@ -102,7 +103,7 @@ counts-kept x h g t e =
     (and-true b (leb (g .holders) maxReplicas and leb (g .count) maxWorkers) (and-left b (c and d) r)
     (and-true (leb (g .holders) maxReplicas) (leb (g .count) maxWorkers) (le-leb (g .holders) maxReplicas (t .holders)) (le-leb (g .count) maxWorkers (t .count))))
 
-pub fitting-put : (n : Node) → n .count ≤ length (n .held) → (at : ℕ) → at < n .count → (h g : Held) → Trims h g → (m : Node) → m ≡ withShard n at g → Fitting n m
+fitting-put : (n : Node) → n .count ≤ length (n .held) → (at : ℕ) → at < n .count → (h g : Held) → Trims h g → (m : Node) → m ≡ withShard n at g → Fitting n m
 unfolding arraysFit
 fitting-put n le at lt h g t m put e =
     let a = leb (n .count) maxHeld in
@@ -120,3 +121,27 @@ fitting-put n le at lt h g t m put e =
     ∙ every-set countsFit (used n) at y (and-left b c r)
     (counts-kept x h g t (every-at countsFit (n .held) (n .count) at noKept le (and-left b c r) lt)))
     (ap slotsFit w ∙ slots-same (used n) at y (omega arith) (ap (λ (z : Kept). z .slot) (sym (getD-take (n .count) (n .held) at noKept lt))) ∙ and-right b c r)))
+
+-- ---- the slots stay
+
+slots-set : (l : List Kept) (i : ℕ) (y : Kept) → i < length l → y .slot ≡ getD l i noKept .slot
+    → map (λ (x : Kept). x .slot) (set l i y) ≡ map (λ (x : Kept). x .slot) l
+slots-set [] i y h e = refl
+slots-set (x ∷ xs) zero y h e = ap (λ (s : ℕ). s ∷ map (λ (z : Kept). z .slot) xs) e
+slots-set (x ∷ xs) (suc i) y h e = ap (λ (l : List ℕ). x .slot ∷ l) (slots-set xs i y (omega arith) e)
+
+-- one shard put back in its slot
+seats-put : (n : Node) → n .count ≤ length (n .held) → (at : ℕ) → at < n .count → (g : Held) (m : Node) → m ≡ withShard n at g → SameSlots n m
+seats-put n le at lt g m put =
+    let x = getD (n .held) at noKept in
+    let size = length-take-le (n .count) (n .held) le in
+    ap slotsOf put
+    ∙ ap (map (λ (z : Kept). z .slot)) (take-set-lt (n .count) (n .held) at (keptAs x g) lt)
+    ∙ slots-set (used n) at (keptAs x g) (omega arith) (ap (λ (z : Kept). z .slot) (sym (getD-take (n .count) (n .held) at noKept lt)))
+
+-- a header that comes back as it was, and one with a shard put back
+pub keeps-all : (n : Node) → Keeps n n
+keeps-all n = record { fits = λ e. e; seats = refl }
+
+pub keeps-put : (n : Node) → n .count ≤ length (n .held) → (at : ℕ) → at < n .count → (h g : Held) → Trims h g → (m : Node) → m ≡ withShard n at g → Keeps n m
+keeps-put n le at lt h g t m put = record { fits = fitting-put n le at lt h g t m put; seats = seats-put n le at lt g m put }

@@ -6,7 +6,7 @@ use mathlib.Core.Option.{none, some}
 use Prim.Native.Nat.{ℕ, zero, suc, _+_, _-_, _<_, _≤_}
 use native.Mathlib.Omega.{arith}
 use lib.Dec.{eqb, ltb}
-use lib.ListN.{length, take, getD}
+use lib.ListN.{length, take, getD, length-map}
 use lib.Seq.{length-take-le, getD-take}
 use borrow.Author.Tests.{eqb-true, eqb-false, ne-eqb, lt-ltb, ltb-true, ltb-false, not-true}
 use Rattle.model.specs.Lists.{_and_, any, find, lead, put}
@@ -26,8 +26,9 @@ use Rattle.header.specs.declared.Kept.{Kept}
 use Rattle.header.specs.declared.Node.{Node}
 use Rattle.header.specs.View.{Stores, viewKept, viewNode, used, noKept}
 use Rattle.header.specs.Formed.{onSlot, slotsFit}
-use Rattle.header.specs.Grow.{freeFrom, lowestFree, belowKey, Inserts}
-use Rattle.header.proofs.OfLists.{by-case, map-lead}
+use Rattle.header.specs.Seats.{slotsOf}
+use Rattle.header.specs.Grow.{freeFrom, lowestSlot, lowestFree, belowKey, Inserts}
+use Rattle.header.proofs.OfLists.{by-case, map-any, map-lead}
 
 -- ---- rows by their places
 
@@ -62,53 +63,63 @@ module _ {A : Type 0} (p : A → Bool) (d : A) where
 
 -- ---- the loop over the slots
 
-module _ (l : List Kept) (s : ℕ) (inv : lowestFree l ≡ freeFrom (8 - s) s l) (h : s < 8) where
+-- the slots of these shards, and whether one of them has that slot
+abbrev slots : List Kept → List ℕ
+slots l = map (λ (x : Kept). x .slot) l
+
+has-slot : (t : ℕ) (l : List Kept) → any (λ u. eqb u t) (slots l) ≡ any (onSlot t) l
+has-slot t l = map-any (λ (x : Kept). x .slot) (λ u. eqb u t) l
+
+module _ (l : List Kept) (s : ℕ) (inv : lowestFree l ≡ freeFrom (8 - s) s (slots l)) (h : s < 8) where
   more : 8 - s ≡ suc (8 - (s + 1))
   more = omega arith
 
-  pub free-on : any (onSlot s) l ≡ true → lowestFree l ≡ freeFrom (8 - (s + 1)) (s + 1) l
+  pub free-on : any (onSlot s) l ≡ true → lowestFree l ≡ freeFrom (8 - (s + 1)) (s + 1) (slots l)
   unfolding freeFrom
-  free-on e = inv ∙ rw more (rw e)
+  free-on e = inv ∙ rw more (rw (has-slot s l ∙ e))
 
   pub free-stop : any (onSlot s) l ≡ false → s ≡ lowestFree l
   unfolding freeFrom
-  free-stop e = sym (inv ∙ rw more (rw e))
+  free-stop e = sym (inv ∙ rw more (rw (has-slot s l ∙ e)))
 
-pub free-end : (l : List Kept) (s : ℕ) → lowestFree l ≡ freeFrom (8 - s) s l → 8 ≤ s → s ≡ lowestFree l
+pub free-end : (l : List Kept) (s : ℕ) → lowestFree l ≡ freeFrom (8 - s) s (slots l) → 8 ≤ s → s ≡ lowestFree l
 unfolding freeFrom
 free-end l s inv h = let z : 8 - s ≡ 0 = omega arith in sym (inv ∙ rw z)
 
 -- ---- a slot is left
 
--- the shards without the first that has the slot
-without : ℕ → List Kept → List Kept
-without t [] = []
-without t (x ∷ xs) = cond (eqb (x .slot) t) xs (x ∷ without t xs)
+abbrev is : ℕ → ℕ → Bool
+is t u = eqb u t
 
-one-less : (t : ℕ) (l : List Kept) → any (onSlot t) l ≡ true → length l ≡ suc (length (without t l))
+-- the slots without the first that is that one
+without : ℕ → List ℕ → List ℕ
+without t [] = []
+without t (x ∷ xs) = cond (eqb x t) xs (x ∷ without t xs)
+
+one-less : (t : ℕ) (l : List ℕ) → any (is t) l ≡ true → length l ≡ suc (length (without t l))
 unfolding any without
 one-less t [] = λ e. not-both false e refl
-one-less t (x ∷ xs) = go (eqb (x .slot) t) (one-less t xs)
+one-less t (x ∷ xs) = go (eqb x t) (one-less t xs)
   where
-    go : (b : Bool) → (any (onSlot t) xs ≡ true → length xs ≡ suc (length (without t xs))) → cond b true (any (onSlot t) xs) ≡ true
+    go : (b : Bool) → (any (is t) xs ≡ true → length xs ≡ suc (length (without t xs))) → cond b true (any (is t) xs) ≡ true
         → suc (length xs) ≡ suc (length (cond b xs (x ∷ without t xs)))
     go true more e = refl
     go false more e = ap suc (more e)
 
-others-stay : (t u : ℕ) (l : List Kept) → (u ≡ t → ⊥) → any (onSlot u) l ≡ true → any (onSlot u) (without t l) ≡ true
+others-stay : (t u : ℕ) (l : List ℕ) → (u ≡ t → ⊥) → any (is u) l ≡ true → any (is u) (without t l) ≡ true
 unfolding any without
 others-stay t u [] d = λ e. e
-others-stay t u (x ∷ xs) d = go (eqb (x .slot) t) refl (eqb (x .slot) u) refl (others-stay t u xs d)
+others-stay t u (x ∷ xs) d = go (eqb x t) refl (eqb x u) refl (others-stay t u xs d)
   where
-    go : (b : Bool) → eqb (x .slot) t ≡ b → (a : Bool) → eqb (x .slot) u ≡ a → (any (onSlot u) xs ≡ true → any (onSlot u) (without t xs) ≡ true)
-        → cond a true (any (onSlot u) xs) ≡ true → any (onSlot u) (cond b xs (x ∷ without t xs)) ≡ true
+    go : (b : Bool) → eqb x t ≡ b → (a : Bool) → eqb x u ≡ a → (any (is u) xs ≡ true → any (is u) (without t xs) ≡ true)
+        → cond a true (any (is u) xs) ≡ true → any (is u) (cond b xs (x ∷ without t xs)) ≡ true
     go true p true q more e = absurd (d (sym (eqb-true _ _ q) ∙ eqb-true _ _ p))
     go true p false q more e = e
     go false p true q more e = rw q
     go false p false q more e = rw q (more e)
 
--- as many shards as slots that are taken
-crowd : (m : ℕ) (l : List Kept) → ((t : ℕ) → t < m → any (onSlot t) l ≡ true) → m ≤ length l
+-- as many as there are slots among them
+crowd : (m : ℕ) (l : List ℕ) → ((t : ℕ) → t < m → any (is t) l ≡ true) → m ≤ length l
 crowd zero l f = omega arith
 crowd (suc m) l f =
     let e = one-less m l (f m (omega arith)) in
@@ -120,37 +131,41 @@ apart-above a b h d =
     by-case (ltb a b) (λ e. let z = ltb-true a b e in omega arith) (λ e. absurd (d (let z = ltb-false a b e in omega arith)))
 
 -- every slot passed is taken, and the one it stops at is not
-passed : (k s : ℕ) (l : List Kept) (t : ℕ) → s ≤ t → t < freeFrom k s l → any (onSlot t) l ≡ true
+passed : (k s : ℕ) (l : List ℕ) (t : ℕ) → s ≤ t → t < freeFrom k s l → any (is t) l ≡ true
 unfolding freeFrom
 passed zero s l t a = λ b. absurd (omega arith)
-passed (suc k) s l t a = go (any (onSlot s) l) refl (eqb s t) refl (passed k (s + 1) l t)
+passed (suc k) s l t a = go (any (is s) l) refl (eqb s t) refl (passed k (s + 1) l t)
   where
-    go : (b : Bool) → any (onSlot s) l ≡ b → (c : Bool) → eqb s t ≡ c → (s + 1 ≤ t → t < freeFrom k (s + 1) l → any (onSlot t) l ≡ true)
-        → t < cond b (freeFrom k (s + 1) l) s → any (onSlot t) l ≡ true
-    go true p true q more h = subst (λ (u : ℕ). any (onSlot u) l ≡ true) (eqb-true s t q) p
+    go : (b : Bool) → any (is s) l ≡ b → (c : Bool) → eqb s t ≡ c → (s + 1 ≤ t → t < freeFrom k (s + 1) l → any (is t) l ≡ true)
+        → t < cond b (freeFrom k (s + 1) l) s → any (is t) l ≡ true
+    go true p true q more h = subst (λ (u : ℕ). any (is u) l ≡ true) (eqb-true s t q) p
     go true p false q more h = more (apart-above s t a (eqb-false s t q)) h
     go false p c q more h = absurd (omega arith)
 
-stops : (k s : ℕ) (l : List Kept) → freeFrom k s l < s + k → any (onSlot (freeFrom k s l)) l ≡ false
+stops : (k s : ℕ) (l : List ℕ) → freeFrom k s l < s + k → any (is (freeFrom k s l)) l ≡ false
 unfolding freeFrom
 stops zero s l = λ h. absurd (omega arith)
-stops (suc k) s l = go (any (onSlot s) l) refl (stops k (s + 1) l)
+stops (suc k) s l = go (any (is s) l) refl (stops k (s + 1) l)
   where
-    go : (b : Bool) → any (onSlot s) l ≡ b → (freeFrom k (s + 1) l < s + 1 + k → any (onSlot (freeFrom k (s + 1) l)) l ≡ false)
-        → cond b (freeFrom k (s + 1) l) s < s + suc k → any (onSlot (cond b (freeFrom k (s + 1) l) s)) l ≡ false
+    go : (b : Bool) → any (is s) l ≡ b → (freeFrom k (s + 1) l < s + 1 + k → any (is (freeFrom k (s + 1) l)) l ≡ false)
+        → cond b (freeFrom k (s + 1) l) s < s + suc k → any (is (cond b (freeFrom k (s + 1) l) s)) l ≡ false
     go true p more h = more (omega arith)
     go false p more h = p
 
-pub slot-left : (l : List Kept) → length l < 8 → lowestFree l < 8
-slot-left l h =
-    by-case (ltb (lowestFree l) 8) (λ e. ltb-true (lowestFree l) 8 e)
+-- fewer than eight leave one of the eight
+lowest-left : (l : List ℕ) → length l < 8 → lowestSlot l < 8
+lowest-left l h =
+    by-case (ltb (lowestSlot l) 8) (λ e. ltb-true (lowestSlot l) 8 e)
     (λ e.
-    let z = ltb-false (lowestFree l) 8 e in
+    let z = ltb-false (lowestSlot l) 8 e in
     let c = crowd 8 l (λ t a. passed 8 0 l t (omega arith) (omega arith)) in
     absurd (omega arith))
 
+pub slot-left : (l : List Kept) → length l < 8 → lowestFree l < 8
+slot-left l h = lowest-left (slots l) (let z = length-map l (λ (x : Kept). x .slot) in omega arith)
+
 pub slot-free : (l : List Kept) → length l < 8 → any (onSlot (lowestFree l)) l ≡ false
-slot-free l h = stops 8 0 l (slot-left l h)
+slot-free l h = sym (has-slot (lowestFree l) l) ∙ stops 8 0 (slots l) (slot-left l h)
 
 -- ---- slots that fit, with one more
 
@@ -193,6 +208,11 @@ slots-in (y ∷ ys) (suc i) x a b e =
     (slots-in ys i x a (t .1) (and-right (not (any (onSlot (y .slot)) ys)) (slotsFit ys) r))
 
 -- ---- put in by its key
+
+seats-in : (l : List Kept) (i : ℕ) (x : Kept) → slots (insertAt l i x) ≡ insertAt (slots l) i (x .slot)
+seats-in l zero x = refl
+seats-in [] (suc i) x = refl
+seats-in (y ∷ ys) (suc i) x = ap (λ (z : List ℕ). y .slot ∷ z) (seats-in ys i x)
 
 module _ (n : Node) (le : n .count ≤ length (n .held)) (x : Kept) (at : ℕ) (is : at ≡ lead (belowKey (viewKey (x .key))) (used n)) where
   module _ (s : Stores) where
@@ -254,6 +274,10 @@ module _ (n : Node) (le : n .count ≤ length (n .held)) (key : ShardKey) (h : H
             ap (withHeld (viewNode s n))
             (put-in n le new at is s out e none
             ∙ ap (λ (v : held.Held). put heldBelow v (map (viewKept s) (used n))) (view-bare s new last refl));
+        seats = ap slots e
+            ∙ seats-in (used n) at new
+            ∙ ap (λ (i : ℕ). insertAt (slotsOf n) i slot) is
+            ∙ ap (insertAt (slotsOf n) (lead (belowKey (viewKey key)) (used n))) q;
       }
 
 -- ---- the same where a shard has no slot yet
@@ -263,9 +287,10 @@ slot-left-open l t out e h =
     by-case (ltb (lowestFree l) 8) (λ q. ltb-true (lowestFree l) 8 q)
     (λ q.
     let z = ltb-false (lowestFree l) 8 q in
-    let less = one-less t l e in
-    let c = crowd 8 (without t l) (λ u a. others-stay t u l (λ w. omega arith) (passed 8 0 l u (omega arith) (omega arith))) in
+    let size = length-map l (λ (x : Kept). x .slot) in
+    let less = one-less t (slots l) (has-slot t l ∙ e) in
+    let c = crowd 8 (without t (slots l)) (λ u a. others-stay t u (slots l) (λ w. omega arith) (passed 8 0 (slots l) u (omega arith) (omega arith))) in
     absurd (omega arith))
 
 pub slot-free-open : (l : List Kept) → lowestFree l < 8 → any (onSlot (lowestFree l)) l ≡ false
-slot-free-open l h = stops 8 0 l h
+slot-free-open l h = sym (has-slot (lowestFree l) l) ∙ stops 8 0 (slots l) h

@@ -25,6 +25,11 @@ module _ {A B : Type 0} (v : A → B) where
   map-lead p [] = refl
   map-lead p (x ∷ xs) = ap (λ (m : ℕ). cond (p (v x)) (suc m) zero) (map-lead p xs)
 
+  pub map-any : (p : B → Bool) (l : List A) → any p (map v l) ≡ any (λ x. p (v x)) l
+  unfolding any
+  map-any p [] = refl
+  map-any p (x ∷ xs) = ap (λ (b : Bool). cond (p (v x)) true b) (map-any p xs)
+
   pub map-every : (p : B → Bool) (l : List A) → every p (map v l) ≡ every (λ x. p (v x)) l
   unfolding every
   map-every p [] = refl

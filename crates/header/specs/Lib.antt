@@ -1,6 +1,6 @@
 pub mod View
 pub mod Formed
 pub mod Answers
-pub mod Grow
 pub mod Arrays
 pub mod Seats
+pub mod Grow

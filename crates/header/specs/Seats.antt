@@ -6,6 +6,7 @@ use mathlib.Core.List.{List, map}
 use Rattle.header.specs.declared.Kept.{Kept}
 use Rattle.header.specs.declared.Node.{Node}
 use Rattle.header.specs.View.{used}
+use Rattle.header.specs.Arrays.{Fitting}
 
 -- the slots of the shards in use, in their order
 abbrev pub slotsOf : Node → List ℕ
@@ -14,3 +15,8 @@ slotsOf n = map (λ (x : Kept). x .slot) (used n)
 -- r has the shards of n, by their slots
 abbrev pub SameSlots : Node → Node → Type 0
 SameSlots n r = slotsOf r ≡ slotsOf n
+
+-- what is kept of a header's arrays by a call that begins no shard and ends none
+pub record Keeps (n r : Node) : Type 0 where
+  pub fits : Fitting n r
+  pub seats : SameSlots n r

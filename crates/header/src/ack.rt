@@ -5,7 +5,7 @@ ghost use Rattle.model.specs.Node.Ack.{badReply};
 ghost use Rattle.node.specs.Acks.{replyOf};
 ghost use Rattle.state.specs.Names.{viewKey};
 ghost use Rattle.header.specs.Formed.{formedNode};
-ghost use Rattle.header.specs.Arrays.{Fitting};
+ghost use Rattle.header.specs.Seats.{Keeps};
 ghost use Rattle.header.specs.Answers.{AcksIn, AcksNode};
 use crate::Node;
 use crate::NodeAcked;
@@ -33,7 +33,7 @@ fn ack_in(
 ) -> NodeAcked
     requires { ⌜ (formedNode n ≡ true) × (badReply (replyOf reply) ≡ false) ⌝ }
     ensures { λ r. ⌜ AcksIn n (viewKey key) (epoch .0) (peer .0) step reply r ⌝ }
-    ensures { λ r. ⌜ Fitting n (r .node) ⌝ }
+    ensures { λ r. ⌜ Keeps n (r .node) ⌝ }
 {
     let held = n.held;
     let count = n.count;
@@ -68,7 +68,7 @@ pub fn ack(
     reply: Reply,
 ) -> NodeAcked
     ensures { λ r. ⌜ AcksNode n (viewKey key) (epoch .0) (peer .0) step reply r ⌝ }
-    ensures { λ r. ⌜ Fitting n (r .node) ⌝ }
+    ensures { λ r. ⌜ Keeps n (r .node) ⌝ }
 {
     if bad(reply) {
         return NodeAcked {

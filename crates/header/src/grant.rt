@@ -1,5 +1,5 @@
 // Lease grant (paper 01, 'The node'; node.rs, heartbeats).
-ghost use Rattle.header.specs.Arrays.{Fitting};
+ghost use Rattle.header.specs.Seats.{Keeps};
 ghost use Rattle.header.specs.Answers.{ReExpires, GrantsNode};
 use crate::GrantAnswer;
 use crate::Node;
@@ -10,7 +10,7 @@ use serve::Expiry;
 // Internal: the header with another end of the lease.
 pub fn with_expiry(n: Node, e: Expiry) -> Node
     ensures { λ r. ⌜ ReExpires n e r ⌝ }
-    ensures { λ r. ⌜ Fitting n r ⌝ }
+    ensures { λ r. ⌜ Keeps n r ⌝ }
 {
     let id = n.id;
     let held = n.held;
@@ -27,7 +27,7 @@ pub fn with_expiry(n: Node, e: Expiry) -> Node
 // Paper 01, 'The node': 21 a time above 2^62, 24; then a grant for the current incarnation raises the expiry.
 pub fn grant(n: Node, incarnation: u64, sent: u64, lease: u64) -> NodeGranted
     ensures { λ r. ⌜ GrantsNode n incarnation sent lease r ⌝ }
-    ensures { λ r. ⌜ Fitting n (r .node) ⌝ }
+    ensures { λ r. ⌜ Keeps n (r .node) ⌝ }
 {
     if 4611686018427387904 < sent {
         return NodeGranted {

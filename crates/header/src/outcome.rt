@@ -4,7 +4,7 @@ ghost use mathlib.Core.Bool.{true};
 ghost use Rattle.model.specs.Node.Ack.{leaves};
 ghost use Rattle.state.specs.Names.{viewKey};
 ghost use Rattle.header.specs.Formed.{formedNode};
-ghost use Rattle.header.specs.Arrays.{Fitting};
+ghost use Rattle.header.specs.Seats.{Keeps};
 ghost use Rattle.header.specs.Answers.{proposalOf, SettlesIn, SettlesNode};
 use crate::Node;
 use crate::NodeSettled;
@@ -33,7 +33,7 @@ pub fn takes_out(what: Proposal, applied: bool) -> bool
 fn outcome_in(n: Node, key: ShardKey, epoch: Epoch, peer: DataNodeId, left: bool) -> Node
     requires { ⌜ formedNode n ≡ true ⌝ }
     ensures { λ r. ⌜ SettlesIn n (viewKey key) (epoch .0) (peer .0) left r ⌝ }
-    ensures { λ r. ⌜ Fitting n r ⌝ }
+    ensures { λ r. ⌜ Keeps n r ⌝ }
 {
     let held = n.held;
     let count = n.count;
@@ -59,7 +59,7 @@ pub fn outcome(
     applied: bool,
 ) -> NodeSettled
     ensures { λ r. ⌜ SettlesNode n (viewKey key) (epoch .0) (peer .0) what applied r ⌝ }
-    ensures { λ r. ⌜ Fitting n (r .node) ⌝ }
+    ensures { λ r. ⌜ Keeps n (r .node) ⌝ }
 {
     if formed_node(n) {
         let left = takes_out(what, applied);

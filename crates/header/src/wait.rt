@@ -3,7 +3,7 @@ ghost use mathlib.Core.Path.{_≡_};
 ghost use mathlib.Core.Bool.{true};
 ghost use Rattle.state.specs.Names.{viewKey};
 ghost use Rattle.header.specs.Formed.{formedNode};
-ghost use Rattle.header.specs.Arrays.{Fitting};
+ghost use Rattle.header.specs.Seats.{Keeps};
 ghost use Rattle.header.specs.Answers.{WaitsIn, WaitsNode};
 use crate::Node;
 use crate::NodeWaited;
@@ -22,7 +22,7 @@ use state::ShardKey;
 fn wait_in(n: Node, key: ShardKey, epoch: Epoch, offset: u64, now: u64, timeout: u64) -> NodeWaited
     requires { ⌜ formedNode n ≡ true ⌝ }
     ensures { λ r. ⌜ WaitsIn n (viewKey key) (epoch .0) offset now timeout r ⌝ }
-    ensures { λ r. ⌜ Fitting n (r .node) ⌝ }
+    ensures { λ r. ⌜ Keeps n (r .node) ⌝ }
 {
     let held = n.held;
     let count = n.count;
@@ -57,7 +57,7 @@ fn wait_in(n: Node, key: ShardKey, epoch: Epoch, offset: u64, now: u64, timeout:
 // Shrink is to be proposed.
 pub fn wait(n: Node, key: ShardKey, epoch: Epoch, offset: u64, now: u64, timeout: u64) -> NodeWaited
     ensures { λ r. ⌜ WaitsNode n (viewKey key) (epoch .0) offset now timeout r ⌝ }
-    ensures { λ r. ⌜ Fitting n (r .node) ⌝ }
+    ensures { λ r. ⌜ Keeps n (r .node) ⌝ }
 {
     let none = Nodes {
         items: [DataNodeId(0); 32],

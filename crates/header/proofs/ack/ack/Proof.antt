@@ -1,4 +1,5 @@
 use borrow.Author.Needs.{needs}
+use Rattle.header.proofs.OfArrays.{keeps-all}
 use Rattle.state.specs.Names.{viewKey}
 use Rattle.header.proofs.OfCalls.{ack-bad, ack-malformed, ack-formed}
 use native.Mathlib.Omega.{arith}
@@ -18,7 +19,7 @@ bad-requires : tie.Need-bad-requires
 bad-requires c κs = search needs
 
 returns : tie.Need-returns
-returns c = (ack-bad (c .before .before .args .n) (viewKey (c .before .before .args .key)) (c .before .before .args .epoch .0) (c .before .before .args .peer .0) (c .before .before .args .step) (c .before .before .args .reply) (sym (c .before .bad .ensures) ∙ c .if1 .taken), λ e. e)
+returns c = (ack-bad (c .before .before .args .n) (viewKey (c .before .before .args .key)) (c .before .before .args .epoch .0) (c .before .before .args .peer .0) (c .before .before .args .step) (c .before .before .args .reply) (sym (c .before .bad .ensures) ∙ c .if1 .taken), keeps-all _)
 
 formed-node-requires : tie.Need-formed-node-requires
 formed-node-requires c κs = search needs
@@ -30,7 +31,7 @@ returns-2 : tie.Need-returns-2
 returns-2 c = (ack-formed (c .before .before .before .before .before .args .n) (viewKey (c .before .before .before .before .before .args .key)) (c .before .before .before .before .before .args .epoch .0) (c .before .before .before .before .before .args .peer .0) (c .before .before .before .before .before .args .step) (c .before .before .before .before .before .args .reply) (sym (c .before .before .before .before .bad .ensures) ∙ c .before .before .before .if1 .left) (λ s. sym (c .before .if2 .taken) ∙ c .before .before .formed-node .ensures .same s) (c .ack-in .result) (c .ack-in .ensures .0), c .ack-in .ensures .1)
 
 returns-3 : tie.Need-returns-3
-returns-3 c = (ack-malformed (c .before .before .before .before .args .n) (viewKey (c .before .before .before .before .args .key)) (c .before .before .before .before .args .epoch .0) (c .before .before .before .before .args .peer .0) (c .before .before .before .before .args .step) (c .before .before .before .before .args .reply) (sym (c .before .before .before .bad .ensures) ∙ c .before .before .if1 .left) (λ s. sym (c .if2 .left) ∙ c .before .formed-node .ensures .same s), λ e. e)
+returns-3 c = (ack-malformed (c .before .before .before .before .args .n) (viewKey (c .before .before .before .before .args .key)) (c .before .before .before .before .args .epoch .0) (c .before .before .before .before .args .peer .0) (c .before .before .before .before .args .step) (c .before .before .before .before .args .reply) (sym (c .before .before .before .bad .ensures) ∙ c .before .before .if1 .left) (λ s. sym (c .if2 .left) ∙ c .before .formed-node .ensures .same s), keeps-all _)
 
 pub ack-spec : {M : Type 1} → statement M
 ack-spec =

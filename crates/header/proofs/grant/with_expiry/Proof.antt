@@ -12,7 +12,7 @@ use Rattle.header.proofs.grant.with_expiry.Lts as lts
 
 returns : tie.Need-returns
 unfolding arraysFit
-returns c = (λ s. refl, λ e. e)
+returns c = (λ s. refl, record { fits = λ e. e; seats = refl })
 
 pub with-expiry-spec : {M : Type 1} → statement M
 with-expiry-spec = tie.close (tie.spec returns)

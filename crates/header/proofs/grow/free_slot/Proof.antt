@@ -1,10 +1,11 @@
 use borrow.Author.Needs.{needs}
 use borrow.Author.Tests.{not-true, not-false}
+use Rattle.header.specs.declared.Kept.{Kept}
 use Rattle.header.specs.Grow.{freeFrom, lowestFree}
 use Rattle.header.proofs.OfGrow.{free-on, free-stop, free-end}
 use native.Mathlib.Omega.{arith}
 use mathlib.Core.Path.{_≡_, refl, sym, _∙_, ap}
-use mathlib.Core.List.{List, [], _∷_, _++_}
+use mathlib.Core.List.{List, [], _∷_, _++_, map}
 use Prim.Native.Nat.{ℕ, _+_, _-_, _*_, _≤_, _<_}
 use lib.ListN.{length, getD, take, drop, set}
 use Rattle.header.proofs.grow.free_slot.Statement.{statement}
@@ -14,7 +15,7 @@ use Rattle.header.proofs.grow.free_slot.Lts as lts
 use Rattle.header.proofs.formed.slot_after.Reads as slot-after-reads
 
 abbrev Inv-loop : tie.InvT-loop
-Inv-loop held count s₀ s = (s ≤ 8) × (lowestFree (take count held) ≡ freeFrom (8 - s) s (take count held))
+Inv-loop held count s₀ s = (s ≤ 8) × (lowestFree (take count held) ≡ freeFrom (8 - s) s (map (λ (x : Kept). x .slot) (take count held)))
 
 abbrev μ-loop : tie.MeasureT-loop
 μ-loop held count s₀ s = 8 - s

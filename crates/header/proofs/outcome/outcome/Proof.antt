@@ -1,4 +1,5 @@
 use borrow.Author.Needs.{needs}
+use Rattle.header.proofs.OfArrays.{keeps-all}
 use Rattle.state.specs.Names.{viewKey}
 use Rattle.header.proofs.OfCalls.{outcome-formed, outcome-malformed}
 use native.Mathlib.Omega.{arith}
@@ -27,7 +28,7 @@ returns : tie.Need-returns
 returns c = (outcome-formed (c .before .before .before .before .args .n) (viewKey (c .before .before .before .before .args .key)) (c .before .before .before .before .args .epoch .0) (c .before .before .before .before .args .peer .0) (c .before .before .before .before .args .what) (c .before .before .before .before .args .applied) (λ s. sym (c .before .before .if1 .taken) ∙ c .before .before .before .formed-node .ensures .same s) (c .before .takes-out .result) (c .before .takes-out .ensures) (c .outcome-in .result) (c .outcome-in .ensures .0), c .outcome-in .ensures .1)
 
 returns-2 : tie.Need-returns-2
-returns-2 c = (outcome-malformed (c .before .before .args .n) (viewKey (c .before .before .args .key)) (c .before .before .args .epoch .0) (c .before .before .args .peer .0) (c .before .before .args .what) (c .before .before .args .applied) (λ s. sym (c .if1 .left) ∙ c .before .formed-node .ensures .same s), λ e. e)
+returns-2 c = (outcome-malformed (c .before .before .args .n) (viewKey (c .before .before .args .key)) (c .before .before .args .epoch .0) (c .before .before .args .peer .0) (c .before .before .args .what) (c .before .before .args .applied) (λ s. sym (c .if1 .left) ∙ c .before .formed-node .ensures .same s), keeps-all _)
 
 pub outcome-spec : {M : Type 1} → statement M
 outcome-spec =
