@@ -1,4 +1,6 @@
 pub mod OfRows
+pub mod OfKeys
+pub mod OfSeats
 pub mod OfSlots
 pub mod OfListed
 pub mod OfWalk

@@ -1,5 +1,5 @@
 -- Laws of a shard of the map that lists this node, one for each way out. Assumes nothing.
-use mathlib.Core.Path.{_≡_, refl, sym, ap, _∙_}
+use mathlib.Core.Path.{_≡_, refl, sym, ap, _∙_, subst}
 use mathlib.Core.Bool.{true, false, not}
 use mathlib.Core.List.{List, [], map}
 use mathlib.Core.Option.{Option, none, some}
@@ -26,6 +26,7 @@ use Rattle.node.specs.Shows.{recordEpoch, workerAt}
 use Rattle.node.specs.Formed.{formedHeld}
 use Rattle.node.proofs.OfFormed.{formed-few}
 use Rattle.serve.specs.Headers.{Begins}
+use Rattle.state.specs.declared.ShardKey.{ShardKey}
 use Rattle.state.specs.declared.ShardRow.{ShardRow}
 use Rattle.state.specs.declared.CollectionRow.{CollectionRow}
 use Rattle.state.specs.declared.Collections.{Collections}
@@ -40,7 +41,7 @@ use Rattle.header.proofs.OfShards.{shard-none, shard-some}
 use Rattle.header.proofs.OfGrow.{stop-at, view-bare}
 use Rattle.shown.specs.declared.Taken.{Taken}
 use Rattle.shown.specs.declared.RowShown.{RowShown}
-use Rattle.shown.specs.Rows.{otherName, Refreshes, Firsts, viewTaken, takenOf, asKept, TakesAs, SlotFrom, opens, stays, listedShown, ShowsListed}
+use Rattle.shown.specs.Rows.{otherName, Refreshes, Firsts, viewTaken, takenOf, asKept, TakesAs, placeOf, SlotFrom, opens, stays, listedShown, ShowsListed}
 
 abbrev pub noPeers : Held → Held
 noPeers h = record {
@@ -142,7 +143,7 @@ module _ (n : Node) (t : Collections) (row : ShardRow) where
                   ∙ le-ltb maxWorkers (length (take (kept .held .count) (kept .held .peers)))
                   (let a = length-take (kept .held .count) (kept .held .peers) in let b = formed-few (kept .held) formed in omega arith);
             };
-        slot = λ q. stays at h (sym (ap (λ (z : Taken). z .kept .slot) is-x)) (key-at h ∙ ap (λ (z : Taken). viewKey (z .kept .key)) (sym is-x));
+        slot = λ q. stays at (is ∙ ap (λ (z : Taken). placeOf n (viewKey (z .kept .key))) (sym is-x)) h (sym (ap (λ (z : Taken). z .kept .slot) is-x)) (key-at h ∙ ap (λ (z : Taken). viewKey (z .kept .key)) (sym is-x));
         key = λ q. ap (λ (z : Taken). viewKey (z .kept .key)) is-x;
       }
 
@@ -176,7 +177,7 @@ module _ (n : Node) (t : Collections) (row : ShardRow) where
           (ap (show.showListed (n .id .0) (viewShard row) (some metric)) (shard-none s n (viewKey (row .key)) le at is q)
           ∙ ap (λ (v : held.Held). some (show.showHeld (n .id .0) (viewShard row) metric v))
           (sym (view-bare s (asKept row slot stored h) (f .last) z ∙ f .same (viewKey (row .key))))))
-          (opens (a .inSlot ∙ p) (a .last ∙ f .last) (a .rows ∙ z))
+          (opens (subst (λ (i : ℕ). n .count ≤ i) (is ∙ ap (λ (k : ShardKey). placeOf n (viewKey k)) (sym (a .key))) q) (a .inSlot ∙ p) (a .last ∙ f .last) (a .rows ∙ z))
 
       pub listed-again : at < n .count → slot ≡ kept .slot → stored ≡ kept .stored → h ≡ kept .held → ShowsListed n t row r
       listed-again q p z w =
@@ -186,4 +187,4 @@ module _ (n : Node) (t : Collections) (row : ShardRow) where
           ∙ ap (λ (v : held.Held). some (show.showHeld (n .id .0) (viewShard row) metric v))
           (sym (ap (λ (i : ℕ). viewKept s (asKept row i stored h)) p ∙ ap (λ (i : ℕ). viewKept s (asKept row (kept .slot) i h)) z
           ∙ ap (λ (g : Held). viewKept s (asKept row (kept .slot) (kept .stored) g)) w ∙ as-kept s row kept (key-at q)))))
-          (stays at q (sym p ∙ sym (a .inSlot)) (key-at q ∙ ap viewKey (sym (a .key))))
+          (stays at (is ∙ ap (λ (k : ShardKey). placeOf n (viewKey k)) (sym (a .key))) q (sym p ∙ sym (a .inSlot)) (key-at q ∙ ap viewKey (sym (a .key))))

@@ -5,12 +5,12 @@ use mathlib.Core.List.{List, [], _∷_, _++_, map}
 use Prim.Native.Nat.{ℕ, zero, suc, _<_, _≤_}
 use native.Mathlib.Omega.{arith}
 use lib.Dec.{eqb, ltb}
-use lib.ListN.{length, take, getD, length-map, length-take, List·getD-map}
+use lib.ListN.{length, take, getD, length-map, length-take, List·getD-map, List·getD-eq-default}
 use lib.Seq.{length-take-le, getD-take}
 use borrow.Author.Tests.{eq-eqb, ne-eqb, lt-ltb, le-ltb, ltb-true, not-true}
-use Rattle.model.specs.Lists.{_and_, _or_, any, every, rising}
+use Rattle.model.specs.Lists.{_and_, _or_, any, every, lead, rising}
 use Rattle.model.specs.Limits.{maxHeld}
-use Rattle.model.specs.Keys.{Key, keyBelow}
+use Rattle.model.specs.Keys.{Key, keyBelow, sameKey}
 use Rattle.model.specs.Map.Create.{shardBelow}
 use Rattle.model.specs.Node.Held as held
 use Rattle.model.specs.Node.Shown as show
@@ -25,19 +25,23 @@ use Rattle.header.specs.declared.Kept.{Kept}
 use Rattle.header.specs.declared.Node.{Node}
 use Rattle.header.specs.View.{Stores, viewKept, viewNode, used, noKept}
 use Rattle.header.specs.Formed.{onSlot, slotsFit, lentNode, keptBelow, formedNode}
-use Rattle.header.proofs.OfFormed.{header-apart}
+use Rattle.header.specs.Seats.{slotsOf}
+use Rattle.header.proofs.OfLists.{map-any, map-lead}
+use Rattle.header.proofs.OfFormed.{header-rise, header-apart}
 use Rattle.header.proofs.OfGrow.{none-cons}
 use Rattle.shown.specs.declared.Start.{Start}
 use Rattle.shown.specs.declared.Taken.{Taken}
 use Rattle.shown.specs.declared.Walked.{Walked}
 use Rattle.shown.specs.declared.NodeShown.{NodeShown}
 use Rattle.shown.specs.declared.ShownAnswer.the-variants as A
-use Rattle.shown.specs.Rows.{deadAt, viewTaken, keptOf, startOf, SlotFrom, opens, stays}
-use Rattle.shown.specs.Slots.{openFits, slotsOpen, Assigns}
+use Rattle.shown.specs.Rows.{deadAt, viewTaken, keptOf, startOf, placeOf, SlotFrom, opens, stays}
+use Rattle.shown.specs.Slots.{keysOf, slotBefore, seated, slotsAfter, openFits, slotsOpen, Assigns}
 use Rattle.shown.specs.Walks.{shardsAfter, Walks}
 use Rattle.shown.specs.Shows.{viewStarts, StartsOver, TakesMap, ShowsMap}
 use Rattle.shown.proofs.OfSlots.{slotIn, or-left, or-right, some-here, open-cons}
-use Rattle.shown.proofs.OfWalk.{takenKey, rising-keys, rising-tail}
+use Rattle.shown.proofs.OfKeys.{below-each, never-below, rising-tail}
+use Rattle.shown.proofs.OfSeats.{seated-all, own-slots}
+use Rattle.shown.proofs.OfWalk.{takenKey, rising-keys}
 
 -- ---- slots that fit
 
@@ -66,18 +70,7 @@ one-place (x ∷ xs) (suc i) zero d e h k q =
     not-both (any (onSlot (x .slot)) xs) (some-here (onSlot (x .slot)) xs i d (omega arith) (eq-eqb (getD xs i d .slot) (x .slot) q)) (slots-parts x xs e .1)
 one-place (x ∷ xs) (suc i) (suc j) d e h k q = ap suc (one-place xs i j d (slots-parts x xs e .2) (omega arith) (omega arith) q)
 
--- ---- a rising list's first element stands below every other
-
-below-each : (k : Key) (l : List Key) → rising keyBelow (k ∷ l) ≡ true → (i : ℕ) (d : Key) → i < length l → keyBelow k (getD l i d) ≡ true
-unfolding rising
-below-each k [] e i d h = absurd (omega arith)
-below-each k (x ∷ xs) e zero d h = and-left (keyBelow k x) (rising keyBelow (x ∷ xs)) e
-below-each k (x ∷ xs) e (suc i) d h =
-    keys .along k x (getD xs i d) (and-left (keyBelow k x) (rising keyBelow (x ∷ xs)) e)
-    (below-each x xs (and-right (keyBelow k x) (rising keyBelow (x ∷ xs)) e) i d (omega arith))
-
-never-below : (k : Key) → keyBelow k k ≡ true → ⊥
-never-below k e = not-both (keyBelow k k) e (keys .apart k k e)
+-- ---- no row passes
 
 none-of : {A : Type 0} (p : A → Bool) (l : List A) → ((i : ℕ) (d : A) → i < length l → p (getD l i d) ≡ false) → any p l ≡ false
 none-of p [] f = unfold any in refl
@@ -93,10 +86,10 @@ module _ (n : Node) (le : n .count ≤ length (n .held)) (fit : slotsFit (used n
   From l = (i : ℕ) (d : Taken) → i < length l → SlotFrom n (getD l i d .kept)
 
   pub from-open : (y : Kept) → SlotFrom n y → openFits y ≡ true
-  from-open y (opens a b c) =
+  from-open y (opens p a b c) =
       or-right (slotIn y) (eqb (y .held .last) 0 and eqb (y .stored) 0)
       (and-true (eqb (y .held .last) 0) (eqb (y .stored) 0) (eq-eqb (y .held .last) 0 b) (eq-eqb (y .stored) 0 c))
-  from-open y (stays q h a b) =
+  from-open y (stays q p h a b) =
       let e = slot-at (used n) q noKept fit (omega (arith, size)) in
       or-left (slotIn y) (eqb (y .held .last) 0 and eqb (y .stored) 0)
       (subst (λ (t : ℕ). ltb t maxHeld ≡ true) (ap (λ (z : Kept). z .slot) (getD-take (n .count) (n .held) q noKept h) ∙ a) e)
@@ -108,9 +101,9 @@ module _ (n : Node) (le : n .count ≤ length (n .held)) (fit : slotsFit (used n
 
   -- two of them with the same slot have the same key
   same-slot : (x y : Kept) → SlotFrom n x → SlotFrom n y → slotIn x ≡ true → y .slot ≡ x .slot → viewKey (x .key) ≡ viewKey (y .key)
-  same-slot x y (opens a b c) g q e = absurd (let z = ltb-true (x .slot) maxHeld q in omega arith)
-  same-slot x y (stays i h a k) (opens b c d) q e = absurd (let z = ltb-true (x .slot) maxHeld q in omega arith)
-  same-slot x y (stays i h a k) (stays j g b m) q e =
+  same-slot x y (opens p a b c) g q e = absurd (let z = ltb-true (x .slot) maxHeld q in omega arith)
+  same-slot x y (stays i u h a k) (opens p b c d) q e = absurd (let z = ltb-true (x .slot) maxHeld q in omega arith)
+  same-slot x y (stays i u h a k) (stays j v g b m) q e =
       let p = one-place (used n) i j noKept fit (omega (arith, size)) (omega (arith, size))
       (ap (λ (z : Kept). z .slot) (getD-take (n .count) (n .held) i noKept h) ∙ a ∙ sym e ∙ sym b
       ∙ ap (λ (z : Kept). z .slot) (sym (getD-take (n .count) (n .held) j noKept g))) in
@@ -136,6 +129,37 @@ module _ (n : Node) (le : n .count ≤ length (n .held)) (fit : slotsFit (used n
       past (z ∷ zs) zero d y h = refl
       past (z ∷ zs) (suc i) d y h = past zs i d y (omega arith)
 
+  -- each has the slot that its key's shard had
+  module _ (s : Stores) where
+    abbrev before : Key → ℕ
+    before k = slotBefore (keysOf (viewNode s n)) (slotsOf n) k
+
+    placed : (k : Key) → lead (λ j. not (sameKey j k)) (keysOf (viewNode s n)) ≡ placeOf n k
+    placed k =
+        map-lead (λ (h : held.Held). h .key) (λ j. not (sameKey j k)) (map (viewKept s) (used n))
+        ∙ map-lead (viewKept s) (λ h. not (sameKey (h .key) k)) (used n)
+
+    seat-from : (y : Kept) → SlotFrom n y → y .slot ≡ before (viewKey (y .key))
+    seat-from y (opens p a b c) =
+        a ∙ sym (List·getD-eq-default (slotsOf n) maxHeld {n = lead (λ j. not (sameKey j (viewKey (y .key)))) (keysOf (viewNode s n))}
+        (let z = length-map (used n) (λ (x : Kept). x .slot) in let w = placed (viewKey (y .key)) in let v = size in omega arith))
+    seat-from y (stays q p h a b) =
+        sym a
+        ∙ ap (λ (z : Kept). z .slot) (sym (getD-take (n .count) (n .held) q noKept h))
+        ∙ sym (row-slot (used n) q (omega (arith, size)))
+        ∙ ap (λ (i : ℕ). getD (slotsOf n) i maxHeld) (p ∙ sym (placed (viewKey (y .key))))
+      where
+        row-slot : (l : List Kept) (i : ℕ) → i < length l → getD (map (λ (x : Kept). x .slot) l) i maxHeld ≡ getD l i noKept .slot
+        row-slot [] i h = absurd (omega arith)
+        row-slot (x ∷ xs) zero h = refl
+        row-slot (x ∷ xs) (suc i) h = row-slot xs i (omega arith)
+
+    seats-from : (l : List Taken) → From l → map (λ (x : Kept). x .slot) (map keptOf l) ≡ map before (map takenKey l)
+    seats-from [] f = refl
+    seats-from (x ∷ xs) f =
+        ap (λ (t : ℕ). t ∷ map (λ (y : Kept). y .slot) (map keptOf xs)) (seat-from (x .kept) (f 0 x (omega arith)))
+        ∙ ap (λ (t : List ℕ). before (takenKey x) ∷ t) (seats-from xs (λ i d h. f (suc i) d (omega arith)))
+
   module _ (m : ShardMap) (r : Walked) (w : Walks n m r) (plain : List Kept)
       (is : take (r .count) plain ≡ map keptOf (take (r .count) (r .items))) where
     from : From (take (r .count) (r .items))
@@ -152,7 +176,42 @@ module _ (n : Node) (le : n .count ≤ length (n .held)) (fit : slotsFit (used n
         ap slotsOpen is
         ∙ open-from (take (r .count) (r .items)) from (sym (rising-keys keptOf keptBelow takenKey (λ x y. refl) (take (r .count) (r .items))) ∙ w .rise q e)
 
+    pub walked-seats : (s : Stores)
+        → map (λ (x : Kept). x .slot) (take (r .count) plain) ≡ map (slotBefore (keysOf (viewNode s n)) (slotsOf n)) (map takenKey (take (r .count) (r .items)))
+    walked-seats s = ap (map (λ (x : Kept). x .slot)) is ∙ seats-from s (take (r .count) (r .items)) from
+
+-- ---- a node that is as it was
+
+slots-in : (l : List Kept) → slotsFit l ≡ true → every (λ t. ltb t maxHeld) (map (λ (x : Kept). x .slot) l) ≡ true
+slots-in [] e = unfold every in refl
+slots-in (x ∷ xs) e = let p = slots-parts x xs e in every-cons (λ t. ltb t maxHeld) (x .slot) (map (λ (y : Kept). y .slot) xs) (p .0) (slots-in xs (p .2))
+
+pub seats-same : (n : Node) → formedNode n ≡ true → (s : Stores) → slotsOf n ≡ slotsAfter (viewNode s n) (slotsOf n) (viewNode s n)
+unfolding slotsAfter
+seats-same n e s =
+    sym (ap (seated [])
+    (own-slots (keysOf (viewNode s n)) (slotsOf n)
+    (let a = length-map (map (viewKept s) (used n)) (λ (h : held.Held). h .key) in
+    let b = length-map (used n) (viewKept s) in
+    let c = length-map (used n) (λ (x : Kept). x .slot) in
+    omega arith)
+    (ap (rising keyBelow) (all-keys s (used n)) ∙ sym (rising-keys (λ (x : Kept). x) keptBelow (λ x. viewKey (x .key)) (λ x y. refl) (used n))
+    ∙ ap (rising keptBelow) (same (used n)) ∙ header-rise n e))
+    ∙ seated-all [] (slotsOf n) (slots-in (used n) (header-apart n e)))
+  where
+    same : (l : List Kept) → map (λ (x : Kept). x) l ≡ l
+    same [] = refl
+    same (x ∷ xs) = ap (λ (l : List Kept). x ∷ l) (same xs)
+
+    all-keys : (s : Stores) (l : List Kept) → map (λ (h : held.Held). h .key) (map (viewKept s) l) ≡ map (λ (x : Kept). viewKey (x .key)) l
+    all-keys s [] = refl
+    all-keys s (x ∷ xs) = ap (λ (l : List Key). viewKey (x .key) ∷ l) (all-keys s xs)
+
 -- ---- a map that is taken
+
+keys-taken : (s : Stores) (l : List Taken) → map (λ (h : held.Held). h .key) (map (viewKept s) (map keptOf l)) ≡ map takenKey l
+keys-taken s [] = refl
+keys-taken s (x ∷ xs) = ap (λ (v : List Key). takenKey x ∷ v) (keys-taken s xs)
 
 all-starts : (s : Stores) (l : List Taken) → viewStarts (map startOf l) ≡ show.allStarts (map (viewTaken s) l)
 unfolding viewStarts show.allStarts
@@ -169,6 +228,7 @@ module _ (n : Node) (m : ShardMap) (r : Walked) (w : Walks n m r) where
   taken-full formed q starts = record {
     same = λ s. unfold show.takeMap viewStarts in rw (w .over q s);
     slots = header-apart n formed;
+    seats = seats-same n formed;
   }
 
   fits : r .full ≡ false → (s : Stores) → show.tooMany (shardsAfter s n m) ≡ false
@@ -183,13 +243,15 @@ module _ (n : Node) (m : ShardMap) (r : Walked) (w : Walks n m r) where
   pub taken-whole : r .full ≡ false → (starts : List Start) → take (r .count) starts ≡ map startOf (take (r .count) (r .items))
       → (plain new : List Kept) → take (r .count) plain ≡ map keptOf (take (r .count) (r .items)) → Assigns (take (r .count) plain) (take (r .count) new)
       → slotsOpen (take (r .count) plain) ≡ true
+      → ((s : Stores) → map (λ (x : Kept). x .slot) (take (r .count) plain)
+      ≡ map (slotBefore (keysOf (viewNode s n)) (slotsOf n)) (map takenKey (take (r .count) (r .items))))
       → TakesMap n m (record {
         answer = A.Shown;
         starts = starts;
         count = r .count;
         node = record { id = n .id; incarnation = n .incarnation; expiry = n .expiry; version = m .version; held = new; count = r .count };
       })
-  taken-whole q starts e plain new f a o = record {
+  taken-whole q starts e plain new f a o b = record {
     same = λ s.
         let l = take (r .count) (r .items) in
         let ss = shardsAfter s n m in
@@ -201,6 +263,13 @@ module _ (n : Node) (m : ShardMap) (r : Walked) (w : Walks n m r) where
         ∙ ap (λ (v : List held.Held). record { answer = A.Shown; workers = show.allStarts ss; node = after s v }) shards
         ∙ sym (unfold show.takeMap in rw (fits q s));
     slots = a .slots o;
+    seats = λ s.
+        unfold slotsAfter in
+        (a .seats
+        ∙ ap (seated [])
+        (b s
+        ∙ ap (map (slotBefore (keysOf (viewNode s n)) (slotsOf n)))
+        (sym (ap (map (λ (h : held.Held). h .key)) (a .same s ∙ ap (map (viewKept s)) f) ∙ keys-taken s (take (r .count) (r .items))))));
   }
     where
       after : Stores → List held.Held → held.Node
@@ -213,11 +282,6 @@ module _ (n : Node) (m : ShardMap) (r : Walked) (w : Walks n m r) where
       }
 
 -- ---- a map shown
-
-map-any : {A B : Type 0} (v : A → B) (p : B → Bool) (l : List A) → any p (map v l) ≡ any (λ x. p (v x)) l
-unfolding any
-map-any v p [] = refl
-map-any v p (x ∷ xs) = ap (λ (b : Bool). cond (p (v x)) true b) (map-any v p xs)
 
 module _ (n : Node) (m : ShardMap) (fresh : ℕ) where
   abbrev Lent : Bool → Type 0
@@ -232,31 +296,39 @@ module _ (n : Node) (m : ShardMap) (fresh : ℕ) where
     shown-malformed a f = record {
       same = λ s. unfold calls.shownWith viewStarts in rw (← a s);
       slots = λ e. not-both (formedNode n) e f;
+      seats = λ e. not-both (formedNode n) e f;
+      stays = λ e. refl;
     }
 
     pub shown-older : Lent true → m .version < n .version → ShowsMap n m fresh (record { answer = A.Shown; starts = none; count = 0; node = n })
     shown-older a h = record {
       same = λ s. unfold calls.shownWith show.onMap viewStarts in rw (← a s) (rw (lt-ltb (m .version) (n .version) h));
       slots = λ e. header-apart n e;
+      seats = λ e. seats-same n e;
+      stays = λ e. refl;
     }
 
-    pub shown-dead : Lent true → n .version ≤ m .version → (b : Bool)
+    pub shown-dead : Lent true → formedNode n ≡ true → n .version ≤ m .version → (b : Bool)
         → b ≡ any (deadAt (n .id .0) (n .incarnation)) (take (m .nodes .count) (m .nodes .items)) → b ≡ true → (r : Node) → StartsOver n fresh r
         → ShowsMap n m fresh (record { answer = A.Shown; starts = none; count = 0; node = r })
-    shown-dead a h b d q r x = record {
+    shown-dead a f h b d q r x = record {
       same = λ s.
           unfold calls.shownWith show.onMap viewStarts in
           (ap (λ (v : held.Node). record { answer = A.Shown; workers = []; node = v }) (x .same s)
           ∙ sym (rw (← a s) (rw (le-ltb (m .version) (n .version) h) (rw (dead-is s b d ∙ q)))));
       slots = λ e. x .slots;
+      seats = λ e s. x .seats ∙ sym (ap (slotsAfter (viewNode s n) (slotsOf n)) (x .same s) ∙ (unfold slotsAfter seated in refl));
+      stays = λ e. not-both (formedNode n) f e;
     }
 
-  pub shown-taken : Lent true → n .version ≤ m .version → (b : Bool)
+  pub shown-taken : Lent true → formedNode n ≡ true → n .version ≤ m .version → (b : Bool)
       → b ≡ any (deadAt (n .id .0) (n .incarnation)) (take (m .nodes .count) (m .nodes .items)) → b ≡ false → (r : NodeShown) → TakesMap n m r
       → ShowsMap n m fresh r
-  shown-taken a h b d q r x = record {
+  shown-taken a f h b d q r x = record {
     same = λ s.
         x .same s
         ∙ sym (unfold calls.shownWith show.onMap in rw (← a s) (rw (le-ltb (m .version) (n .version) h) (rw (dead-is s b d ∙ q))));
     slots = λ e. x .slots;
+    seats = λ e. x .seats;
+    stays = λ e. not-both (formedNode n) f e;
   }

@@ -5,7 +5,7 @@ use mathlib.Core.List.{List, [], _∷_, _++_, map}
 use Prim.Native.Nat.{ℕ, zero, suc, _+_, _<_, _≤_}
 use native.Mathlib.Omega.{arith}
 use lib.Dec.{eqb, leb, ltb}
-use lib.ListN.{length, take, getD, set}
+use lib.ListN.{length, take, drop, getD, set, length-map, length-take, List·getD-map}
 use lib.Seq.{length-take-le, getD-take, take-set-lt}
 use borrow.Author.Tests.{eqb-true, eqb-false, ne-eqb, eq-eqb, lt-ltb, le-ltb, lt-leb, ltb-true, leb-false, not-true}
 use Rattle.model.specs.Lists.{_and_, _or_, any, every}
@@ -19,7 +19,8 @@ use Rattle.header.specs.View.{Stores, viewKept}
 use Rattle.header.specs.Formed.{onSlot, slotsFit}
 use Rattle.header.specs.Grow.{lowestFree}
 use Rattle.header.proofs.OfGrow.{none-tail, none-cons, view-bare, slot-left-open, slot-free-open}
-use Rattle.shown.specs.Slots.{slottedAt, openFits, slotsOpen, Assigns}
+use Rattle.shown.specs.Slots.{slottedAt, openFits, slotsOpen, seated, Assigns}
+use Rattle.shown.proofs.OfSeats.{seated-on, seated-set, seated-end}
 
 abbrev pub slotIn : Kept → Bool
 slotIn x = ltb (x .slot) maxHeld
@@ -113,19 +114,33 @@ open-fits (x ∷ xs) e f =
 
 -- ---- the loop
 
+abbrev slots : List Kept → List ℕ
+slots l = map (λ (x : Kept). x .slot) l
+
+slot-row : (l : List Kept) (i : ℕ) (d : Kept) → getD (slots l) i (d .slot) ≡ getD l i d .slot
+slot-row l i d = List·getD-map (λ (x : Kept). x .slot) l i d
+
 pub record Assigning (old new : List Kept) (count i : ℕ) : Type 0 where
   pub opens : every openFits (take count new) ≡ true
   pub same : (s : Stores) → map (viewKept s) (take count new) ≡ map (viewKept s) (take count old)
   pub apart : slotsOpen (take count old) ≡ true → slotsOpen (take count new) ≡ true
   pub done : every slotIn (take i new) ≡ true
+  pub seats : seated [] (slots (take count old)) ≡ seated (take i (slots (take count new))) (drop i (slots (take count new)))
 
 pub assign-start : (l : List Kept) (count : ℕ) → every openFits (take count l) ≡ true → Assigning l l count 0
 unfolding every
-assign-start l count e = record { opens = e; same = λ s. refl; apart = λ q. q; done = refl }
+assign-start l count e = record { opens = e; same = λ s. refl; apart = λ q. q; done = refl; seats = refl }
 
 module _ (old new : List Kept) (count i : ℕ) (le : count ≤ length new) (few : count ≤ 8) (h : i < count) (d : Kept) (a : Assigning old new count i) where
   abbrev at : Kept
   at = getD new i d
+
+  -- its slot among the slots
+  among : i < length (slots (take count new))
+  among = let a = length-map (take count new) (λ (x : Kept). x .slot) in let b = length-take-le count new le in omega arith
+
+  its : getD (slots (take count new)) i (d .slot) ≡ at .slot
+  its = slot-row (take count new) i d ∙ ap (λ (x : Kept). x .slot) (getD-take count new i d h)
 
   pub assign-on : at .slot < 8 → Assigning old new count (i + 1)
   assign-on q = record {
@@ -133,6 +148,7 @@ module _ (old new : List Kept) (count i : ℕ) (le : count ≤ length new) (few 
     same = a .same;
     apart = a .apart;
     done = ap (every slotIn) (take-next new i d (omega arith)) ∙ every-snoc slotIn (take i new) at (a .done) (lt-ltb (at .slot) maxHeld q);
+    seats = a .seats ∙ seated-on (slots (take count new)) i among (d .slot) (let e = its in omega arith);
   }
 
   module _ (out : 8 ≤ at .slot) (slot : ℕ) (is : slot ≡ lowestFree (take count new)) where
@@ -173,6 +189,9 @@ module _ (old new : List Kept) (count i : ℕ) (le : count ≤ length new) (few 
               ∙ ap (map (viewKept s)) (set-same (take count new) i d) ∙ a .same s;
           apart = λ q. ap slotsOpen t ∙ open-set (take count new) i y alone (a .apart q);
           done = ap (every slotIn) (take-put new i y (omega arith)) ∙ every-snoc slotIn (take i new) y (a .done) (lt-ltb slot maxHeld left);
+          seats = a .seats
+              ∙ seated-set (slots (take count new)) i among (d .slot) (let e = its in omega arith) slot is
+              ∙ ap (λ (l : List ℕ). seated (take (i + 1) l) (drop (i + 1) l)) (sym (ap slots t ∙ map-set (λ (x : Kept). x .slot) (take count new) i y));
         }
 
 pub assign-end : (old new : List Kept) (count i : ℕ) → count ≤ i → i ≤ count → Assigning old new count i → Assigns (take count old) (take count new)
@@ -181,4 +200,6 @@ assign-end old new count i h k a =
     record {
       same = a .same;
       slots = λ e. open-fits (take count new) (a .apart e) (subst (λ (j : ℕ). every slotIn (take j new) ≡ true) q (a .done));
+      seats = sym (a .seats ∙ seated-end (slots (take count new)) i
+          (let z = length-map (take count new) (λ (x : Kept). x .slot) in let w = length-take count new in omega arith));
     }

@@ -36,6 +36,7 @@ use Rattle.shown.specs.declared.Taken.{Taken}
 use Rattle.shown.specs.Rows.{viewTaken, keptOf, SlotFrom, listedShown, Overworks}
 use Rattle.shown.specs.Walks.{Walks}
 use Rattle.shown.proofs.OfSlots.{or-right}
+use Rattle.shown.proofs.OfKeys.{rising-less}
 
 -- ---- lists
 
@@ -63,25 +64,6 @@ grown {A} {B} f xs n x m h =
     ap (λ (l : List A). map f l ++ m) (take-put xs n x h)
     ∙ ap (λ (l : List B). l ++ m) (map-append f (take n xs) (x ∷ []))
     ∙ append-assoc (map f (take n xs)) (f x ∷ []) m
-
--- a rising list without one of its elements
-pub rising-tail : (k : Key) (l : List Key) → rising keyBelow (k ∷ l) ≡ true → rising keyBelow l ≡ true
-unfolding rising
-rising-tail k [] e = refl
-rising-tail k (b ∷ bs) e = and-right (keyBelow k b) (rising keyBelow (b ∷ bs)) e
-
-rising-less : (a : List Key) (k : Key) (b : List Key) → rising keyBelow (a ++ (k ∷ b)) ≡ true → rising keyBelow (a ++ b) ≡ true
-unfolding rising
-rising-less [] k b e = rising-tail k b e
-rising-less (x ∷ []) k [] e = refl
-rising-less (x ∷ []) k (y ∷ ys) e =
-    let r = and-right (keyBelow x k) (keyBelow k y and rising keyBelow (y ∷ ys)) e in
-    and-true (keyBelow x y) (rising keyBelow (y ∷ ys))
-    (keys .along x k y (and-left (keyBelow x k) (keyBelow k y and rising keyBelow (y ∷ ys)) e) (and-left (keyBelow k y) (rising keyBelow (y ∷ ys)) r))
-    (and-right (keyBelow k y) (rising keyBelow (y ∷ ys)) r)
-rising-less (x ∷ z ∷ zs) k b e =
-    and-true (keyBelow x z) (rising keyBelow (z ∷ (zs ++ b))) (and-left (keyBelow x z) (rising keyBelow (z ∷ (zs ++ (k ∷ b)))) e)
-    (rising-less (z ∷ zs) k b (and-right (keyBelow x z) (rising keyBelow (z ∷ (zs ++ (k ∷ b)))) e))
 
 -- ---- the walk
 

@@ -1,12 +1,12 @@
 -- What a map's rows promise: what is read of one row, and of a shard that lists this node. Definitions only.
-use Prim.Native.Nat.{ℕ, _<_}
+use Prim.Native.Nat.{ℕ, _<_, _≤_}
 use mathlib.Core.Bool.{Bool, true, false, not}
 use mathlib.Core.Path.{_≡_}
 use mathlib.Core.List.{List, [], map}
 use mathlib.Core.Option.{Option, none, some}
 use lib.Dec.{eqb}
 use lib.ListN.{take, getD}
-use Rattle.model.specs.Lists.{_and_}
+use Rattle.model.specs.Lists.{_and_, lead}
 use Rattle.model.specs.Limits.{maxHeld}
 use Rattle.model.specs.Keys as keys
 use Rattle.model.specs.Log.{Log, Vectors}
@@ -28,7 +28,7 @@ use Rattle.state.specs.Names.{viewName, viewKey}
 use Rattle.state.specs.View.{viewShard, viewCollections}
 use Rattle.header.specs.declared.Kept.{Kept}
 use Rattle.header.specs.declared.Node.{Node}
-use Rattle.header.specs.View.{Stores, viewKept, viewNode, noKept}
+use Rattle.header.specs.View.{Stores, viewKept, viewNode, used, otherKey, noKept}
 use Rattle.shown.specs.declared.Start.{Start}
 use Rattle.shown.specs.declared.Taken.{Taken}
 use Rattle.shown.specs.declared.RowShown.{RowShown}
@@ -95,10 +95,15 @@ pub record TakesAs (me slot stored : ℕ) (h : Held) (row : ShardRow) (metric : 
   pub last : r .taken .kept .held .last ≡ h .last
   pub key : r .taken .kept .key ≡ row .key
 
+-- the place of a key's shard, or the count
+abbrev pub placeOf : Node → keys.Key → ℕ
+placeOf n k = lead (otherKey k) (used n)
+
 -- the slot of a shard held after: that of the same shard before, or none yet for one that begins
 pub data SlotFrom (n : Node) (y : Kept) : Type 0 where
-  opens : y .slot ≡ maxHeld → y .held .last ≡ 0 → y .stored ≡ 0 → SlotFrom n y
-  stays : (q : ℕ) → q < n .count → getD (n .held) q noKept .slot ≡ y .slot → viewKey (getD (n .held) q noKept .key) ≡ viewKey (y .key) → SlotFrom n y
+  opens : n .count ≤ placeOf n (viewKey (y .key)) → y .slot ≡ maxHeld → y .held .last ≡ 0 → y .stored ≡ 0 → SlotFrom n y
+  stays : (q : ℕ) → q ≡ placeOf n (viewKey (y .key)) → q < n .count → getD (n .held) q noKept .slot ≡ y .slot
+      → viewKey (getD (n .held) q noKept .key) ≡ viewKey (y .key) → SlotFrom n y
 
 -- the definition's answer for a shard that lists this node
 abbrev pub listedShown : Stores → Node → tables.Map → ShardRow → Option show.Showing

@@ -1,7 +1,7 @@
 -- What a map shown promises: the answer, with paper 01's number, the workers to start, and the node after are those of the definition,
--- whatever its stores hold; and every shard held after has a slot of its own. Definitions only.
+-- whatever its stores hold; and every shard held after has a slot of its own, which the shards before and their slots give. Definitions only.
 use Prim.Native.Nat.{ℕ}
-use mathlib.Core.Bool.{true}
+use mathlib.Core.Bool.{true, false}
 use mathlib.Core.Path.{_≡_}
 use mathlib.Core.List.{List, [], _∷_, _++_}
 use lib.ListN.{take}
@@ -15,11 +15,13 @@ use Rattle.state.specs.View.{viewMap}
 use Rattle.header.specs.declared.Node.{Node}
 use Rattle.header.specs.View.{Stores, viewNode, used}
 use Rattle.header.specs.Formed.{lentNode, formedNode, slotsFit}
+use Rattle.header.specs.Seats.{slotsOf, SameSlots}
 use Rattle.shown.specs.declared.Start.{Start}
 use Rattle.shown.specs.declared.ShownAnswer.{ShownAnswer}
 use Rattle.shown.specs.declared.ShownAnswer.the-variants as A
 use Rattle.shown.specs.declared.NodeShown.{NodeShown}
 use Rattle.shown.specs.Rows.{viewStart}
+use Rattle.shown.specs.Slots.{slotsAfter}
 
 -- the workers to start, by shard and then by node
 unfoldable pub viewStarts : List Start → List show.Worker
@@ -50,12 +52,17 @@ viewShown s r = record { answer = r .answer; workers = viewStarts (take (r .coun
 pub record StartsOver (n : Node) (fresh : ℕ) (r : Node) : Type 0 where
   pub same : (s : Stores) → viewNode s r ≡ held.emptyNode (n .id .0) fresh
   pub slots : slotsFit (used r) ≡ true
+  pub seats : slotsOf r ≡ []
 
 -- internal: past the first checks
 pub record TakesMap (n : Node) (m : ShardMap) (r : NodeShown) : Type 0 where
   pub same : (s : Stores) → viewShown s r ≡ shownTold (show.takeMap (viewNode s n) (viewMap m))
   pub slots : slotsFit (used (r .node)) ≡ true
+  pub seats : (s : Stores) → slotsOf (r .node) ≡ slotsAfter (viewNode s n) (slotsOf n) (viewNode s (r .node))
 
+-- a malformed header comes back as it was
 pub record ShowsMap (n : Node) (m : ShardMap) (fresh : ℕ) (r : NodeShown) : Type 0 where
   pub same : (s : Stores) → viewShown s r ≡ shownTold (calls.shownWith (lentNode s n) (viewNode s n) fresh (viewMap m))
   pub slots : formedNode n ≡ true → slotsFit (used (r .node)) ≡ true
+  pub seats : formedNode n ≡ true → (s : Stores) → slotsOf (r .node) ≡ slotsAfter (viewNode s n) (slotsOf n) (viewNode s (r .node))
+  pub stays : formedNode n ≡ false → SameSlots n (r .node)

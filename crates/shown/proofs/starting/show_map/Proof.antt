@@ -31,13 +31,13 @@ started-over-requires : tie.Need-started-over-requires
 started-over-requires c κs = search needs
 
 returns-2 : tie.Need-returns-2
-returns-2 c = shown-dead (c .before .before .before .before .before .before .before .before .before .before .before .before .args .n) (c .before .before .before .before .before .before .before .before .before .before .before .before .args .m) (c .before .before .before .before .before .before .before .before .before .before .before .before .args .fresh) _ (λ s. sym (c .before .before .before .before .before .before .before .before .if1 .taken) ∙ c .before .before .before .before .before .before .before .before .before .formed-node .ensures .same s) (c .before .before .before .before .before .if2 .left) (c .before .before .dead-in .result) (c .before .before .dead-in .ensures) (c .before .if3 .taken) (c .started-over .result) (c .started-over .ensures)
+returns-2 c = shown-dead (c .before .before .before .before .before .before .before .before .before .before .before .before .args .n) (c .before .before .before .before .before .before .before .before .before .before .before .before .args .m) (c .before .before .before .before .before .before .before .before .before .before .before .before .args .fresh) _ (λ s. sym (c .before .before .before .before .before .before .before .before .if1 .taken) ∙ c .before .before .before .before .before .before .before .before .before .formed-node .ensures .same s) (sym (c .before .before .before .before .before .before .before .before .before .formed-node .ensures .plain) ∙ c .before .before .before .before .before .before .before .before .if1 .taken) (c .before .before .before .before .before .if2 .left) (c .before .before .dead-in .result) (c .before .before .dead-in .ensures) (c .before .if3 .taken) (c .started-over .result) (c .started-over .ensures)
 
 take-map-requires : tie.Need-take-map-requires
 take-map-requires c κs = (sym (c .before .before .before .before .before .before .before .before .formed-node .ensures .plain) ∙ c .before .before .before .before .before .before .before .if1 .taken, c .before .before .before .before .before .before .before .before .before .before .before .pre .0, c .before .before .before .before .before .before .before .before .before .before .before .pre .1)
 
 returns-3 : tie.Need-returns-3
-returns-3 c = shown-taken (c .before .before .before .before .before .before .before .before .before .before .before .before .args .n) (c .before .before .before .before .before .before .before .before .before .before .before .before .args .m) (c .before .before .before .before .before .before .before .before .before .before .before .before .args .fresh) (λ s. sym (c .before .before .before .before .before .before .before .before .if1 .taken) ∙ c .before .before .before .before .before .before .before .before .before .formed-node .ensures .same s) (c .before .before .before .before .before .if2 .left) (c .before .before .dead-in .result) (c .before .before .dead-in .ensures) (c .before .if3 .left) (c .take-map .result) (c .take-map .ensures)
+returns-3 c = shown-taken (c .before .before .before .before .before .before .before .before .before .before .before .before .args .n) (c .before .before .before .before .before .before .before .before .before .before .before .before .args .m) (c .before .before .before .before .before .before .before .before .before .before .before .before .args .fresh) (λ s. sym (c .before .before .before .before .before .before .before .before .if1 .taken) ∙ c .before .before .before .before .before .before .before .before .before .formed-node .ensures .same s) (sym (c .before .before .before .before .before .before .before .before .before .formed-node .ensures .plain) ∙ c .before .before .before .before .before .before .before .before .if1 .taken) (c .before .before .before .before .before .if2 .left) (c .before .before .dead-in .result) (c .before .before .dead-in .ensures) (c .before .if3 .left) (c .take-map .result) (c .take-map .ensures)
 
 returns-4 : tie.Need-returns-4
 returns-4 c = shown-malformed (c .before .before .before .before .args .n) (c .before .before .before .before .args .m) (c .before .before .before .before .args .fresh) _ (λ s. sym (c .if1 .left) ∙ c .before .formed-node .ensures .same s) (sym (c .before .formed-node .ensures .plain) ∙ c .if1 .left)

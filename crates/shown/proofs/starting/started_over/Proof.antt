@@ -12,7 +12,7 @@ use Rattle.shown.proofs.starting.started_over.Lts as lts
 
 returns : tie.Need-returns
 unfolding slotsFit
-returns c = record { same = λ s. refl; slots = refl }
+returns c = record { same = λ s. refl; slots = refl; seats = refl }
 
 pub started-over-spec : {M : Type 1} → statement M
 started-over-spec = tie.close (tie.spec returns)

@@ -3,7 +3,7 @@ use Rattle.model.proofs.Map.WellFormed.{map-parts}
 use Rattle.state.specs.View.{viewMap}
 use Rattle.state.proofs.Tables.{of-field}
 use Rattle.header.proofs.OfFormed.{header-few, header-apart}
-use Rattle.shown.proofs.OfShown.{walked-open, walked-apart, taken-full, taken-whole}
+use Rattle.shown.proofs.OfShown.{walked-open, walked-apart, walked-seats, taken-full, taken-whole}
 use native.Mathlib.Omega.{arith}
 use mathlib.Core.Path.{_≡_, refl, sym, _∙_, ap}
 use mathlib.Core.List.{List, [], _∷_, _++_}
@@ -41,7 +41,7 @@ assigned-requires : tie.Need-assigned-requires
 assigned-requires c κs = (c .before .before .before .before .walk .ensures .few, walked-open (c .before .before .before .before .before .args .n) (fits (c .before .before .before .before .before)) (header-apart (c .before .before .before .before .before .args .n) (c .before .before .before .before .before .pre .0)) (c .before .before .before .before .before .args .m) (c .before .before .before .before .walk .result) (c .before .before .before .before .walk .ensures) (c .kepts-of .result) (c .kepts-of .ensures))
 
 returns-2 : tie.Need-returns-2
-returns-2 c = taken-whole (c .before .before .before .before .before .before .before .args .n) (c .before .before .before .before .before .before .before .args .m) (c .before .before .before .before .before .before .walk .result) (c .before .before .before .before .before .before .walk .ensures) (c .before .before .before .if1 .left) (c .before .before .before .before .starts-of .result) (c .before .before .before .before .starts-of .ensures) (c .before .before .kepts-of .result) (c .before .assigned .result) (c .before .before .kepts-of .ensures) (c .before .assigned .ensures) (walked-apart (c .before .before .before .before .before .before .before .args .n) (fits (c .before .before .before .before .before .before .before)) (header-apart (c .before .before .before .before .before .before .before .args .n) (c .before .before .before .before .before .before .before .pre .0)) (c .before .before .before .before .before .before .before .args .m) (c .before .before .before .before .before .before .walk .result) (c .before .before .before .before .before .before .walk .ensures) (c .before .before .kepts-of .result) (c .before .before .kepts-of .ensures) (c .before .before .before .if1 .left) (map-parts (viewMap (c .before .before .before .before .before .before .before .args .m)) (c .before .before .before .before .before .before .before .pre .2) .2 .1))
+returns-2 c = taken-whole (c .before .before .before .before .before .before .before .args .n) (c .before .before .before .before .before .before .before .args .m) (c .before .before .before .before .before .before .walk .result) (c .before .before .before .before .before .before .walk .ensures) (c .before .before .before .if1 .left) (c .before .before .before .before .starts-of .result) (c .before .before .before .before .starts-of .ensures) (c .before .before .kepts-of .result) (c .before .assigned .result) (c .before .before .kepts-of .ensures) (c .before .assigned .ensures) (walked-apart (c .before .before .before .before .before .before .before .args .n) (fits (c .before .before .before .before .before .before .before)) (header-apart (c .before .before .before .before .before .before .before .args .n) (c .before .before .before .before .before .before .before .pre .0)) (c .before .before .before .before .before .before .before .args .m) (c .before .before .before .before .before .before .walk .result) (c .before .before .before .before .before .before .walk .ensures) (c .before .before .kepts-of .result) (c .before .before .kepts-of .ensures) (c .before .before .before .if1 .left) (map-parts (viewMap (c .before .before .before .before .before .before .before .args .m)) (c .before .before .before .before .before .before .before .pre .2) .2 .1)) (walked-seats (c .before .before .before .before .before .before .before .args .n) (fits (c .before .before .before .before .before .before .before)) (header-apart (c .before .before .before .before .before .before .before .args .n) (c .before .before .before .before .before .before .before .pre .0)) (c .before .before .before .before .before .before .before .args .m) (c .before .before .before .before .before .before .walk .result) (c .before .before .before .before .before .before .walk .ensures) (c .before .before .kepts-of .result) (c .before .before .kepts-of .ensures))
 
 pub take-map-spec : {M : Type 1} → statement M
 take-map-spec =
