@@ -39,6 +39,7 @@ use Rattle.shown.specs.declared.NodeShown.{NodeShown}
 use Rattle.shown.specs.declared.ShownAnswer.{ShownAnswer}
 use Rattle.shown.specs.declared.ShownAnswer.the-variants as S
 use Rattle.shown.specs.Shows.{viewStarts, shownWord, ShownTold, shownTold, ShowsMap}
+use Rattle.shown.proofs.OfShown.{seats-same}
 use Rattle.hears.specs.declared.Heard.{Heard}
 use Rattle.hears.specs.declared.Heard.the-variants as H
 use Rattle.hears.specs.Hears.{HearsMap, heardOf, HearsReply}
@@ -72,6 +73,8 @@ module _ (n : Node) (m : ShardMap) (fresh : ℕ) where
         e .same s
         ∙ ap (λ (b : Bool). shownTold (calls.shownWith b (viewNode s n) fresh (viewMap m))) (sym (and-on (lentNode s n) (wellFormedLent m) w));
     slots = e .slots;
+    seats = e .seats;
+    stays = e .stays;
   }
 
   pub map-malformed : wellFormedLent m ≡ false → (free : List Start)
@@ -79,6 +82,8 @@ module _ (n : Node) (m : ShardMap) (fresh : ℕ) where
   map-malformed w free = record {
     same = λ s. unfold calls.shownWith viewStarts in rw (and-off (lentNode s n) (wellFormedLent m) w);
     slots = λ e. header-apart n e;
+    seats = λ e. seats-same n e;
+    stays = λ e. refl;
   }
 
   -- 23 or 24: the node after is the node before

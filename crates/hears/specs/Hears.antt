@@ -1,7 +1,7 @@
 -- What the two calls promise: the answer, with paper 01's number and values for each case, the workers to start, and the node after are
 -- those of model's definitions, whatever the stores hold (they are not lent). Definitions only.
 use Prim.Native.Nat.{ℕ}
-use mathlib.Core.Bool.{true}
+use mathlib.Core.Bool.{true, false}
 use mathlib.Core.Path.{_≡_}
 use mathlib.Core.List.{List}
 use mathlib.Core.Option.{Option, none, some}
@@ -20,17 +20,21 @@ use Rattle.header.specs.declared.Node.{Node}
 use Rattle.header.specs.declared.NodeAcked.{NodeAcked}
 use Rattle.header.specs.View.{Stores, viewNode, used}
 use Rattle.header.specs.Formed.{lentNode, formedNode, slotsFit}
+use Rattle.header.specs.Seats.{slotsOf, SameSlots}
 use Rattle.header.specs.Answers.{told, viewAcked}
 use Rattle.shown.specs.declared.NodeShown.{NodeShown}
+use Rattle.shown.specs.Slots.{slotsAfter}
 use Rattle.shown.specs.Shows.{shownTold, viewShown}
 use Rattle.hears.specs.declared.Heard.{Heard}
 use Rattle.hears.specs.declared.Heard.the-variants as H
 
--- ---- map shown: 24 for a malformed header and for a malformed map
+-- ---- map shown: 24 for a malformed header and for a malformed map. The slots after are those that the shards before and their slots give
 
 pub record HearsMap (n : Node) (m : ShardMap) (fresh : ℕ) (r : NodeShown) : Type 0 where
   pub same : (s : Stores) → viewShown s r ≡ shownTold (calls.shownWith (lentNode s n and wellFormedLent m) (viewNode s n) fresh (viewMap m))
   pub slots : formedNode n ≡ true → slotsFit (used (r .node)) ≡ true
+  pub seats : formedNode n ≡ true → (s : Stores) → slotsOf (r .node) ≡ slotsAfter (viewNode s n) (slotsOf n) (viewNode s (r .node))
+  pub stays : formedNode n ≡ false → SameSlots n (r .node)
 
 -- ---- ack: the reply in bytes
 

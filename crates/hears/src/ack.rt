@@ -2,7 +2,7 @@
 ghost use mathlib.Core.Path.{_≡_};
 ghost use Rattle.model.specs.Layout.Message.{decodeReply};
 ghost use Rattle.state.specs.Names.{viewKey};
-ghost use Rattle.header.specs.Arrays.{Fitting};
+ghost use Rattle.header.specs.Seats.{Keeps};
 ghost use Rattle.hears.specs.Hears.{heardOf, HearsReply};
 use crate::Heard;
 use header::Node;
@@ -39,7 +39,7 @@ pub fn ack(
     reply: &[u8],
 ) -> NodeAcked
     ensures { λ r. ⌜ HearsReply n (viewKey key) (epoch .0) (peer .0) sent (now (reply .entry)) r ⌝ }
-    ensures { λ r. ⌜ Fitting n (r .node) ⌝ }
+    ensures { λ r. ⌜ Keeps n (r .node) ⌝ }
 {
     let h = reply_of(reply);
     let Heard::Reply(a) = h else {

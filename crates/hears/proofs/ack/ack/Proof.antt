@@ -1,6 +1,7 @@
 use borrow.Author.Needs.{needs}
 use mathlib.Core.Path.{sym, _∙_}
 use Rattle.state.specs.Names.{viewKey}
+use Rattle.header.proofs.OfArrays.{keeps-all}
 use Rattle.hears.proofs.OfHears.{ack-unread, ack-read}
 use Rattle.hears.proofs.ack.ack.Statement.{statement}
 use Rattle.hears.proofs.ack.ack.Tie as tie
@@ -15,7 +16,7 @@ enum-told : tie.Need-enum-told
 enum-told c = search needs
 
 returns : tie.Need-returns
-returns c = let a = c .before .before .before .before .args in (ack-unread (a .n) (viewKey (a .key)) (a .epoch .0) (a .peer .0) (a .sent) (a .reply .now) (sym (c .before .before .reply-of .ensures) ∙ c .enum-told .given .1), λ e. e)
+returns c = let a = c .before .before .before .before .args in (ack-unread (a .n) (viewKey (a .key)) (a .epoch .0) (a .peer .0) (a .sent) (a .reply .now) (sym (c .before .before .reply-of .ensures) ∙ c .enum-told .given .1), keeps-all (a .n))
 
 ack-requires : tie.Need-ack-requires
 ack-requires c κs = search needs
