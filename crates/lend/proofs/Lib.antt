@@ -1,3 +1,4 @@
 pub mod OfKeys
 pub mod OfLend
 pub mod OfPut
+pub mod OfSeats

@@ -1,54 +1,25 @@
--- Laws of a shard that is put back after a call on it: its slot stays, what is put back unchanged leaves the header, and its store is
--- well formed with what the header says. Assumes nothing.
-use Prim.Native.Nat.{ℕ, zero, suc, _<_, _≤_}
+-- Laws of a shard that is put back after a call on it: what is put back unchanged leaves the header, and its store is well formed with what
+-- the header says. Its slot: OfSeats. Assumes nothing.
+use Prim.Native.Nat.{ℕ, _≤_}
 use mathlib.Core.Path.{_≡_, sym, ap, subst, _∙_}
-use mathlib.Core.Bool.{Bool, true, cond, not}
-use mathlib.Core.List.{List, [], _∷_}
+use mathlib.Core.Bool.{true}
 use native.Mathlib.Omega.{arith}
-use lib.Dec.{eqb, ltb}
-use lib.ListN.{length, getD, set}
-use lib.Seq.{take-set-lt, length-take-le, getD-take, getD-set-same, set-getD}
+use lib.Dec.{ltb}
+use lib.ListN.{getD, set}
+use lib.Seq.{getD-set-same, set-getD}
 use borrow.Author.Tests.{le-ltb}
-use Rattle.model.specs.Lists.{_and_, any}
-use Rattle.model.specs.Limits.{maxHeld}
 use Rattle.model.specs.Keys.{Key}
 use Rattle.model.proofs.Lists.{not-both}
 use Rattle.node.specs.declared.Held.{Held}
 use Rattle.shard.specs.Store.{Store, Sized, wellFormedStore}
 use Rattle.header.specs.declared.Kept.{Kept}
 use Rattle.header.specs.declared.Node.{Node}
-use Rattle.header.specs.View.{used, noKept, withKepts}
-use Rattle.header.specs.Formed.{onSlot, slotsFit}
+use Rattle.header.specs.View.{noKept, withKepts}
 use Rattle.lend.specs.Lend.{Lot, storeIn, storeOf, placeOf, Found, keptWith, withStore, Whole}
 
 -- the columns of a store
 abbrev pub lotOf : Store → Lot
 lotOf s = record { columns = s .columns; keys = s .keys; places = s .places }
-
--- ---- the slots fit as before
-
-any-set : (q : ℕ) (l : List Kept) (at : ℕ) (y : Kept) → at < length l → y .slot ≡ getD l at noKept .slot
-    → any (onSlot q) (set l at y) ≡ any (onSlot q) l
-unfolding any
-any-set q [] at y h e = absurd (omega arith)
-any-set q (x ∷ xs) zero y h e = ap (λ (i : ℕ). cond (eqb i q) true (any (onSlot q) xs)) e
-any-set q (x ∷ xs) (suc i) y h e = ap (λ (b : Bool). cond (eqb (x .slot) q) true b) (any-set q xs i y (omega arith) e)
-
-slots-set : (l : List Kept) (at : ℕ) (y : Kept) → at < length l → y .slot ≡ getD l at noKept .slot → slotsFit (set l at y) ≡ slotsFit l
-unfolding slotsFit
-slots-set [] at y h e = absurd (omega arith)
-slots-set (x ∷ xs) zero y h e = ap (λ (i : ℕ). ltb i maxHeld and not (any (onSlot i) xs) and slotsFit xs) e
-slots-set (x ∷ xs) (suc i) y h e =
-    ap (λ (b : Bool). ltb (x .slot) maxHeld and not b and slotsFit (set xs i y)) (any-set (x .slot) xs i y (omega arith) e)
-    ∙ ap (λ (b : Bool). ltb (x .slot) maxHeld and not (any (onSlot (x .slot)) xs) and b) (slots-set xs i y (omega arith) e)
-
-pub slots-kept : (n : Node) (at : ℕ) (h : Held) (stored : ℕ) → n .count ≤ length (n .held) → at < n .count
-    → slotsFit (used (withStore n at h stored)) ≡ slotsFit (used n)
-slots-kept n at h stored inside under =
-    let y = keptWith (getD (n .held) at noKept) h stored in
-    let size = length-take-le (n .count) (n .held) inside in
-    ap slotsFit (take-set-lt (n .count) (n .held) at y under)
-    ∙ slots-set (used n) at y (omega arith) (ap (λ (x : Kept). x .slot) (sym (getD-take (n .count) (n .held) at noKept under)))
 
 -- ---- a shard that is put back as it was
 
