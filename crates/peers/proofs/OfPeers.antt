@@ -34,6 +34,7 @@ use Rattle.backup.specs.Backs as backs
 use Rattle.header.specs.declared.Node.{Node}
 use Rattle.header.specs.View.{Stores, viewNode, used, noKept}
 use Rattle.header.specs.Formed.{slotsFit}
+use Rattle.header.specs.Seats.{SameSlots}
 use Rattle.header.specs.Answers.{told}
 use Rattle.header.proofs.OfFormed.{header-apart}
 use Rattle.header.proofs.OfShards.{shard-none, shard-some}
@@ -42,20 +43,22 @@ use Rattle.peers.specs.declared.PeerReply.the-variants as P
 use Rattle.lend.specs.declared.Lent.the-variants as L
 use Rattle.lend.specs.declared.Lent as found
 use Rattle.lend.specs.Named.{keyIn}
-use Rattle.lend.specs.Lend.{Lot, storeIn, storeOf, lentFor, slotOf, Finds, Found, withStore, Whole}
-use Rattle.peers.specs.Peers.{word, turnedDown, Serves, ReplicateNames, ReplicateSlot, ReplicatesAt, CopyNames, CopySlot, CopiesAt}
+use Rattle.lend.specs.Lend.{Lot, storeIn, storeOf, placeOf, lentFor, slotOf, Finds, Found, withStore, Whole}
+use Rattle.peers.specs.Peers.{word, turnedDown, Serves, Seated, ReplicateNames, ReplicateSlot, ReplicatesAt, CopyNames, CopySlot, CopiesAt}
 use Rattle.peers.proofs.OfNamed.{replicate-key, copy-key}
 use Rattle.lend.proofs.OfLend.{few-held, slot-held, call-store, node-view}
-use Rattle.lend.proofs.OfPut.{lotOf, slots-kept, put-same, whole-put, whole-gone}
+use Rattle.lend.proofs.OfPut.{lotOf, put-same, whole-put, whole-gone}
+use Rattle.lend.proofs.OfSeats.{seats-kept, seats-fit}
 
 -- the lent store and the header stay
-pub unchanged : (call : (Key → Bool) → held.Node → Result BackupAnswer held.Node) (lends : ℕ → Type 0) (names : Key → Type 0) (n : Node) (a : Lot)
-    (w : PeerReply) → turnedDown w ≡ true
+pub unchanged : (call : (Key → Bool) → held.Node → Result BackupAnswer held.Node) (lends : ℕ → Type 0) (names : Key → Type 0)
+    (seated : PeerReply → Node → Type 0) (n : Node) (a : Lot) (w : PeerReply) → turnedDown w ≡ true → seated w n
     → ((s : Stores) → record { answer = w; node = viewNode s n } ≡ told word (call (lentFor s n a) (viewNode s n)))
-    → Serves call lends names n a a (record { answer = w; node = n })
-unchanged call lends names n a w down e = record {
+    → Serves call lends names seated n a a (record { answer = w; node = n })
+unchanged call lends names seated n a w down seats e = record {
   same = λ s t slot l c. ap (λ (v : held.Node). record { answer = w; node = v }) (node-view s t slot a c n) ∙ e s;
   kept = λ z. (refl, refl);
+  seats = seats;
   slots = header-apart n;
   whole = λ z k i. not-both (turnedDown w) down z;
 }
@@ -74,22 +77,27 @@ abbrev pub atOf : (Key → Bool) → held.Node → Key → Bool → Result Backu
 atOf lent v k fine rest =
     cond (not fine) (gives (backupRefused outsideDomain) v) (cond (not (lent k)) (gives (backupRefused malformed) v) rest)
 
-pub record Reading (call : (Key → Bool) → held.Node → Result BackupAnswer held.Node) (lends : ℕ → Type 0) (names : Key → Type 0) (n : Node) (key : Key)
-    (fine : Bool) (rest : held.Node → Result BackupAnswer held.Node) (does : held.Held → Result BackupAnswer held.Held) : Type 0 where
+pub record Reading (call : (Key → Bool) → held.Node → Result BackupAnswer held.Node) (lends : ℕ → Type 0) (names : Key → Type 0)
+    (seated : PeerReply → Node → Type 0) (n : Node) (key : Key) (fine : Bool) (rest : held.Node → Result BackupAnswer held.Node)
+    (does : held.Held → Result BackupAnswer held.Held) : Type 0 where
   pub shape : (lent : Key → Bool) (v : held.Node) → call lent v ≡ atOf lent v key fine (rest v)
   pub there : (v : held.Node) (h : held.Held) → shardOf v key ≡ some h → rest v ≡ atShard v key unheld does
   pub slot : (i : ℕ) → lends i → i ≡ slotOf n key
   pub named : (k : Key) → names k → k ≡ key
+  -- turned down, or at a held shard, the slots stay
+  pub down : (w : PeerReply) → turnedDown w ≡ true → seated w n
+  pub stay : placeOf n key < n .count → (w : PeerReply) (p : Node) → SameSlots n p → seated w p
 
-module _ (call : (Key → Bool) → held.Node → Result BackupAnswer held.Node) (lends : ℕ → Type 0) (names : Key → Type 0) (n : Node) (a : Lot) (key : Key)
-    (fine : Bool) (rest : held.Node → Result BackupAnswer held.Node) (does : held.Held → Result BackupAnswer held.Held)
-    (z : Reading call lends names n key fine rest does) where
+module _ (call : (Key → Bool) → held.Node → Result BackupAnswer held.Node) (lends : ℕ → Type 0) (names : Key → Type 0)
+    (seated : PeerReply → Node → Type 0) (n : Node) (a : Lot) (key : Key) (fine : Bool) (rest : held.Node → Result BackupAnswer held.Node)
+    (does : held.Held → Result BackupAnswer held.Held) (z : Reading call lends names seated n key fine rest does) where
   -- what holds of the key, of each that the message names
   of-named : (p : Node) (b : Lot) → Whole n p b key → (k : Key) → names k → Whole n p b k
   of-named p b w k i = subst (Whole n p b) (sym (z .named k i)) w
 
-  pub outside : (b : Bool) → b ≡ fine → b ≡ false → Serves call lends names n a a (record { answer = P.Refused 22; node = n })
-  outside b q e = unchanged call lends names n a (P.Refused 22) refl (λ s. rw (z .shape (lentFor s n a) (viewNode s n)) (rw (← q) (rw e)))
+  pub outside : (b : Bool) → b ≡ fine → b ≡ false → Serves call lends names seated n a a (record { answer = P.Refused 22; node = n })
+  outside b q e =
+      unchanged call lends names seated n a (P.Refused 22) refl (z .down _ refl) (λ s. rw (z .shape (lentFor s n a) (viewNode s n)) (rw (← q) (rw e)))
 
   module _ (b : Bool) (q : b ≡ fine) (passed : b ≡ true) (k : Key) (named : k ≡ key) (f : found.Lent) (finds : Finds n k a f) where
     fits : fine ≡ true
@@ -98,18 +106,18 @@ module _ (call : (Key → Bool) → held.Node → Result BackupAnswer held.Node)
     finds-key : Finds n key a f
     finds-key = subst (λ (x : Key). Finds n x a f) named finds
 
-    pub unfit : f ≡ L.Malformed → Serves call lends names n a a (record { answer = P.Refused 24; node = n })
+    pub unfit : f ≡ L.Malformed → Serves call lends names seated n a a (record { answer = P.Refused 24; node = n })
     unfit e =
         let bad = subst (Finds n key a) e finds-key in
-        unchanged call lends names n a (P.Refused 24) refl (λ s. rw (z .shape (lentFor s n a) (viewNode s n)) (rw fits (rw (bad s))))
+        unchanged call lends names seated n a (P.Refused 24) refl (z .down _ refl) (λ s. rw (z .shape (lentFor s n a) (viewNode s n)) (rw fits (rw (bad s))))
 
     -- a shard that is not held: no store changes
     pub absent : f ≡ L.Absent → (w : PeerReply) (p : Node)
         → (n .count ≤ length (n .held) → (s : Stores) → shardOf (viewNode s n) key ≡ none
         → record { answer = w; node = viewNode s p } ≡ told word (rest (viewNode s n)))
-        → (slotsFit (used n) ≡ true → slotsFit (used p) ≡ true) → (turnedDown w ≡ true → p ≡ n)
-        → Serves call lends names n a a (record { answer = w; node = p })
-    absent e w p d apart back =
+        → (slotsFit (used n) ≡ true → slotsFit (used p) ≡ true) → seated w p → (turnedDown w ≡ true → p ≡ n)
+        → Serves call lends names seated n a a (record { answer = w; node = p })
+    absent e w p d apart seats back =
         let g = subst (Finds n key a) e finds-key in
         record {
           same = λ s t slot l c.
@@ -117,15 +125,16 @@ module _ (call : (Key → Bool) → held.Node → Result BackupAnswer held.Node)
               (ap (λ (v : held.Node). record { answer = w; node = v }) (node-view s t slot a c p)
               ∙ d (g .inside) s (shard-none s n key (g .inside) _ refl (g .gone)))));
           kept = λ y. (refl, back y);
+          seats = seats;
           slots = λ y. apart (header-apart n y);
           whole = λ y. of-named p a (whole-gone n p a key (g .gone));
         }
 
     pub gone : f ≡ L.Absent → ((v : held.Node) → rest v ≡ atShard v key unheld does)
-        → Serves call lends names n a a (record { answer = P.StaleEpoch (record { 0 = 0 }); node = n })
+        → Serves call lends names seated n a a (record { answer = P.StaleEpoch (record { 0 = 0 }); node = n })
     gone e same =
         absent e (P.StaleEpoch (record { 0 = 0 })) n
-        (λ h s o. ap (told word) (sym (same (viewNode s n) ∙ at-absent (viewNode s n) key unheld does o))) (λ y. y) (λ y. refl)
+        (λ h s o. ap (told word) (sym (same (viewNode s n) ∙ at-absent (viewNode s n) key unheld does o))) (λ y. y) (z .down _ refl) (λ y. refl)
 
     module _ (at : ℕ) (e : f ≡ L.At at) where
       found-key : Found n key a at
@@ -140,9 +149,10 @@ module _ (call : (Key → Bool) → held.Node → Result BackupAnswer held.Node)
       pub served : (b : Lot) (r : Backed)
           → Backs does (getD (n .held) at noKept .held) (storeOf a (getD (n .held) at noKept)) (storeIn b (r .held .last) (r .stored)) r
           → (w : PeerReply) → w ≡ word (answered (r .answer)) → (p : Node) → p ≡ withStore n at (r .held) (r .stored)
-          → Serves call lends names n a b (record { answer = w; node = p })
+          → Serves call lends names seated n a b (record { answer = w; node = p })
       served b r d w o p q′ =
           let g = found-key in
+          let stays : SameSlots n p = subst (SameSlots n) (sym q′) (seats-kept n at (r .held) (r .stored) (g .under)) in
           record {
             same = λ s t slot l c.
                 rw (z .shape (lentFor s n a) (viewNode s n)) (rw fits (rw (g .lent s)
@@ -155,8 +165,8 @@ module _ (call : (Key → Bool) → held.Node → Result BackupAnswer held.Node)
             kept = λ y.
                 let keep = d .kept (turned-as (r .answer) (sym (ap turnedDown o) ∙ y)) in
                 (ap lotOf (keep .0), q′ ∙ put-same n at (r .held) (r .stored) (keep .1) (ap (λ (x : Store). x .stored) (keep .0)));
-            slots = λ y.
-                ap (λ (x : Node). slotsFit (used x)) q′ ∙ slots-kept n at (r .held) (r .stored) (g .inside) (g .under) ∙ header-apart n y;
+            seats = z .stay (subst (λ (i : ℕ). i < n .count) (g .is) (g .under)) w p stays;
+            slots = seats-fit n p stays;
             whole = λ y. of-named p b (whole-put n key a b at g (r .held) (r .stored) (d .sized) (d .well) p q′);
           }
 
@@ -165,13 +175,13 @@ module _ (call : (Key → Bool) → held.Node → Result BackupAnswer held.Node)
 module _ (n : Node) (m : List ℕ) where
   pub replicate-undecoded : (a : Lot) → message.decodeReplicate m ≡ none → ReplicatesAt n a a m (record { answer = P.Refused 21; node = n })
   unfolding calls.replicateWith
-  replicate-undecoded a d = unchanged (λ lent v. calls.replicateWith lent v m) (ReplicateSlot n m) (ReplicateNames m) n a (P.Refused 21) refl (λ s. rw d)
+  replicate-undecoded a d = unchanged (λ lent v. calls.replicateWith lent v m) (ReplicateSlot n m) (ReplicateNames m) (Seated n) n a (P.Refused 21) refl refl (λ s. rw d)
 
   module _ (p : ReplicatePart) (i : messageOf m ≡ Replicate p) where
     abbrev r : message.Replicated
     r = replicate-decoded m p i .read
 
-    pub replicate-reads : Reading (λ lent v. calls.replicateWith lent v m) (ReplicateSlot n m) (ReplicateNames m) n (keyIn m (p .key)) (opInDomain (opIn m (p .op)))
+    pub replicate-reads : Reading (λ lent v. calls.replicateWith lent v m) (ReplicateSlot n m) (ReplicateNames m) (Seated n) n (keyIn m (p .key)) (opInDomain (opIn m (p .op)))
         (λ v. atShard v (keyIn m (p .key)) unheld (replicateHeld (r .epoch) (r .offset) (storedOp (r .op))))
         (replicateHeld (r .epoch) (r .offset) (storedOp (r .op)))
     unfolding calls.replicateWith onReplicate
@@ -186,6 +196,8 @@ module _ (n : Node) (m : List ℕ) where
           there = λ v h e. refl;
           slot = λ j l. l r d ∙ ap (slotOf n) (sym (replicate-key m p i r d));
           named = λ k l. l r d ∙ sym (replicate-key m p i r d);
+          down = λ w e. refl;
+          stay = λ u w q e. e;
         }
 
     pub replicate-backs : (h : Held) (s t : Store) (b : Backed) → Replicates m h s t b → Backs (replicateHeld (r .epoch) (r .offset) (storedOp (r .op))) h s t b
@@ -196,13 +208,13 @@ module _ (n : Node) (m : List ℕ) where
 module _ (n : Node) (m : List ℕ) where
   pub copy-undecoded : (a : Lot) → message.decodeCopyShard m ≡ none → CopiesAt n a a m (record { answer = P.Refused 21; node = n })
   unfolding calls.copyWith
-  copy-undecoded a d = unchanged (λ lent v. calls.copyWith lent v m) (CopySlot n m) (CopyNames m) n a (P.Refused 21) refl (λ s. rw d)
+  copy-undecoded a d = unchanged (λ lent v. calls.copyWith lent v m) (CopySlot n m) (CopyNames m) (Seated n) n a (P.Refused 21) refl refl (λ s. rw d)
 
   module _ (p : CopyPart) (i : messageOf m ≡ CopyShard p) where
     abbrev copied : message.Copied
     copied = copy-decoded m p i .read
 
-    pub copy-reads : Reading (λ lent v. calls.copyWith lent v m) (CopySlot n m) (CopyNames m) n (keyIn m (p .key)) (every entryInDomain (entriesIn m (p .entries)))
+    pub copy-reads : Reading (λ lent v. calls.copyWith lent v m) (CopySlot n m) (CopyNames m) (Seated n) n (keyIn m (p .key)) (every entryInDomain (entriesIn m (p .entries)))
         (λ v. atShard v (keyIn m (p .key)) unheld (copyHeld (copied .epoch) (map storedEntry (copied .entries))))
         (copyHeld (copied .epoch) (map storedEntry (copied .entries)))
     unfolding calls.copyWith onCopy
@@ -217,6 +229,8 @@ module _ (n : Node) (m : List ℕ) where
           there = λ v h e. refl;
           slot = λ j l. l copied d ∙ ap (slotOf n) (sym (copy-key m p i copied d));
           named = λ k l. l copied d ∙ sym (copy-key m p i copied d);
+          down = λ w e. refl;
+          stay = λ u w q e. e;
         }
 
     pub copy-backs : (h : Held) (s t : Store) (b : Backed) → CopiesShard m h s t b

@@ -15,6 +15,7 @@ use Rattle.model.specs.Node.Calls as calls
 use Rattle.header.specs.declared.Node.{Node}
 use Rattle.header.specs.View.{Stores, viewNode, used}
 use Rattle.header.specs.Formed.{formedNode, slotsFit}
+use Rattle.header.specs.Seats.{SameSlots}
 use Rattle.header.specs.Answers.{Told, told}
 use Rattle.peers.specs.declared.PeerReply.{PeerReply}
 use Rattle.peers.specs.declared.PeerReply.the-variants as P
@@ -42,14 +43,19 @@ viewPeer t r = record { answer = r .answer; node = viewNode t (r .node) }
 
 -- a call with the columns a, which leaves b, in a slot of which `lends` says that it is the shard's which the message names, as `names` says
 -- of its key: whatever the other stores hold, they stay, and the lent one becomes the definition's. Turned down, it leaves every place of
--- the columns and of the header as it was, the free ones too. No two shards come to have one store. Not turned down, it leaves the store of
--- a shard that was held well formed
-pub record Serves (call : (Key → Bool) → held.Node → Result BackupAnswer held.Node) (lends : ℕ → Type 0) (names : Key → Type 0) (n : Node) (a b : Lot)
-    (r : PeerAnswer) : Type 0 where
+-- the columns and of the header as it was, the free ones too. Which slot each shard has after an answer is `seated`; no two come to have one
+-- store. Not turned down, it leaves the store of a shard that was held well formed
+pub record Serves (call : (Key → Bool) → held.Node → Result BackupAnswer held.Node) (lends : ℕ → Type 0) (names : Key → Type 0)
+    (seated : PeerReply → Node → Type 0) (n : Node) (a b : Lot) (r : PeerAnswer) : Type 0 where
   pub same : (s t : Stores) (slot : ℕ) → lends slot → Changes s t slot a b → viewPeer t r ≡ told word (call (lentFor s n a) (viewNode s n))
   pub kept : turnedDown (r .answer) ≡ true → (b ≡ a) × (r .node ≡ n)
+  pub seats : seated (r .answer) (r .node)
   pub slots : formedNode n ≡ true → slotsFit (used (r .node)) ≡ true
   pub whole : turnedDown (r .answer) ≡ false → (k : Key) → names k → Whole n (r .node) b k
+
+-- each shard has the slot that it had, whatever the answer
+abbrev pub Seated : Node → PeerReply → Node → Type 0
+Seated n w p = SameSlots n p
 
 -- 20: the shard that the message names, and its slot
 abbrev pub ReplicateNames : List ℕ → Key → Type 0
@@ -59,7 +65,7 @@ abbrev pub ReplicateSlot : Node → List ℕ → ℕ → Type 0
 ReplicateSlot n m slot = (v : Replicated) → decodeReplicate m ≡ some v → slot ≡ slotOf n (v .key)
 
 abbrev pub ReplicatesAt : Node → (a b : Lot) → List ℕ → PeerAnswer → Type 0
-ReplicatesAt n a b m r = Serves (λ lent v. calls.replicateWith lent v m) (ReplicateSlot n m) (ReplicateNames m) n a b r
+ReplicatesAt n a b m r = Serves (λ lent v. calls.replicateWith lent v m) (ReplicateSlot n m) (ReplicateNames m) (Seated n) n a b r
 
 -- 22
 abbrev pub CopyNames : List ℕ → Key → Type 0
@@ -69,4 +75,4 @@ abbrev pub CopySlot : Node → List ℕ → ℕ → Type 0
 CopySlot n m slot = (v : Copied) → decodeCopyShard m ≡ some v → slot ≡ slotOf n (v .key)
 
 abbrev pub CopiesAt : Node → (a b : Lot) → List ℕ → PeerAnswer → Type 0
-CopiesAt n a b m r = Serves (λ lent v. calls.copyWith lent v m) (CopySlot n m) (CopyNames m) n a b r
+CopiesAt n a b m r = Serves (λ lent v. calls.copyWith lent v m) (CopySlot n m) (CopyNames m) (Seated n) n a b r

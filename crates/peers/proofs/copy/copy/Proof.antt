@@ -43,7 +43,7 @@ returns-2 c =
     let a = c .before .before .before .before .before .before .before .before .before .before .before .before .before .before .before .before .args in
     let i = sym (c .before .before .before .before .before .before .decode .ensures) ∙ c .before .before .before .before .p .given .1 in
     let d = c .before .entries-in-domain in
-    outside _ _ _ (a .n) _ _ _ _ _ (copy-reads (a .n) (a .message .now) _ i) (d .result) (d .ensures) (not-true _ (c .if1 .taken))
+    outside _ _ _ _ (a .n) _ _ _ _ _ (copy-reads (a .n) (a .message .now) _ i) (d .result) (d .ensures) (not-true _ (c .if1 .taken))
 
 key-of-requires : tie.Need-key-of-requires
 key-of-requires c κs =
@@ -85,7 +85,7 @@ returns-3 c =
     let a = l .before .before .before .before .before .before .before .before .before .before .before .before .before .before .before .before .before .before .before .before .before .before .before .before .before .before .before .args in
     let i = sym (l .before .before .before .before .before .before .before .before .before .before .before .before .before .before .before .before .before .decode .ensures) ∙ l .before .before .before .before .before .before .before .before .before .before .before .before .before .before .before .p .given .1 in
     let d = l .before .before .before .before .before .before .before .before .before .before .before .before .entries-in-domain in
-    unfit _ _ _ (a .n) _ _ _ _ _ (copy-reads (a .n) (a .message .now) _ i)
+    unfit _ _ _ _ (a .n) _ _ _ _ _ (copy-reads (a .n) (a .message .now) _ i)
     (d .result) (d .ensures) (not-false _ (l .before .before .before .before .before .before .before .before .before .before .before .if1 .left)) _ (l .before .before .before .before .before .before .before .before .before .key-of .ensures) (l .lent-shard .result) (l .lent-shard .ensures)
     (c .enum-told .given .1)
 
@@ -122,7 +122,7 @@ returns-4 c =
     let a = l .before .before .before .before .before .before .before .before .before .before .before .before .before .before .before .before .before .before .before .before .before .before .before .before .before .before .before .args in
     let i = sym (l .before .before .before .before .before .before .before .before .before .before .before .before .before .before .before .before .before .decode .ensures) ∙ l .before .before .before .before .before .before .before .before .before .before .before .before .before .before .before .p .given .1 in
     let d = l .before .before .before .before .before .before .before .before .before .before .before .before .entries-in-domain in
-    gone _ _ _ (a .n) _ _ _ _ _ (copy-reads (a .n) (a .message .now) _ i)
+    gone _ _ _ _ (a .n) _ _ _ _ _ (copy-reads (a .n) (a .message .now) _ i)
     (d .result) (d .ensures) (not-false _ (l .before .before .before .before .before .before .before .before .before .before .before .if1 .left)) _ (l .before .before .before .before .before .before .before .before .before .key-of .ensures) (l .lent-shard .result) (l .lent-shard .ensures)
     (c .enum-told2 .given .1) (λ v. refl)
 
@@ -135,7 +135,7 @@ mul-x c =
     let a = l .before .before .before .before .before .before .before .before .before .before .before .before .before .before .before .before .before .before .before .before .before .before .before .before .before .before .before .args in
     let i = sym (l .before .before .before .before .before .before .before .before .before .before .before .before .before .before .before .before .before .decode .ensures) ∙ l .before .before .before .before .before .before .before .before .before .before .before .before .before .before .before .p .given .1 in
     let d = l .before .before .before .before .before .before .before .before .before .before .before .before .entries-in-domain in
-    let few = found-few _ _ _ (a .n) _ _ _ _ _ (copy-reads (a .n) (a .message .now) _ i)
+    let few = found-few _ _ _ _ (a .n) _ _ _ _ _ (copy-reads (a .n) (a .message .now) _ i)
     (d .result) (d .ensures) (not-false _ (l .before .before .before .before .before .before .before .before .before .before .before .if1 .left)) _ (l .before .before .before .before .before .before .before .before .before .key-of .ensures) (l .lent-shard .result) (l .lent-shard .ensures)
     _ (c .before .before .found .given .1) in
     search needs
@@ -146,7 +146,7 @@ array-copy-out-x c =
     let a = l .before .before .before .before .before .before .before .before .before .before .before .before .before .before .before .before .before .before .before .before .before .before .before .before .before .before .before .args in
     let i = sym (l .before .before .before .before .before .before .before .before .before .before .before .before .before .before .before .before .before .decode .ensures) ∙ l .before .before .before .before .before .before .before .before .before .before .before .before .before .before .before .p .given .1 in
     let d = l .before .before .before .before .before .before .before .before .before .before .before .before .entries-in-domain in
-    let few = found-few _ _ _ (a .n) _ _ _ _ _ (copy-reads (a .n) (a .message .now) _ i)
+    let few = found-few _ _ _ _ (a .n) _ _ _ _ _ (copy-reads (a .n) (a .message .now) _ i)
     (d .result) (d .ensures) (not-false _ (l .before .before .before .before .before .before .before .before .before .before .before .if1 .left)) _ (l .before .before .before .before .before .before .before .before .before .key-of .ensures) (l .lent-shard .result) (l .lent-shard .ensures)
     _ (c .before .before .found .given .1) in
     search needs
@@ -157,7 +157,7 @@ copy-held-requires c κs =
     let a = l .before .before .before .before .before .before .before .before .before .before .before .before .before .before .before .before .before .before .before .before .before .before .before .before .before .before .before .args in
     let i = sym (l .before .before .before .before .before .before .before .before .before .before .before .before .before .before .before .before .before .decode .ensures) ∙ l .before .before .before .before .before .before .before .before .before .before .before .before .before .before .before .p .given .1 in
     let d = l .before .before .before .before .before .before .before .before .before .before .before .before .entries-in-domain in
-    let f = found-at _ _ _ (a .n) _ _ _ _ _ (copy-reads (a .n) (a .message .now) _ i)
+    let f = found-at _ _ _ _ (a .n) _ _ _ _ _ (copy-reads (a .n) (a .message .now) _ i)
     (d .result) (d .ensures) (not-false _ (l .before .before .before .before .before .before .before .before .before .before .before .if1 .left)) _ (l .before .before .before .before .before .before .before .before .before .key-of .ensures) (l .lent-shard .result) (l .lent-shard .ensures)
     _ (c .before .before .before .before .before .before .before .before .before .before .before .before .found .given .1) in
     (i, sym (d .ensures) ∙ not-false _ (l .before .before .before .before .before .before .before .before .before .before .before .if1 .left), f .sized, f .well)
@@ -171,7 +171,7 @@ put-back-requires c κs =
     let a = l .before .before .before .before .before .before .before .before .before .before .before .before .before .before .before .before .before .before .before .before .before .before .before .before .before .before .before .args in
     let i = sym (l .before .before .before .before .before .before .before .before .before .before .before .before .before .before .before .before .before .decode .ensures) ∙ l .before .before .before .before .before .before .before .before .before .before .before .before .before .before .before .p .given .1 in
     let d = l .before .before .before .before .before .before .before .before .before .before .before .before .entries-in-domain in
-    found-few _ _ _ (a .n) _ _ _ _ _ (copy-reads (a .n) (a .message .now) _ i)
+    found-few _ _ _ _ (a .n) _ _ _ _ _ (copy-reads (a .n) (a .message .now) _ i)
     (d .result) (d .ensures) (not-false _ (l .before .before .before .before .before .before .before .before .before .before .before .if1 .left)) _ (l .before .before .before .before .before .before .before .before .before .key-of .ensures) (l .lent-shard .result) (l .lent-shard .ensures)
     _ (c .before .before .before .before .before .before .before .before .before .before .before .before .before .before .before .before .before .before .before .before .before .before .before .before .before .before .before .before .before .before .before .found .given .1)
 
@@ -206,7 +206,7 @@ returns-5 c =
     let i = sym (l .before .before .before .before .before .before .before .before .before .before .before .before .before .before .before .before .before .decode .ensures) ∙ l .before .before .before .before .before .before .before .before .before .before .before .before .before .before .before .p .given .1 in
     let d = l .before .before .before .before .before .before .before .before .before .before .before .before .entries-in-domain in
     let b = c .before .before .before .before .before .before .before .before .before .before .before .before .before .before .before .before .before .before .before .copy-held in
-    served _ _ _ (a .n) _ _ _ _ _ (copy-reads (a .n) (a .message .now) _ i)
+    served _ _ _ _ (a .n) _ _ _ _ _ (copy-reads (a .n) (a .message .now) _ i)
     (d .result) (d .ensures) (not-false _ (l .before .before .before .before .before .before .before .before .before .before .before .if1 .left)) _ (l .before .before .before .before .before .before .before .before .before .key-of .ensures) (l .lent-shard .result) (l .lent-shard .ensures)
     _ (c .before .before .before .before .before .before .before .before .before .before .before .before .before .before .before .before .before .before .before .before .before .before .before .before .before .before .before .before .before .before .before .before .found .given .1)
     _ (b .result) (copy-backs (a .n) (a .message .now) _ i _ _ _ _ (b .ensures))

@@ -44,7 +44,7 @@ returns-2 c =
     let a = c .before .before .before .before .before .before .before .before .before .before .before .before .before .before .before .args in
     let i = sym (c .before .before .before .before .before .decode .ensures) ∙ c .before .before .before .p .given .1 in
     let d = c .before .op-in-domain in
-    outside _ _ _ (a .n) _ _ _ _ _ (replicate-reads (a .n) (a .message .now) _ i) (d .result) (d .ensures) (not-true _ (c .if1 .taken))
+    outside _ _ _ _ (a .n) _ _ _ _ _ (replicate-reads (a .n) (a .message .now) _ i) (d .result) (d .ensures) (not-true _ (c .if1 .taken))
 
 key-of-requires : tie.Need-key-of-requires
 key-of-requires c κs =
@@ -86,7 +86,7 @@ returns-3 c =
     let a = l .before .before .before .before .before .before .before .before .before .before .before .before .before .before .before .before .before .before .before .before .before .before .before .before .before .before .args in
     let i = sym (l .before .before .before .before .before .before .before .before .before .before .before .before .before .before .before .before .decode .ensures) ∙ l .before .before .before .before .before .before .before .before .before .before .before .before .before .before .p .given .1 in
     let d = l .before .before .before .before .before .before .before .before .before .before .before .before .op-in-domain in
-    unfit _ _ _ (a .n) _ _ _ _ _ (replicate-reads (a .n) (a .message .now) _ i)
+    unfit _ _ _ _ (a .n) _ _ _ _ _ (replicate-reads (a .n) (a .message .now) _ i)
     (d .result) (d .ensures) (not-false _ (l .before .before .before .before .before .before .before .before .before .before .before .if1 .left)) _ (l .before .before .before .before .before .before .before .before .before .key-of .ensures) (l .lent-shard .result) (l .lent-shard .ensures)
     (c .enum-told .given .1)
 
@@ -125,7 +125,7 @@ returns-4 c =
     let d = l .before .before .before .before .before .before .before .before .before .before .before .before .op-in-domain in
     let z =
     lot (a .epochs .now) (a .offsets .now) (a .ids .now) (a .codes .now) (a .lengths .now) (a .floats .now) (a .keys .now) (a .places .now) in
-    gone _ _ _ (a .n) z _ _ _ _ (replicate-reads (a .n) (a .message .now) _ i)
+    gone _ _ _ _ (a .n) z _ _ _ _ (replicate-reads (a .n) (a .message .now) _ i)
     (d .result) (d .ensures) (not-false _ (l .before .before .before .before .before .before .before .before .before .before .before .if1 .left)) _ (l .before .before .before .before .before .before .before .before .before .key-of .ensures) (l .lent-shard .result) (l .lent-shard .ensures)
     (c .enum-told2 .given .1) (λ v. refl)
 
@@ -138,7 +138,7 @@ mul-x c =
     let a = l .before .before .before .before .before .before .before .before .before .before .before .before .before .before .before .before .before .before .before .before .before .before .before .before .before .before .args in
     let i = sym (l .before .before .before .before .before .before .before .before .before .before .before .before .before .before .before .before .decode .ensures) ∙ l .before .before .before .before .before .before .before .before .before .before .before .before .before .before .p .given .1 in
     let d = l .before .before .before .before .before .before .before .before .before .before .before .before .op-in-domain in
-    let few = found-few _ _ _ (a .n) _ _ _ _ _ (replicate-reads (a .n) (a .message .now) _ i)
+    let few = found-few _ _ _ _ (a .n) _ _ _ _ _ (replicate-reads (a .n) (a .message .now) _ i)
     (d .result) (d .ensures) (not-false _ (l .before .before .before .before .before .before .before .before .before .before .before .if1 .left)) _ (l .before .before .before .before .before .before .before .before .before .key-of .ensures) (l .lent-shard .result) (l .lent-shard .ensures)
     _ (c .before .before .found .given .1) in
     search needs
@@ -149,7 +149,7 @@ array-copy-out-x c =
     let a = l .before .before .before .before .before .before .before .before .before .before .before .before .before .before .before .before .before .before .before .before .before .before .before .before .before .before .args in
     let i = sym (l .before .before .before .before .before .before .before .before .before .before .before .before .before .before .before .before .decode .ensures) ∙ l .before .before .before .before .before .before .before .before .before .before .before .before .before .before .p .given .1 in
     let d = l .before .before .before .before .before .before .before .before .before .before .before .before .op-in-domain in
-    let few = found-few _ _ _ (a .n) _ _ _ _ _ (replicate-reads (a .n) (a .message .now) _ i)
+    let few = found-few _ _ _ _ (a .n) _ _ _ _ _ (replicate-reads (a .n) (a .message .now) _ i)
     (d .result) (d .ensures) (not-false _ (l .before .before .before .before .before .before .before .before .before .before .before .if1 .left)) _ (l .before .before .before .before .before .before .before .before .before .key-of .ensures) (l .lent-shard .result) (l .lent-shard .ensures)
     _ (c .before .before .found .given .1) in
     search needs
@@ -160,7 +160,7 @@ replicate-held-requires c κs =
     let a = l .before .before .before .before .before .before .before .before .before .before .before .before .before .before .before .before .before .before .before .before .before .before .before .before .before .before .args in
     let i = sym (l .before .before .before .before .before .before .before .before .before .before .before .before .before .before .before .before .decode .ensures) ∙ l .before .before .before .before .before .before .before .before .before .before .before .before .before .before .p .given .1 in
     let d = l .before .before .before .before .before .before .before .before .before .before .before .before .op-in-domain in
-    let f = found-at _ _ _ (a .n) _ _ _ _ _ (replicate-reads (a .n) (a .message .now) _ i)
+    let f = found-at _ _ _ _ (a .n) _ _ _ _ _ (replicate-reads (a .n) (a .message .now) _ i)
     (d .result) (d .ensures) (not-false _ (l .before .before .before .before .before .before .before .before .before .before .before .if1 .left)) _ (l .before .before .before .before .before .before .before .before .before .key-of .ensures) (l .lent-shard .result) (l .lent-shard .ensures)
     _ (c .before .before .before .before .before .before .before .before .before .before .before .before .found .given .1) in
     (i, sym (d .ensures) ∙ not-false _ (l .before .before .before .before .before .before .before .before .before .before .before .if1 .left), f .sized, f .well)
@@ -174,7 +174,7 @@ put-back-requires c κs =
     let a = l .before .before .before .before .before .before .before .before .before .before .before .before .before .before .before .before .before .before .before .before .before .before .before .before .before .before .args in
     let i = sym (l .before .before .before .before .before .before .before .before .before .before .before .before .before .before .before .before .decode .ensures) ∙ l .before .before .before .before .before .before .before .before .before .before .before .before .before .before .p .given .1 in
     let d = l .before .before .before .before .before .before .before .before .before .before .before .before .op-in-domain in
-    found-few _ _ _ (a .n) _ _ _ _ _ (replicate-reads (a .n) (a .message .now) _ i)
+    found-few _ _ _ _ (a .n) _ _ _ _ _ (replicate-reads (a .n) (a .message .now) _ i)
     (d .result) (d .ensures) (not-false _ (l .before .before .before .before .before .before .before .before .before .before .before .if1 .left)) _ (l .before .before .before .before .before .before .before .before .before .key-of .ensures) (l .lent-shard .result) (l .lent-shard .ensures)
     _ (c .before .before .before .before .before .before .before .before .before .before .before .before .before .before .before .before .before .before .before .before .before .before .before .before .before .before .before .before .before .before .before .found .given .1)
 
@@ -209,7 +209,7 @@ returns-5 c =
     let i = sym (l .before .before .before .before .before .before .before .before .before .before .before .before .before .before .before .before .decode .ensures) ∙ l .before .before .before .before .before .before .before .before .before .before .before .before .before .before .p .given .1 in
     let d = l .before .before .before .before .before .before .before .before .before .before .before .before .op-in-domain in
     let b = c .before .before .before .before .before .before .before .before .before .before .before .before .before .before .before .before .before .before .before .replicate-held in
-    served _ _ _ (a .n) _ _ _ _ _ (replicate-reads (a .n) (a .message .now) _ i)
+    served _ _ _ _ (a .n) _ _ _ _ _ (replicate-reads (a .n) (a .message .now) _ i)
     (d .result) (d .ensures) (not-false _ (l .before .before .before .before .before .before .before .before .before .before .before .if1 .left)) _ (l .before .before .before .before .before .before .before .before .before .key-of .ensures) (l .lent-shard .result) (l .lent-shard .ensures)
     _ (c .before .before .before .before .before .before .before .before .before .before .before .before .before .before .before .before .before .before .before .before .before .before .before .before .before .before .before .before .before .before .before .before .found .given .1)
     _ (b .result) (replicate-backs (a .n) (a .message .now) _ i _ _ _ _ (b .ensures))
