@@ -1,3 +1,4 @@
 pub mod OfNamed
 pub mod OfBegin
+pub mod OfSeats
 pub mod OfAnnounces

@@ -1,5 +1,5 @@
 -- Laws of NewEpoch at a node, beside those of every message of a primary. Assumes nothing.
-use Prim.Native.Nat.{ℕ, _≤_}
+use Prim.Native.Nat.{ℕ, _<_, _≤_}
 use mathlib.Core.Path.{_≡_, refl, sym, ap, subst, _∙_}
 use mathlib.Core.Bool.{true}
 use mathlib.Core.List.{List}
@@ -22,41 +22,48 @@ use Rattle.backup.specs.declared.Backed.{Backed}
 use Rattle.backup.specs.Backs.{Backs, TakesNewEpoch}
 use Rattle.header.specs.declared.Node.{Node}
 use Rattle.header.specs.View.{Stores, viewNode}
+use Rattle.header.specs.Seats.{slotsOf}
 use Rattle.header.specs.Answers.{told}
 use Rattle.lend.specs.Named.{keyIn}
 use Rattle.lend.specs.declared.Lent as found
 use Rattle.lend.specs.declared.Lent.the-variants as L
-use Rattle.lend.specs.Lend.{Lot, slotOf, Finds}
+use Rattle.lend.specs.Lend.{Lot, placeOf, slotOf, Finds}
 use Rattle.peers.specs.declared.PeerReply.the-variants as P
 use Rattle.peers.specs.declared.PeerAnswer.{PeerAnswer}
 use Rattle.peers.specs.Peers.{word, viewPeer}
 use Rattle.peers.proofs.OfPeers.{unchanged, atOf, Reading, absent}
-use Rattle.newepoch.specs.Announces.{NewEpochNames, NewEpochSlot, AnnouncesAt, BeginsAt}
+use Rattle.newepoch.specs.Announces.{NewEpochNames, NewEpochSlot, slotsThen, NewEpochSeats, AnnouncesAt, BeginsAt}
 use Rattle.newepoch.proofs.OfNamed.{new-epoch-key}
+use Rattle.newepoch.proofs.OfSeats.{then-down, then-held, then-absent}
 
 module _ (n : Node) (m : List ℕ) where
   pub undecoded : (a : Lot) → message.decodeNewEpoch m ≡ none → AnnouncesAt n a a m (record { answer = P.Refused 21; node = n })
   unfolding calls.newEpochWith
-  undecoded a d = unchanged (λ lent v. calls.newEpochWith lent v m) (NewEpochSlot n m) (NewEpochNames m) n a (P.Refused 21) refl (λ s. rw d)
+  undecoded a d =
+      unchanged (λ lent v. calls.newEpochWith lent v m) (NewEpochSlot n m) (NewEpochNames m) (NewEpochSeats n m) n a (P.Refused 21) refl
+      (λ k l. sym (then-down n k (P.Refused 21) refl)) (λ s. rw d)
 
   module _ (p : NewEpochPart) (i : messageOf m ≡ NewEpoch p) where
     abbrev r : message.NewEpoch
     r = new-epoch-decoded m p i .read
 
     -- no component has to lie in the domain
-    pub reads : Reading (λ lent v. calls.newEpochWith lent v m) (NewEpochSlot n m) (NewEpochNames m) n (keyIn m (p .key)) true
+    pub reads : Reading (λ lent v. calls.newEpochWith lent v m) (NewEpochSlot n m) (NewEpochNames m) (NewEpochSeats n m) n (keyIn m (p .key)) true
         (λ v. onNewEpoch v (keyIn m (p .key)) (r .epoch) (r .end) (r .table) (r .metric))
         (newEpochHeld (r .epoch) (r .end) (r .table))
     unfolding calls.newEpochWith onNewEpoch
     reads =
         let d : message.decodeNewEpoch m ≡ some r = new-epoch-decoded m p i .decoded in
+        let named : (k : Key) → NewEpochNames m k → k ≡ keyIn m (p .key) = λ k l. l r d ∙ sym (new-epoch-key m p i r d) in
         record {
           shape = λ lent v.
               rw d
               (ap (λ (k : Key). atOf lent v k true (onNewEpoch v k (r .epoch) (r .end) (r .table) (r .metric))) (sym (new-epoch-key m p i r d)));
           there = λ v h e. ap (newEpochAt v (keyIn m (p .key)) (r .epoch) (r .end) (r .table) (r .metric)) e;
           slot = λ j l. l r d ∙ ap (slotOf n) (sym (new-epoch-key m p i r d));
-          named = λ k l. l r d ∙ sym (new-epoch-key m p i r d);
+          named = named;
+          down = λ w e k l. sym (then-down n k w e);
+          stay = λ under w q e k l. e ∙ sym (then-held n k w (subst (λ (x : Key). placeOf n x < n .count) (sym (named k l)) under));
         }
 
     pub backs : (h : Held) (s t : Store) (b : Backed) → TakesNewEpoch m h s t b → Backs (newEpochHeld (r .epoch) (r .end) (r .table)) h s t b
@@ -78,4 +85,8 @@ module _ (n : Node) (m : List ℕ) where
     pub began : (a : Lot) (k : Key) → k ≡ keyIn m (p .key) → (f : found.Lent) → Finds n k a f → f ≡ L.Absent
         → (b : PeerAnswer) → BeginsAt n k (p .epoch .0) (p .metric) b → AnnouncesAt n a a m b
     began a k named f finds e b d =
-        absent _ _ _ n a _ true _ _ reads true refl refl k named f finds e (b .answer) (b .node) (begins-as k named b d) (d .slots) (d .kept)
+        absent _ _ _ _ n a _ true _ _ reads true refl refl k named f finds e (b .answer) (b .node) (begins-as k named b d) (d .slots)
+        (λ x l.
+        subst (λ (y : Key). slotsOf (b .node) ≡ slotsThen n y (b .answer)) (named ∙ sym (reads .named x l))
+        (d .seats ∙ sym (then-absent n k (b .answer) (subst (Finds n k a) e finds .gone))))
+        (d .kept)

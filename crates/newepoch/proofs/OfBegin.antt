@@ -50,6 +50,7 @@ module _ (n : Node) (key : ShardKey) (epoch : ℕ) (metric : Metric) where
     same = λ le s none end table.
         let size = used-size (viewKept s) (n .held) (n .count) le in
         rw (le-leb maxHeld (length (map (viewKept s) (used n))) (omega arith));
+    seats = refl;
     slots = λ y. y;
     kept = λ y. refl;
   }
@@ -65,6 +66,7 @@ module _ (n : Node) (key : ShardKey) (epoch : ℕ) (metric : Metric) where
         ∙ ap (λ (x : Result BackupAnswer held.Held).
         told word (gives (x .answer) (withHeld (viewNode s n) (put heldBelow (x .after) (map (viewKept s) (used n))))))
         (sym (aligns-none k metric epoch end table fresh h b a)));
+    seats = i .seats;
     slots = i .slots;
     kept = λ y. not-both false y refl;
   }

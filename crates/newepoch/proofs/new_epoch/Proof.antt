@@ -50,7 +50,7 @@ returns-2 c =
     let l = c .before .before in
     let a = l .before .before .before .before .before .before .before .before .before .before .before .before .before .before .before .before .before .before .args in
     let i = sym (l .before .before .before .before .before .before .before .before .decode .ensures) ∙ l .before .before .before .before .before .before .p .given .1 in
-    unfit _ _ _ (a .n) _ _ _ _ _ (reads (a .n) (a .message .now) _ i) true refl refl _ (l .before .before .before .key-of .ensures) (l .lent-shard .result) (l .lent-shard .ensures) (c .enum-told .given .1)
+    unfit _ _ _ _ (a .n) _ _ _ _ _ (reads (a .n) (a .message .now) _ i) true refl refl _ (l .before .before .before .key-of .ensures) (l .lent-shard .result) (l .lent-shard .ensures) (c .enum-told .given .1)
 
 enum-told-2 : tie.Need-enum-told-2
 enum-told-2 c = search needs
@@ -80,7 +80,7 @@ mul-x c =
     let l = c .before .before .before .before in
     let a = l .before .before .before .before .before .before .before .before .before .before .before .before .before .before .before .before .before .before .args in
     let i = sym (l .before .before .before .before .before .before .before .before .decode .ensures) ∙ l .before .before .before .before .before .before .p .given .1 in
-    let few = found-few _ _ _ (a .n) _ _ _ _ _ (reads (a .n) (a .message .now) _ i) true refl refl _ (l .before .before .before .key-of .ensures) (l .lent-shard .result) (l .lent-shard .ensures) _ (c .before .before .found .given .1) in
+    let few = found-few _ _ _ _ (a .n) _ _ _ _ _ (reads (a .n) (a .message .now) _ i) true refl refl _ (l .before .before .before .key-of .ensures) (l .lent-shard .result) (l .lent-shard .ensures) _ (c .before .before .found .given .1) in
     search needs
 
 array-copy-out-x : tie.Need-array-copy-out-x
@@ -88,7 +88,7 @@ array-copy-out-x c =
     let l = c .before .before .before .before in
     let a = l .before .before .before .before .before .before .before .before .before .before .before .before .before .before .before .before .before .before .args in
     let i = sym (l .before .before .before .before .before .before .before .before .decode .ensures) ∙ l .before .before .before .before .before .before .p .given .1 in
-    let few = found-few _ _ _ (a .n) _ _ _ _ _ (reads (a .n) (a .message .now) _ i) true refl refl _ (l .before .before .before .key-of .ensures) (l .lent-shard .result) (l .lent-shard .ensures) _ (c .before .before .found .given .1) in
+    let few = found-few _ _ _ _ (a .n) _ _ _ _ _ (reads (a .n) (a .message .now) _ i) true refl refl _ (l .before .before .before .key-of .ensures) (l .lent-shard .result) (l .lent-shard .ensures) _ (c .before .before .found .given .1) in
     search needs
 
 new-epoch-held-requires : tie.Need-new-epoch-held-requires
@@ -96,7 +96,7 @@ new-epoch-held-requires c κs =
     let l = c .before .before .before .before .before .before .before .before in
     let a = l .before .before .before .before .before .before .before .before .before .before .before .before .before .before .before .before .before .before .args in
     let i = sym (l .before .before .before .before .before .before .before .before .decode .ensures) ∙ l .before .before .before .before .before .before .p .given .1 in
-    let f = found-at _ _ _ (a .n) _ _ _ _ _ (reads (a .n) (a .message .now) _ i) true refl refl _ (l .before .before .before .key-of .ensures) (l .lent-shard .result) (l .lent-shard .ensures) _ (c .before .before .before .before .before .before .found .given .1) in
+    let f = found-at _ _ _ _ (a .n) _ _ _ _ _ (reads (a .n) (a .message .now) _ i) true refl refl _ (l .before .before .before .key-of .ensures) (l .lent-shard .result) (l .lent-shard .ensures) _ (c .before .before .before .before .before .before .found .given .1) in
     (i, f .sized, f .well)
 
 reply-of-requires : tie.Need-reply-of-requires
@@ -107,7 +107,7 @@ put-back-requires c κs =
     let l = c .before .before .before .before .before .before .before .before .before .before .before .before .before .before .before in
     let a = l .before .before .before .before .before .before .before .before .before .before .before .before .before .before .before .before .before .before .args in
     let i = sym (l .before .before .before .before .before .before .before .before .decode .ensures) ∙ l .before .before .before .before .before .before .p .given .1 in
-    found-few _ _ _ (a .n) _ _ _ _ _ (reads (a .n) (a .message .now) _ i) true refl refl _ (l .before .before .before .key-of .ensures) (l .lent-shard .result) (l .lent-shard .ensures) _ (c .before .before .before .before .before .before .before .before .before .before .before .before .before .found .given .1)
+    found-few _ _ _ _ (a .n) _ _ _ _ _ (reads (a .n) (a .message .now) _ i) true refl refl _ (l .before .before .before .key-of .ensures) (l .lent-shard .result) (l .lent-shard .ensures) _ (c .before .before .before .before .before .before .before .before .before .before .before .before .before .found .given .1)
 
 same-length-5 : tie.Need-same-length-5
 same-length-5 c = search needs
@@ -120,7 +120,7 @@ returns-4 c =
     let l = c .before .before .before .before .before .before .before .before .before .before .before .before .before .before .before .before in
     let a = l .before .before .before .before .before .before .before .before .before .before .before .before .before .before .before .before .before .before .args in
     let i = sym (l .before .before .before .before .before .before .before .before .decode .ensures) ∙ l .before .before .before .before .before .before .p .given .1 in
-    served _ _ _ (a .n) _ _ _ _ _ (reads (a .n) (a .message .now) _ i) true refl refl _ (l .before .before .before .key-of .ensures) (l .lent-shard .result) (l .lent-shard .ensures) _ (c .before .before .before .before .before .before .before .before .before .before .before .before .before .before .found .given .1)
+    served _ _ _ _ (a .n) _ _ _ _ _ (reads (a .n) (a .message .now) _ i) true refl refl _ (l .before .before .before .key-of .ensures) (l .lent-shard .result) (l .lent-shard .ensures) _ (c .before .before .before .before .before .before .before .before .before .before .before .before .before .before .found .given .1)
     _ (c .before .before .before .before .before .before .before .new-epoch-held .result) (backs (a .n) (a .message .now) _ i _ _ _ _ (c .before .before .before .before .before .before .before .new-epoch-held .ensures))
     (c .before .before .reply-of .result) (c .before .before .reply-of .ensures) (c .put-back .result) (c .put-back .ensures)
 
