@@ -35,8 +35,8 @@ use Rattle.writes.specs.declared.Written.{Written}
 use Rattle.writes.specs.Writes.{viewStored, writtenAs, Writes}
 use Rattle.writes.specs.Writes as writes
 use Rattle.header.specs.declared.Node.{Node}
-use Rattle.header.specs.View.{Stores, viewNode, used, noKept}
-use Rattle.header.specs.Formed.{slotsFit}
+use Rattle.header.specs.View.{Stores, viewNode, noKept}
+use Rattle.header.specs.Seats.{SameSlots}
 use Rattle.header.specs.Answers.{told}
 use Rattle.header.proofs.OfFormed.{header-apart, shard-formed}
 use Rattle.header.proofs.OfShards.{call-absent}
@@ -45,7 +45,8 @@ use Rattle.lend.specs.declared.Lent as found
 use Rattle.lend.specs.Named.{keyIn}
 use Rattle.lend.specs.Lend.{Lot, storeIn, storeOf, lentFor, slotOf, Finds, Found, withStore, Whole}
 use Rattle.lend.proofs.OfLend.{few-held, slot-held, call-store, node-view}
-use Rattle.lend.proofs.OfPut.{lotOf, slots-kept, put-same, whole-put}
+use Rattle.lend.proofs.OfPut.{lotOf, put-same, whole-put}
+use Rattle.lend.proofs.OfSeats.{seats-kept, seats-fit}
 use Rattle.clientwrites.specs.declared.WriteReply.{WriteReply}
 use Rattle.clientwrites.specs.declared.WriteReply.the-variants as R
 use Rattle.clientwrites.specs.declared.NodeWritten.{NodeWritten}
@@ -108,6 +109,7 @@ module _ (n : Node) (a : Lot) (clock least : ℕ) (m : List ℕ) where
   unchanged w listed down e = record {
     same = λ s t slot l c. ap (λ (v : held.Node). record { answer = w; node = v }) (node-view s t slot a c n) ∙ e s;
     kept = λ z. (refl, refl);
+    seats = refl;
     slots = header-apart n;
     whole = λ z k i. not-both (turnedDown w) down z;
     listed = listed;
@@ -199,6 +201,7 @@ module _ (n : Node) (a : Lot) (clock least : ℕ) (m : List ℕ) where
               → Serves n a b clock least m (record { answer = w; node = v })
           served b lease lq r d w last o′ lr v q′ =
               let g = found-key in
+              let stays : SameSlots n v = subst (SameSlots n) (sym q′) (seats-kept n at (r .held) (r .stored) (g .under)) in
               let o : w ≡ replyAs (r .admit) (r .held .last) = o′ ∙ ap (replyAs (r .admit)) lr in
               let x = getD (n .held) at noKept in
               let t₁ = storeIn b (r .held .last) (r .stored) in
@@ -219,8 +222,8 @@ module _ (n : Node) (a : Lot) (clock least : ℕ) (m : List ℕ) where
                 kept = λ z.
                     let keep = d₂ .kept (reply-turned (r .admit) (r .held .last) (sym (ap turnedDown o) ∙ z)) in
                     (ap lotOf (keep .0), q′ ∙ put-same n at (r .held) (r .stored) (keep .1) (ap (λ (s : Store). s .stored) (keep .0)));
-                slots = λ z.
-                    ap (λ (u : Node). slotsFit (used u)) q′ ∙ slots-kept n at (r .held) (r .stored) (g .inside) (g .under) ∙ header-apart n z;
+                seats = stays;
+                slots = seats-fit n v stays;
                 whole = λ z k′ l.
                     subst (Whole n v b) (sym (key-named k′ l)) (whole-put n key a b at g (r .held) (r .stored) (d₂ .sized) (d₂ .well) v q′);
                 listed =
@@ -235,6 +238,7 @@ pub counts : (n : Node) (a b : Lot) (clock least : ℕ) (m : List ℕ) (before :
 counts n a b clock least m before r d number e count c = record {
   same = d .same;
   kept = d .kept;
+  seats = d .seats;
   slots = d .slots;
   whole = d .whole;
   count = c ∙ ap (λ (z : ℕ). counted before (not (eqb z 0))) e ∙ ap (counted before) (d .listed);

@@ -26,6 +26,7 @@ use Rattle.writes.specs.Writes.{Writes}
 use Rattle.header.specs.declared.Node.{Node}
 use Rattle.header.specs.View.{Stores, viewNode, used}
 use Rattle.header.specs.Formed.{formedNode, slotsFit}
+use Rattle.header.specs.Seats.{SameSlots}
 use Rattle.header.specs.Answers.{told}
 use Rattle.lend.specs.Lend.{Lot, lentFor, slotOf, Changes, Whole}
 use Rattle.clientwrites.specs.declared.WriteReply.{WriteReply}
@@ -109,18 +110,21 @@ SlotsWrite n p = formedNode n ≡ true → slotsFit (used p) ≡ true
 abbrev pub WholeWrite : Node → (b : Lot) → List ℕ → WriteReply → Node → Type 0
 WholeWrite n b m w p = turnedDown w ≡ false → (k : Key) → WriteNames m k → Whole n p b k
 
--- internal: before the call is counted; a reply is turned down where it has a number
+-- internal: before the call is counted; each shard has the slot that it had, and a reply is turned down where it has a number
 pub record Serves (n : Node) (a b : Lot) (clock least : ℕ) (m : List ℕ) (r : NodeWritten) : Type 0 where
   pub same : SameWrite n a b clock least m (r .answer) (r .node)
   pub kept : KeptWrite n a b (r .answer) (r .node)
+  pub seats : SameSlots n (r .node)
   pub slots : SlotsWrite n (r .node)
   pub whole : WholeWrite n b m (r .answer) (r .node)
   pub listed : not (eqb (numberIn (r .answer)) 0) ≡ turnedDown (r .answer)
 
--- `before` is the count of refused calls: one more for each refused call, 21 to 24 included, up to the largest u32
+-- each shard has the slot that it had. `before` is the count of refused calls: one more for each refused call, 21 to 24 included, up to the
+-- largest u32
 pub record WritesAt (n : Node) (a b : Lot) (clock least : ℕ) (m : List ℕ) (before : ℕ) (r : WriteAnswer) : Type 0 where
   pub same : SameWrite n a b clock least m (r .answer) (r .node)
   pub kept : KeptWrite n a b (r .answer) (r .node)
+  pub seats : SameSlots n (r .node)
   pub slots : SlotsWrite n (r .node)
   pub whole : WholeWrite n b m (r .answer) (r .node)
   pub count : r .refused ≡ counted before (turnedDown (r .answer))
