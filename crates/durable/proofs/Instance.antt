@@ -58,11 +58,13 @@ use Rattle.header.specs.declared.NodeGranted.{NodeGranted}
 use Rattle.header.specs.declared.NodeWaited.{NodeWaited}
 use Rattle.header.specs.declared.GrantAnswer.the-variants as G
 use Rattle.header.specs.View.{Stores, viewNode, used, noKept}
-use Rattle.header.specs.Formed.{slotsFit, countsFit, lentNode}
+use Rattle.header.specs.Formed.{slotsFit, countsFit, lentNode, formedNode}
+use Rattle.header.specs.Grow.{freeFrom}
 use Rattle.header.specs.Answers.{GrantsNode, WaitsNode, told}
 use Rattle.shown.specs.declared.Start.{Start}
 use Rattle.shown.specs.declared.NodeShown.{NodeShown}
 use Rattle.shown.specs.declared.ShownAnswer.the-variants as S
+use Rattle.shown.specs.Slots.{seated, slotsAfter}
 use Rattle.shown.specs.Shows.{viewStarts}
 use Rattle.hears.specs.Hears.{HearsMap}
 use Rattle.lend.specs.Lend.{Lot, lot, storeOf, keptStore, placeOf, lentAt, lentFor, slotOf, Whole}
@@ -184,8 +186,13 @@ abbrev shown : NodeShown
 shown = record { answer = S.Shown; starts = array 8 starting []; count = 0; node = leads Never 0 }
 
 shows : HearsMap (new 1) map 0 shown
-unfolding opened fill wellFormedLent counted tableCounted lentNode slotsFit viewStarts
-shows = record { same = λ s. rw (nil (s .log 0 0) (s .long 0 0), s .bare 0) refl; slots = λ e. refl }
+unfolding opened fill wellFormedLent counted tableCounted lentNode formedNode slotsFit viewStarts seated slotsAfter freeFrom
+shows = record {
+  same = λ s. rw (nil (s .log 0 0) (s .long 0 0), s .bare 0) refl;
+  slots = λ e. refl;
+  seats = λ e s. refl;
+  stays = λ e. not-both true refl e;
+}
 
 abbrev granted : NodeGranted
 granted = record { answer = G.Granted; node = leads (At 100) 0 }
@@ -292,7 +299,14 @@ whole k named =
 
 writes : WritesAt (leads (At 100) 0) before after 5 1 bytes 0 wrote
 unfolding refused.counted
-writes = record { same = same; kept = λ e. not-both false e refl; slots = λ e. slots-after; whole = λ e. whole; count = refl }
+writes = record {
+  same = same;
+  kept = λ e. not-both false e refl;
+  seats = refl;
+  slots = λ e. slots-after;
+  whole = λ e. whole;
+  count = refl;
+}
 
 -- ---- the engine
 
