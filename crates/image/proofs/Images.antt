@@ -45,7 +45,7 @@ stored-bytes n v {s} {t} {at} e l = record { image = e ∙ ap (λ (b : List ℕ)
 -- ---- loops: one row more is read
 
 module _ {A : Type 0} where
-  set-seam : (a b : List A) (x y : A) → set (a ++ (x ∷ b)) (length a) y ≡ a ++ (y ∷ b)
+  pub set-seam : (a b : List A) (x y : A) → set (a ++ (x ∷ b)) (length a) y ≡ a ++ (y ∷ b)
   set-seam [] b x y = refl
   set-seam (z ∷ a) b x y = ap (λ (l : List A). z ∷ l) (set-seam a b x y)
 

@@ -1,3 +1,4 @@
 pub mod Shape
 pub mod Codes
 pub mod Parts
+pub mod Canon
