@@ -1,14 +1,14 @@
 -- A header that was written is read back, whatever the image held before: every code is listed, and the header that the bytes are read as
--- is the one written, whatever the stores hold. Assumes nothing.
+-- has the rows written, so that it is the one written, whatever the stores hold. Assumes nothing.
 use Prim.Native.Nat.{ℕ, _+_, _/_, _^_, _≤_, _<_}
-use mathlib.Core.Path.{_≡_, refl, ap, _∙_}
+use mathlib.Core.Path.{_≡_, refl, sym, ap, subst, _∙_}
 use mathlib.Core.Bool.{Bool, true, false}
 use mathlib.Core.List.{List, [], _∷_, _++_, map}
-use lib.ListN.{length, drop}
+use lib.ListN.{length, take, drop, length-map}
 use lib.Seq.{sets, length-sets}
 use native.Mathlib.Omega.{arith}
 use borrow.Author.Tests.{lt-ltb}
-use Rattle.model.specs.Layout.Format.{numberAt}
+use Rattle.model.specs.Layout.Format.{numberAt, concatMap, All}
 use Rattle.model.specs.Layout.Parts.{metricCode}
 use Rattle.model.specs.Node.Held as held
 use Rattle.model.proofs.LayoutLaws.Data.{metric-of, metric-below}
@@ -20,13 +20,20 @@ use Rattle.serve.specs.View.{viewExpiry}
 use Rattle.serve.specs.declared.Expiry.{Expiry}
 use Rattle.serve.specs.declared.Expiry.the-variants.{Never, At}
 use Rattle.node.specs.declared.Held.{Held}
-use Rattle.header.specs.View.{Stores, viewKept, viewNode}
+use Rattle.state.proofs.Tables.{map-take}
+use Rattle.header.specs.View.{Stores, used, viewKept, viewNode}
+use Rattle.header.specs.Seats.{slotsOf}
 use Rattle.header.specs.declared.Kept.{Kept}
 use Rattle.header.specs.declared.Node.{Node}
-use Rattle.image.specs.Shape.{Shape, Value, _▸_, u32, u64, Good, value}
+use Rattle.image.specs.Shape.{Shape, Value, _▸_, u32, u64, value, inUse, codesBelow}
+use Rattle.image.proofs.Canon.{take-used}
+use Rattle.image.proofs.Images.{length-used}
+use Rattle.image.proofs.Tidied.{take-within}
 use Rattle.image.proofs.Back.{length-encode, value-encode, Holds, holds-stored, holds-kept, TableFits, length-table, table-back, table-codes}
 use Rattle.image.proofs.OfCodes.{flag-back, flag-small, replicas-back}
 use Rattle.headerimage.specs.Rows.{bitOf, weigh, peerOf, peerValue, roleOf, roleValue, keptF, keptOf, keptValue, keptAt, keptBytes, expiryOf, expiryCode, expiryTime}
+use Rattle.headerimage.specs.Tidy.{tidyKept}
+use Rattle.headerimage.proofs.OfTidy.{KeptFits, all-fit, view-tidied, slots-tidied}
 use Rattle.headerimage.specs.Image.{noKept, codesListed, nodeAt, headBytes, shardsBytes, headerPut}
 
 -- ---- parts
@@ -76,10 +83,7 @@ expiry-small : (e : Expiry) → expiryCode e < 2
 expiry-small Never = omega arith
 expiry-small (At t) = omega arith
 
--- ---- a held shard: its numbers and arrays are those of its types
-
-abbrev pub KeptFits : Kept → Type 0
-KeptFits x = Good keptF (keptValue x)
+-- ---- a held shard
 
 kept-long : (x : Kept) → KeptFits x → length (keptBytes x) ≡ 1280
 unfolding keptBytes
@@ -116,19 +120,20 @@ module _ (s : List ℕ) where
 
 -- ---- the whole header
 
--- the count within its table; numbers and arrays of the shards in use as their types have them
+-- numbers and arrays, of the shards in use, are those of their types
 pub record Fits (n : Node) : Type 0 where
   pub id : n .id .0 < 256 ^ 8
   pub incarnation : n .incarnation < 256 ^ 8
   pub version : n .version < 256 ^ 8
   pub expiry : expiryTime (n .expiry) < 256 ^ 8
-  pub held : TableFits KeptFits 8 (n .count) (n .held)
+  pub long : length (n .held) ≡ 8
+  pub rows : All KeptFits (used n)
 
 abbrev headF : Shape
 headF = u64 ▸ u64 ▸ u64 ▸ u64 ▸ u32 ▸ u32 ▸ u64
 
 abbrev headValue : Node → Value headF
-headValue n = ((((((n .id .0, n .incarnation), n .version), n .count), 0), expiryCode (n .expiry)), expiryTime (n .expiry))
+headValue n = ((((((n .id .0, n .incarnation), n .version), inUse 8 (n .count)), 0), expiryCode (n .expiry)), expiryTime (n .expiry))
 
 abbrev nodeOf : ℕ → ℕ → Expiry → ℕ → List held.Held → held.Node
 nodeOf i c e v l = record { id = i; incarnation = c; expiry = viewExpiry e; version = v; held = l }
@@ -136,31 +141,68 @@ nodeOf i c e v l = record { id = i; incarnation = c; expiry = viewExpiry e; vers
 same-node : {i j c d v w : ℕ} {e f : Expiry} {l m : List held.Held} → i ≡ j → c ≡ d → e ≡ f → v ≡ w → l ≡ m → nodeOf i c e v l ≡ nodeOf j d f w m
 same-node p q r s t = rw (p, q, r, s, t)
 
+module _ (n : Node) (fits : Fits n) where
+  -- the rows written, as those of a table
+  rows-used : take (inUse 8 (n .count)) (map tidyKept (n .held)) ≡ map tidyKept (used n)
+  rows-used = sym (map-take tidyKept (inUse 8 (n .count)) (n .held)) ∙ ap (map tidyKept) (take-used 8 (n .count) (n .held) (fits .long))
+
+  table : TableFits KeptFits 8 (inUse 8 (n .count)) (map tidyKept (n .held))
+  table =
+      let k = fits .long in
+      let u = length-used 8 (n .count) (n .held) k in
+      record {
+        count = omega (arith, take-within (n .count) (n .held));
+        long = length-map (n .held) tidyKept ∙ k;
+        rows = subst (λ (l : List Kept). All KeptFits l) (sym rows-used) (all-fit (used n) (fits .rows));
+      }
+
 module _ (s : List ℕ) (n : Node) (room : 10288 ≤ length s) (fits : Fits n) where
+  abbrev count : ℕ
+  count = inUse 8 (n .count)
+
+  abbrev rows : List Kept
+  rows = map tidyKept (n .held)
+
+  length-shards : length (shardsBytes n) ≤ 10240
+  length-shards =
+      let k = table n fits .count in
+      let l = length-table KeptFits keptBytes 1280 kept-long 8 count rows (table n fits) in
+      let e = ap (λ (l : List Kept). length (concatMap keptBytes l)) (rows-used n fits) in
+      omega arith
+
+  pub length-put : length (headerPut s n) ≡ length s
+  unfolding headerPut
+  length-put = length-sets (sets s 0 (headBytes n)) 48 (shardsBytes n) ∙ length-sets s 0 (headBytes n)
+
   head-held : Holds (headerPut s n) 0 (headBytes n)
   unfolding headerPut
   head-held =
       let lh : length (headBytes n) ≡ 48 = refl in
       holds-kept (sets s 0 (headBytes n)) 0 48 (headBytes n) (shardsBytes n) (holds-stored s 0 (headBytes n) (omega arith)) (omega arith)
 
-  shards-held : Holds (headerPut s n) 48 (shardsBytes n)
+  shards-held : Holds (headerPut s n) 48 (concatMap keptBytes (take count rows))
   unfolding headerPut
   shards-held =
-      let k = length-table KeptFits keptBytes 1280 kept-long 8 (n .count) (n .held) (fits .held) in
-      let c = fits .held .count in
+      let k = length-shards in
       let l : length (sets s 0 (headBytes n)) ≡ length s = length-sets s 0 (headBytes n) in
-      holds-stored (sets s 0 (headBytes n)) 48 (shardsBytes n) (omega arith)
+      subst (λ (l : List Kept). Holds (headerPut s n) 48 (concatMap keptBytes l)) (sym (rows-used n fits))
+      (holds-stored (sets s 0 (headBytes n)) 48 (shardsBytes n) (omega arith))
 
   head-back : value headF (headerPut s n) 0 ≡ headValue n
   head-back =
-      let c = fits .held .count in
+      let c = table n fits .count in
       let e = expiry-small (n .expiry) in
       value-encode headF (headValue n) (headerPut s n) 0 (head-held .tail)
       ((((((fits .id, fits .incarnation), fits .version), omega arith), omega arith), omega arith), fits .expiry)
       (head-held .here)
 
-  count-back : numberAt 8 (headerPut s n) 24 ≡ n .count
+  count-back : numberAt 8 (headerPut s n) 24 ≡ count
   count-back = ap (λ (v : Value headF). v .0 .0 .0 .1) head-back
+
+  codes-below : (o : ℕ) → ((x : Kept) (p : ℕ) (t : List ℕ) → KeptFits x → drop p (headerPut s n) ≡ keptBytes x ++ t → numberAt 4 (headerPut s n) (p + o) < 2)
+      → codesBelow 2 1280 (headerPut s n) (inUse 8 (numberAt 8 (headerPut s n) 24)) (48 + o) ≡ true
+  codes-below o law =
+      table-codes KeptFits keptBytes 1280 kept-long 8 count rows (table n fits) (headerPut s n) 48 2 o law shards-held (numberAt 8 (headerPut s n) 24) count-back
 
   -- what was written lends a header
   pub codes-listed : codesListed (headerPut s n) ≡ true
@@ -171,13 +213,17 @@ module _ (s : List ℕ) (n : Node) (room : 10288 ≤ length s) (fits : Fits n) w
       let h : numberAt 4 w 36 < 2 = rw e (expiry-small (n .expiry)) in
       and-intro
       (and-intro (lt-ltb (numberAt 4 w 36) 2 h) refl)
-      (and-intro
-      (table-codes KeptFits keptBytes 1280 kept-long 8 (n .count) (n .held) (fits .held) w 48 2 96 (metric-code w) shards-held (numberAt 8 w 24) count-back)
-      (and-intro
-      (table-codes KeptFits keptBytes 1280 kept-long 8 (n .count) (n .held) (fits .held) w 48 2 100 (own-code w) shards-held (numberAt 8 w 24) count-back)
-      (table-codes KeptFits keptBytes 1280 kept-long 8 (n .count) (n .held) (fits .held) w 48 2 108 (role-code w) shards-held (numberAt 8 w 24) count-back)))
+      (and-intro (codes-below 96 (metric-code w)) (and-intro (codes-below 100 (own-code w)) (codes-below 108 (role-code w))))
 
-  -- and the header that it lends is the one written
+  -- and its shards are those written
+  pub used-back : used (nodeAt (headerPut s n)) ≡ map tidyKept (used n)
+  unfolding nodeAt
+  used-back =
+      let w = headerPut s n in
+      table-back KeptFits keptBytes 1280 kept-long 8 count rows (table n fits) w 48 (keptAt w) noKept (kept-back w) shards-held (numberAt 8 w 24) count-back
+      ∙ rows-used n fits
+
+  -- so that it is read as the one that was given, and each shard has its slot
   pub header-back : (st : Stores) → viewNode st (nodeAt (headerPut s n)) ≡ viewNode st n
   unfolding nodeAt
   header-back st =
@@ -189,4 +235,7 @@ module _ (s : List ℕ) (n : Node) (room : 10288 ≤ length s) (fits : Fits n) w
       (ap (λ (v : Value headF). v .0 .0 .0 .0 .0 .1) head-back)
       (ap (λ (k : ℕ). expiryOf k (numberAt 8 w 40)) c ∙ ap (expiryOf (expiryCode (n .expiry))) t ∙ expiry-back (n .expiry))
       (ap (λ (v : Value headF). v .0 .0 .0 .0 .1) head-back)
-      (ap (map (viewKept st)) (table-back KeptFits keptBytes 1280 kept-long 8 (n .count) (n .held) (fits .held) w 48 (keptAt w) noKept (kept-back w) shards-held (numberAt 8 w 24) count-back))
+      (ap (map (viewKept st)) used-back ∙ view-tidied st (used n))
+
+  pub slots-back : slotsOf (nodeAt (headerPut s n)) ≡ slotsOf n
+  slots-back = ap (map (λ (x : Kept). x .slot)) used-back ∙ slots-tidied (used n)

@@ -1,2 +1,5 @@
 pub mod OfImage
+pub mod OfTidy
 pub mod Back
+pub mod Types
+pub mod OfBecomes

@@ -1,8 +1,8 @@
 -- A header's image (docs/IMAGES.md): 48 bytes, then 8 held shards of 1280 bytes, 10288 bytes in all. Only the shards in use are read and
--- written. Definitions only.
+-- written, and each is written in the canonical form. Definitions only.
 use Prim.Native.Nat.{ℕ}
 use mathlib.Core.Bool.{Bool, false, cond}
-use mathlib.Core.List.{List, _++_}
+use mathlib.Core.List.{List, _++_, map}
 use lib.ListN.{length, take, replicate}
 use lib.Dec.{leb}
 use lib.Seq.{sets}
@@ -10,7 +10,6 @@ use Rattle.model.specs.Lists.{_and_}
 use Rattle.model.specs.Layout.Format.{numberAt, bytesOf, concatMap}
 use Rattle.model.specs.declared.Metric.the-variants.{Euclidean}
 use Rattle.model.specs.declared.Role.the-variants.{Backup}
-use Rattle.model.specs.declared.Peer.{Peer}
 use Rattle.serve.specs.declared.Expiry.the-variants.{Never}
 use Rattle.header.specs.declared.Kept.{Kept}
 use Rattle.header.specs.declared.Node.{Node}
@@ -18,12 +17,10 @@ use Rattle.headerimage.specs.declared.Lent.{Lent}
 use Rattle.image.specs.Shape.{inUse, rowsAt, codesBelow}
 use Rattle.image.specs.Codes.{idOf, epochOf}
 use Rattle.image.specs.Parts.{noKey, noReplica}
-use Rattle.headerimage.specs.Rows.{offsetOf, expiryOf, expiryCode, expiryTime, keptAt, keptBytes}
+use Rattle.headerimage.specs.Rows.{noPeer, expiryOf, expiryCode, expiryTime, keptAt, keptBytes}
+use Rattle.headerimage.specs.Tidy.{tidyKept}
 
 -- ---- rows that say nothing
-
-abbrev pub noPeer : Peer
-noPeer = record { node = idOf 0; acked = offsetOf 0; aligned = false; behind = false; since = 0; proposing = false; member = false }
 
 unfoldable pub noKept : Kept
 noKept = record {
@@ -78,14 +75,16 @@ lentHeader s = record { found = headerLent s; node = cond (headerLent s) (nodeAt
 
 -- ---- what a write makes of an image: the shards in use are stored, all other bytes stay
 
+-- id, incarnation, version, how many shards, 0, the lease's code and end
+abbrev pub headOf : (id incarnation version count code time : ℕ) → List ℕ
+headOf id incarnation version count code time =
+    (((((bytesOf 8 id ++ bytesOf 8 incarnation) ++ bytesOf 8 version) ++ bytesOf 8 count) ++ bytesOf 4 0) ++ bytesOf 4 code) ++ bytesOf 8 time
+
 abbrev pub headBytes : Node → List ℕ
-headBytes n =
-    (((((bytesOf 8 (n .id .0) ++ bytesOf 8 (n .incarnation)) ++ bytesOf 8 (n .version)) ++ bytesOf 8 (n .count)) ++ bytesOf 4 0)
-    ++ bytesOf 4 (expiryCode (n .expiry)))
-    ++ bytesOf 8 (expiryTime (n .expiry))
+headBytes n = headOf (n .id .0) (n .incarnation) (n .version) (inUse 8 (n .count)) (expiryCode (n .expiry)) (expiryTime (n .expiry))
 
 abbrev pub shardsBytes : Node → List ℕ
-shardsBytes n = concatMap keptBytes (take (n .count) (n .held))
+shardsBytes n = concatMap keptBytes (map tidyKept (take (n .count) (n .held)))
 
 unfoldable pub headerPut : List ℕ → Node → List ℕ
 headerPut s n = sets (sets s 0 (headBytes n)) 48 (shardsBytes n)

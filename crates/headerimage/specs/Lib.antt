@@ -1,2 +1,4 @@
 pub mod Rows
+pub mod Tidy
 pub mod Image
+pub mod Becomes

@@ -51,6 +51,10 @@ peerOf ((((node, acked), since), flags), unused) = record {
 abbrev pub peerValue : Peer → Value peerF
 peerValue p = ((((p .node .0, p .acked .0), p .since), peerFlags p), 0)
 
+-- a peer that says nothing: zeros
+abbrev pub noPeer : Peer
+noPeer = record { node = idOf 0; acked = offsetOf 0; aligned = false; behind = false; since = 0; proposing = false; member = false }
+
 -- ---- a role: 0 backup, 1 primary, with its epoch and end offset
 
 abbrev pub roleF : Shape

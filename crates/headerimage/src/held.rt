@@ -1,15 +1,17 @@
 // Internal: the held shards of a header: 8 rows of 1280 bytes, from 48 on.
 ghost use mathlib.Core.Path.{_≡_};
-ghost use mathlib.Core.List.{_++_};
+ghost use mathlib.Core.List.{_++_, map};
 ghost use Prim.Native.Nat.{_+_, _≤_};
 ghost use lib.ListN.{length, take};
 ghost use lib.Seq.{sets};
 ghost use Rattle.model.specs.Layout.Format.{concatMap, bytesOf};
 ghost use Rattle.image.specs.Shape.{Stored};
 ghost use Rattle.headerimage.specs.Rows.{numbersBytes, roleAt, roleBytes, heldAt, heldBytes, keptAt, keptBytes};
+ghost use Rattle.headerimage.specs.Tidy.{tidyKept};
 ghost use Rattle.headerimage.specs.Image.{noKept, shardsAt};
 use crate::peers::peers_at;
 use crate::peers::put_peers;
+use crate::tidy::tidy_kept;
 use header::Kept;
 use image::bytes::count_at;
 use image::bytes::in_use;
@@ -198,14 +200,16 @@ pub fn shards_at(s: &[u8]) -> [Kept; 8]
     items
 }
 
+// Each shard in use, in the canonical form.
 pub fn put_shards(out: &mut [u8], shards: [Kept; 8], count: usize)
     requires { ⌜ 10288 ≤ length (now out) ⌝ }
-    ensures { λ r. ⌜ now (out .exit) ≡ sets (now (out .entry)) 48 (concatMap keptBytes (take count shards)) ⌝ }
+    ensures { λ r. ⌜ now (out .exit) ≡ sets (now (out .entry)) 48 (concatMap keptBytes (map tidyKept (take count shards))) ⌝ }
 {
     let n = in_use(8, count);
     let mut i: usize = 0;
     while i < n {
-        put_kept(out, 48 + 1280 * i, shards[i]);
+        let row = tidy_kept(shards[i]);
+        put_kept(out, 48 + 1280 * i, row);
         i += 1;
     }
 }

@@ -1,23 +1,27 @@
 // A node's header as the bytes that a host owns (docs/IMAGES.md): read into `header`'s Node, and written back. A buffer shorter than the
 // image, or with a code that is not listed, lends no header (24); whether the header that it lends is well formed, counts above their
-// arrays included, is for `header`. Bytes past the image, and shards past the count, are neither read nor written.
+// arrays included, is for `header`. Bytes past the image, and shards past the count, are neither read nor written. A shard in use is written
+// in the canonical form: zeros in the free places of its row, so that the bytes are those of what it is read as.
 ghost use mathlib.Core.Path.{_≡_};
 ghost use Prim.Native.Nat.{_≤_};
 ghost use lib.ListN.{length};
 ghost use Rattle.image.specs.Shape.{Stored};
 ghost use Rattle.headerimage.specs.Rows.{expiryOf, expiryCode, expiryTime};
-ghost use Rattle.headerimage.specs.Image.{codesListed, nodeAt, noNode, lentHeader, headBytes, headerPut, headerWritten};
+ghost use Rattle.headerimage.specs.Image.{codesListed, nodeAt, noNode, lentHeader, headBytes, headerPut};
+ghost use Rattle.headerimage.specs.Becomes.{HeaderWrites};
 use crate::held::no_kept;
 use crate::held::put_shards;
 use crate::held::shards_at;
 use header::Node;
 use image::bytes::codes_below;
 use image::bytes::count_at;
+use image::bytes::in_use;
 use model::DataNodeId;
 use serve::Expiry;
 
 mod held;
 mod peers;
+mod tidy;
 
 // The header that a buffer lends; without one, `node` has no shards.
 pub struct Lent {
@@ -137,7 +141,7 @@ fn put_head(out: &mut [u8], n: Node)
     num::put8(out, 0, n.id.0);
     num::put8(out, 8, n.incarnation);
     num::put8(out, 16, n.version);
-    num::put8(out, 24, n.count as u64);
+    num::put8(out, 24, in_use(8, n.count) as u64);
     num::put4(out, 32, 0);
     num::put4(out, 36, expiry_code(expiry));
     num::put8(out, 40, expiry_time(expiry));
@@ -153,9 +157,9 @@ fn put_header(out: &mut [u8], n: Node)
 }
 
 // The header written back over the image that it was read from: all but the shards past the count. Every other byte stays, and a buffer
-// shorter than an image stays whole.
+// shorter than an image stays whole. What was written is read as the header that was given, whatever it was.
 pub fn write_header(out: &mut [u8], n: Node)
-    ensures { λ r. ⌜ now (out .exit) ≡ headerWritten (now (out .entry)) n ⌝ }
+    ensures { λ r. ⌜ HeaderWrites (now (out .entry)) (now (out .exit)) n ⌝ }
 {
     if 10288 <= out.len() {
         put_header(out, n);

@@ -120,7 +120,7 @@ module _ {A : Type 0} where
   put-end put xs l m p i at z e = sym (ap (λ (j : ℕ). sets m p (concatMap put (drop j xs))) z ∙ (rw drop-length)) ∙ e
 
 module _ {A B : Type 0} (f : B → List ℕ) (g : A → B) where
-  concat-mapped : (xs : List A) → concatMap f (map g xs) ≡ concatMap (λ x. f (g x)) xs
+  pub concat-mapped : (xs : List A) → concatMap f (map g xs) ≡ concatMap (λ x. f (g x)) xs
   concat-mapped [] = refl
   concat-mapped (x ∷ xs) = ap (λ (l : List ℕ). f (g x) ++ l) (concat-mapped xs)
 

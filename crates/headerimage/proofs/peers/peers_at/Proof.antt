@@ -6,7 +6,7 @@ use Prim.Native.Nat.{_-_, _≤_, _<_}
 use lib.ListN.{length, length-set}
 use Rattle.image.specs.Shape.{rowsAt, value}
 use Rattle.headerimage.specs.Rows.{peerF, peerOf, peerAt, peersAt}
-use Rattle.headerimage.specs.Image.{noPeer}
+use Rattle.headerimage.specs.Rows.{noPeer}
 use Rattle.image.proofs.Images.{rows-start, rows-step, rows-full, map-items}
 use Rattle.headerimage.proofs.peers.peers_at.Statement.{statement}
 use Rattle.headerimage.proofs.peers.peers_at.Tie as tie

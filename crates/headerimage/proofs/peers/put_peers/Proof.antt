@@ -10,7 +10,7 @@ use Rattle.model.specs.Layout.Format.{concatMap}
 use Rattle.state.proofs.Tables.{of-field}
 use Rattle.image.specs.Shape.{encode}
 use Rattle.headerimage.specs.Rows.{peerF, peerValue, peerBytes, peersBytes}
-use Rattle.headerimage.specs.Image.{noPeer}
+use Rattle.headerimage.specs.Rows.{noPeer}
 use Rattle.image.proofs.Images.{put-step, put-end, stored-all}
 use Rattle.headerimage.proofs.peers.put_peers.Statement.{statement}
 use Rattle.headerimage.proofs.peers.put_peers.Tie as tie
