@@ -1,12 +1,16 @@
 -- What the whole image's functions come to, case by case; and the rows that stand for a place past an array's end. Assumes nothing.
 use Prim.Native.Nat.{ℕ, _≤_, _<_}
-use mathlib.Core.Path.{_≡_, refl}
+use mathlib.Core.Path.{_≡_, refl, sym, _∙_}
 use mathlib.Core.Bool.{Bool, true, false}
-use mathlib.Core.List.{List, []}
-use lib.ListN.{length}
+use mathlib.Core.List.{List, [], map}
+use lib.ListN.{length, take, length-map}
+use lib.Seq.{sets}
 use lib.Dec.{leb}
 use borrow.Author.Tests.{le-leb, lt-leb}
 use Rattle.model.proofs.LayoutLaws.Tests.{and-true, and-false}
+use Rattle.model.specs.Layout.Format.{bytesOf}
+use Rattle.image.specs.Shape.{inUse, Stored}
+use Rattle.image.proofs.Images.{stored-as, length-used}
 use Rattle.image.proofs.Tests.{none-of-last}
 use Rattle.model.specs.declared.Metric.the-variants.{Euclidean}
 use Rattle.state.proofs.Defaults as defaults
@@ -33,6 +37,13 @@ pastCollection = record {
 
 abbrev pub pastSession : SessionRow
 pastSession = record { client = 0; seq = 0; outcome = Applied; key = record { collection = record { bytes = []; len = 0 }; shard = 0 } }
+
+-- ---- a count that is written: how many rows are in use
+
+pub counted : {A B : Type 0} (limit n : ℕ) (xs : List A) (view : A → B) → length xs ≡ limit → (r : ℕ) → r ≡ inUse limit n → {s t : List ℕ} {at : ℕ}
+    → t ≡ sets s at (bytesOf 8 r) → Stored s t at (bytesOf 8 (length (map view (take n xs)))) 8
+counted limit n xs view k r e w =
+    stored-as 8 r (length (map view (take n xs))) (e ∙ sym (length-map (take n xs) view ∙ length-used limit n xs k)) w
 
 -- ---- whether a buffer lends a map
 

@@ -1,13 +1,15 @@
 -- A map's image (docs/IMAGES.md): 40 bytes of version and counts, then four tables of rows of a fixed size, 26536 bytes in all. Only the
 -- rows in use are read and written. Definitions only.
-use Prim.Native.Nat.{ℕ}
-use mathlib.Core.Bool.{Bool, false, cond}
+use Prim.Native.Nat.{ℕ, _≤_}
+use mathlib.Core.Path.{_≡_}
+use mathlib.Core.Bool.{Bool, true, false, cond}
 use mathlib.Core.List.{List, _++_}
-use lib.ListN.{length, take, replicate}
+use lib.ListN.{length, replicate}
 use lib.Dec.{leb}
 use lib.Seq.{sets}
 use Rattle.model.specs.Lists.{_and_}
 use Rattle.model.specs.Layout.Format.{numberAt, bytesOf, concatMap}
+use Rattle.model.specs.Map.Tables as tables
 use Rattle.model.specs.declared.Metric.the-variants.{Euclidean}
 use Rattle.state.specs.declared.NodeRow.{NodeRow}
 use Rattle.state.specs.declared.CollectionRow.{CollectionRow}
@@ -20,10 +22,12 @@ use Rattle.state.specs.declared.Sessions.{Sessions}
 use Rattle.state.specs.declared.ShardMap.{ShardMap}
 use Rattle.state.specs.declared.Primary.the-variants.{Nobody}
 use Rattle.state.specs.declared.Outcome.the-variants.{Applied}
+use Rattle.state.specs.View.{viewMap}
 use Rattle.mapimage.specs.declared.Lent.{Lent}
 use Rattle.image.specs.Shape.{inUse, rowsAt, codesBelow}
 use Rattle.image.specs.Codes.{idOf, epochOf}
 use Rattle.image.specs.Parts.{noName, noKey, noReplica}
+use Rattle.mapimage.specs.Canon.{imageNode, imageCollection, imageShard, imageSession}
 use Rattle.mapimage.specs.Rows.{nodeAt, nodeBytes, collectionAt, collectionBytes, shardAt, shardBytes, sessionAt, sessionBytes}
 
 -- ---- rows that say nothing, in the places past a count
@@ -99,33 +103,49 @@ mapLent s = leb 26536 (length s) and codesListed s
 abbrev pub lentMap : List ℕ → Lent
 lentMap s = record { found = mapLent s; map = cond (mapLent s) (mapAt s) noMap }
 
--- ---- what a write makes of an image: the rows in use are stored, all other bytes stay
+-- ---- what a write makes of an image: version, counts and the rows in use are stored, all other bytes stay
 
-abbrev pub headBytes : ShardMap → List ℕ
-headBytes m =
-    (((bytesOf 8 (m .version) ++ bytesOf 8 (m .nodes .count)) ++ bytesOf 8 (m .collections .count)) ++ bytesOf 8 (m .shards .count))
-    ++ bytesOf 8 (m .sessions .count)
+abbrev pub headImage : tables.Map → List ℕ
+headImage x =
+    (((bytesOf 8 (x .version) ++ bytesOf 8 (length (x .nodes))) ++ bytesOf 8 (length (x .collections))) ++ bytesOf 8 (length (x .shards)))
+    ++ bytesOf 8 (length (x .sessions))
 
-abbrev pub nodesBytes : Nodes → List ℕ
-nodesBytes t = concatMap nodeBytes (take (t .count) (t .items))
+unfoldable pub nodeImage : tables.NodeInfo → List ℕ
+nodeImage x = nodeBytes (imageNode x)
 
-abbrev pub collectionsBytes : Collections → List ℕ
-collectionsBytes t = concatMap collectionBytes (take (t .count) (t .items))
+unfoldable pub collectionImage : tables.Collection → List ℕ
+collectionImage x = collectionBytes (imageCollection x)
 
-abbrev pub shardsBytes : Shards → List ℕ
-shardsBytes t = concatMap shardBytes (take (t .count) (t .items))
+unfoldable pub shardImage : tables.ShardInfo → List ℕ
+shardImage x = shardBytes (imageShard x)
 
-abbrev pub sessionsBytes : Sessions → List ℕ
-sessionsBytes t = concatMap sessionBytes (take (t .count) (t .items))
+unfoldable pub sessionImage : tables.Session → List ℕ
+sessionImage x = sessionBytes (imageSession x)
 
-unfoldable pub mapPut : List ℕ → ShardMap → List ℕ
-mapPut s m =
+-- the image of a map of model, stored over bytes
+unfoldable pub mapStored : List ℕ → tables.Map → List ℕ
+mapStored s x =
     sets
     (sets
-    (sets (sets (sets s 0 (headBytes m)) 40 (nodesBytes (m .nodes))) 3112 (collectionsBytes (m .collections)))
-    4008 (shardsBytes (m .shards)))
-    21416 (sessionsBytes (m .sessions))
+    (sets (sets (sets s 0 (headImage x)) 40 (concatMap nodeImage (x .nodes))) 3112 (concatMap collectionImage (x .collections)))
+    4008 (concatMap shardImage (x .shards)))
+    21416 (concatMap sessionImage (x .sessions))
+
+abbrev pub mapPut : List ℕ → ShardMap → List ℕ
+mapPut s m = mapStored s (viewMap m)
 
 -- a buffer that is shorter than an image stays as it was
 unfoldable pub mapWritten : List ℕ → ShardMap → List ℕ
 mapWritten s m = cond (leb 26536 (length s)) (mapPut s m) s
+
+-- ---- what the bytes at exit are, of those at entry and a map of model: every byte, and that the map is read from them
+
+pub record MapBecomes (s t : List ℕ) (x : tables.Map) : Type 0 where
+  pub bytes : t ≡ mapStored s x
+  pub lent : mapLent t ≡ true
+  pub read : viewMap (mapAt t) ≡ x
+
+-- what a write promises: of a map that the code holds the image is that of the map that it is read as
+pub record MapWrites (s t : List ℕ) (m : ShardMap) : Type 0 where
+  pub image : t ≡ mapWritten s m
+  pub becomes : 26536 ≤ length s → MapBecomes s t (viewMap m)

@@ -3,10 +3,12 @@ ghost use mathlib.Core.Path.{_≡_};
 ghost use Prim.Native.Nat.{_+_, _≤_};
 ghost use lib.ListN.{length};
 ghost use lib.Seq.{sets};
-ghost use Rattle.model.specs.Layout.Format.{numberAt};
+ghost use Rattle.model.specs.Layout.Format.{numberAt, concatMap};
+ghost use Rattle.state.specs.View.{viewCollections};
 ghost use Rattle.image.specs.Shape.{Stored, inUse, codesBelow};
 ghost use Rattle.mapimage.specs.Rows.{collectionAt, collectionBytes};
-ghost use Rattle.mapimage.specs.Image.{noCollection, noCollections, collectionsAt, collectionsBytes};
+ghost use Rattle.mapimage.specs.Image.{noCollection, noCollections, collectionsAt, collectionImage};
+use crate::tidy::tidy_collection;
 use image::bytes::codes_below;
 use image::bytes::count_at;
 use image::bytes::in_use;
@@ -107,12 +109,12 @@ pub fn collections_at(s: &[u8]) -> Collections
 
 pub fn put_collections(out: &mut [u8], t: Collections)
     requires { ⌜ 26536 ≤ length (now out) ⌝ }
-    ensures { λ r. ⌜ now (out .exit) ≡ sets (now (out .entry)) 3112 (collectionsBytes t) ⌝ }
+    ensures { λ r. ⌜ now (out .exit) ≡ sets (now (out .entry)) 3112 (concatMap collectionImage (viewCollections t)) ⌝ }
 {
     let n = in_use(16, t.count);
     let mut i: usize = 0;
     while i < n {
-        let row = t.items[i];
+        let row = tidy_collection(t.items[i]);
         put_collection(out, 3112 + 56 * i, row);
         i += 1;
     }

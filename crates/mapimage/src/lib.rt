@@ -1,12 +1,13 @@
 // A shard map as the bytes that a host owns (docs/IMAGES.md): read into the tables of `state`, and written back. A buffer shorter than the
 // image, or with a code that is not listed, lends no map (24); whether the map that it lends is well formed, counts above their arrays
-// included, is for `mapcheck`. Bytes past the image, and rows past a count, are neither read nor written.
+// included, is for `mapcheck`. Bytes past the image, and rows past a count, are neither read nor written; a row in use is written whole.
 ghost use mathlib.Core.Path.{_≡_};
 ghost use Prim.Native.Nat.{_≤_};
 ghost use lib.ListN.{length};
 ghost use lib.Seq.{sets};
+ghost use Rattle.state.specs.View.{viewMap};
 ghost use Rattle.image.specs.Shape.{Stored};
-ghost use Rattle.mapimage.specs.Image.{codesListed, mapAt, noMap, lentMap, headBytes, mapPut, mapWritten};
+ghost use Rattle.mapimage.specs.Image.{codesListed, mapAt, noMap, lentMap, headImage, mapPut, MapWrites};
 use crate::collections::collection_codes;
 use crate::collections::collections_at;
 use crate::collections::no_collections;
@@ -23,12 +24,14 @@ use crate::shards::no_shards;
 use crate::shards::put_shards;
 use crate::shards::shard_codes;
 use crate::shards::shards_at;
+use image::bytes::in_use;
 use state::ShardMap;
 
 mod collections;
 mod nodes;
 mod sessions;
 mod shards;
+mod tidy;
 
 // The map that a buffer lends; without one, `map` has no rows.
 pub struct Lent {
@@ -110,16 +113,16 @@ pub fn read_map(s: &[u8]) -> Lent
     }
 }
 
-// Version and counts.
+// Version and counts: a count above its table is that of the whole table.
 fn put_head(out: &mut [u8], m: ShardMap)
     requires { ⌜ 26536 ≤ length (now out) ⌝ }
-    ensures { λ r. ⌜ Stored (now (out .entry)) (now (out .exit)) 0 (headBytes m) 40 ⌝ }
+    ensures { λ r. ⌜ Stored (now (out .entry)) (now (out .exit)) 0 (headImage (viewMap m)) 40 ⌝ }
 {
     num::put8(out, 0, m.version);
-    num::put8(out, 8, m.nodes.count as u64);
-    num::put8(out, 16, m.collections.count as u64);
-    num::put8(out, 24, m.shards.count as u64);
-    num::put8(out, 32, m.sessions.count as u64);
+    num::put8(out, 8, in_use(32, m.nodes.count) as u64);
+    num::put8(out, 16, in_use(16, m.collections.count) as u64);
+    num::put8(out, 24, in_use(64, m.shards.count) as u64);
+    num::put8(out, 32, in_use(64, m.sessions.count) as u64);
 }
 
 fn put_map(out: &mut [u8], m: ShardMap)
@@ -133,10 +136,10 @@ fn put_map(out: &mut [u8], m: ShardMap)
     put_sessions(out, m.sessions);
 }
 
-// The map written back over the image that it was read from: version, counts, and the rows in use. Every other byte stays, and a buffer
-// shorter than an image stays whole.
+// The map written back over the image that it was read from: version, counts, and the rows in use, each in the form that what it is read as
+// gives it. Every other byte stays, and a buffer shorter than an image stays whole. What was written lends the map again.
 pub fn write_map(out: &mut [u8], m: ShardMap)
-    ensures { λ r. ⌜ now (out .exit) ≡ mapWritten (now (out .entry)) m ⌝ }
+    ensures { λ r. ⌜ MapWrites (now (out .entry)) (now (out .exit)) m ⌝ }
 {
     if 26536 <= out.len() {
         put_map(out, m);

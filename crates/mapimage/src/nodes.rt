@@ -3,10 +3,12 @@ ghost use mathlib.Core.Path.{_≡_};
 ghost use Prim.Native.Nat.{_+_, _≤_};
 ghost use lib.ListN.{length, replicate};
 ghost use lib.Seq.{sets};
-ghost use Rattle.model.specs.Layout.Format.{numberAt};
+ghost use Rattle.model.specs.Layout.Format.{numberAt, concatMap};
+ghost use Rattle.state.specs.View.{viewNodes};
 ghost use Rattle.image.specs.Shape.{Stored, inUse, codesBelow};
 ghost use Rattle.mapimage.specs.Rows.{nodeAt, nodeBytes};
-ghost use Rattle.mapimage.specs.Image.{noNode, noNodes, nodesAt, nodesBytes};
+ghost use Rattle.mapimage.specs.Image.{noNode, noNodes, nodesAt, nodeImage};
+use crate::tidy::tidy_node;
 use image::bytes::codes_below;
 use image::bytes::count_at;
 use image::bytes::in_use;
@@ -100,12 +102,12 @@ pub fn nodes_at(s: &[u8]) -> Nodes
 
 pub fn put_nodes(out: &mut [u8], t: Nodes)
     requires { ⌜ 26536 ≤ length (now out) ⌝ }
-    ensures { λ r. ⌜ now (out .exit) ≡ sets (now (out .entry)) 40 (nodesBytes t) ⌝ }
+    ensures { λ r. ⌜ now (out .exit) ≡ sets (now (out .entry)) 40 (concatMap nodeImage (viewNodes t)) ⌝ }
 {
     let n = in_use(32, t.count);
     let mut i: usize = 0;
     while i < n {
-        let row = t.items[i];
+        let row = tidy_node(t.items[i]);
         put_node(out, 40 + 96 * i, row);
         i += 1;
     }

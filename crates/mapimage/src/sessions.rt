@@ -3,10 +3,12 @@ ghost use mathlib.Core.Path.{_≡_};
 ghost use Prim.Native.Nat.{_+_, _≤_};
 ghost use lib.ListN.{length};
 ghost use lib.Seq.{sets};
-ghost use Rattle.model.specs.Layout.Format.{numberAt};
+ghost use Rattle.model.specs.Layout.Format.{numberAt, concatMap};
+ghost use Rattle.state.specs.View.{viewSessions};
 ghost use Rattle.image.specs.Shape.{Stored, inUse, codesBelow};
 ghost use Rattle.mapimage.specs.Rows.{sessionAt, sessionBytes};
-ghost use Rattle.mapimage.specs.Image.{noSession, noSessions, sessionsAt, sessionsBytes};
+ghost use Rattle.mapimage.specs.Image.{noSession, noSessions, sessionsAt, sessionImage};
+use crate::tidy::tidy_session;
 use image::bytes::codes_below;
 use image::bytes::count_at;
 use image::bytes::in_use;
@@ -102,12 +104,12 @@ pub fn sessions_at(s: &[u8]) -> Sessions
 
 pub fn put_sessions(out: &mut [u8], t: Sessions)
     requires { ⌜ 26536 ≤ length (now out) ⌝ }
-    ensures { λ r. ⌜ now (out .exit) ≡ sets (now (out .entry)) 21416 (sessionsBytes t) ⌝ }
+    ensures { λ r. ⌜ now (out .exit) ≡ sets (now (out .entry)) 21416 (concatMap sessionImage (viewSessions t)) ⌝ }
 {
     let n = in_use(64, t.count);
     let mut i: usize = 0;
     while i < n {
-        let row = t.items[i];
+        let row = tidy_session(t.items[i]);
         put_session(out, 21416 + 80 * i, row);
         i += 1;
     }

@@ -3,10 +3,12 @@ ghost use mathlib.Core.Path.{_≡_};
 ghost use Prim.Native.Nat.{_+_, _≤_};
 ghost use lib.ListN.{length};
 ghost use lib.Seq.{sets};
-ghost use Rattle.model.specs.Layout.Format.{numberAt};
+ghost use Rattle.model.specs.Layout.Format.{numberAt, concatMap};
+ghost use Rattle.state.specs.View.{viewShards};
 ghost use Rattle.image.specs.Shape.{Stored, inUse, codesBelow};
 ghost use Rattle.mapimage.specs.Rows.{shardAt, shardBytes, holdersAt, inSyncAt};
-ghost use Rattle.mapimage.specs.Image.{noShard, noShards, shardsAt, shardsBytes};
+ghost use Rattle.mapimage.specs.Image.{noShard, noShards, shardsAt, shardImage};
+use crate::tidy::tidy_shard;
 use image::bytes::codes_below;
 use image::bytes::count_at;
 use image::bytes::in_use;
@@ -154,12 +156,12 @@ pub fn shards_at(s: &[u8]) -> Shards
 
 pub fn put_shards(out: &mut [u8], t: Shards)
     requires { ⌜ 26536 ≤ length (now out) ⌝ }
-    ensures { λ r. ⌜ now (out .exit) ≡ sets (now (out .entry)) 4008 (shardsBytes t) ⌝ }
+    ensures { λ r. ⌜ now (out .exit) ≡ sets (now (out .entry)) 4008 (concatMap shardImage (viewShards t)) ⌝ }
 {
     let n = in_use(64, t.count);
     let mut i: usize = 0;
     while i < n {
-        let row = t.items[i];
+        let row = tidy_shard(t.items[i]);
         put_shard(out, 4008 + 272 * i, row);
         i += 1;
     }

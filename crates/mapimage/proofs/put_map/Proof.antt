@@ -1,7 +1,7 @@
 -- `put_map` meets its contract. Assumes nothing.
 use borrow.Author.Needs.{needs}
 use mathlib.Core.Path.{refl}
-use Rattle.mapimage.specs.Image.{mapPut}
+use Rattle.mapimage.specs.Image.{mapStored}
 use Rattle.mapimage.proofs.put_map.Statement.{statement}
 use Rattle.mapimage.proofs.put_map.Tie as tie
 
@@ -24,7 +24,7 @@ same-length : tie.Need-same-length
 same-length c = search needs
 
 returns : tie.Need-returns
-unfolding mapPut
+unfolding mapStored
 returns c = rw (c .before .before .put-sessions .ensures, c .before .before .before .before .before .before .put-shards .ensures, c .before .before .before .before .before .before .before .before .before .before .put-collections .ensures, c .before .before .before .before .before .before .before .before .before .before .before .before .before .before .put-nodes .ensures, c .before .before .before .before .before .before .before .before .before .before .before .before .before .before .before .before .before .before .put-head .ensures .image)
 
 pub put-map-spec : {M : Type 1} → statement M

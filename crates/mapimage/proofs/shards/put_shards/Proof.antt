@@ -1,20 +1,29 @@
 -- `shards::put_shards` meets its contract. Assumes nothing.
 use borrow.Author.Needs.{needs}
 use native.Mathlib.Omega.{arith}
-use mathlib.Core.Path.{_≡_, refl, _∙_}
-use Prim.Native.Nat.{_+_, _-_, _*_, _≤_, _<_}
+use mathlib.Core.Path.{_≡_, refl, sym, ap, _∙_}
+use mathlib.Core.List.{List}
+use Prim.Native.Nat.{ℕ, _+_, _-_, _*_, _≤_, _<_}
 use lib.ListN.{length, take, drop}
 use lib.Seq.{sets}
 use Rattle.model.specs.Layout.Format.{concatMap}
+use Rattle.state.specs.View.{viewShard}
+use Rattle.state.specs.declared.ShardRow.{ShardRow}
 use Rattle.state.proofs.Tables.{of-field}
-use Rattle.image.proofs.Images.{table-step, length-used, put-end}
-use Rattle.mapimage.specs.Rows.{shardBytes}
+use Rattle.image.proofs.Images.{table-step, length-used, put-end, concat-mapped}
+use Rattle.mapimage.specs.Image.{shardImage}
 use Rattle.mapimage.proofs.OfImage.{pastShard}
 use Rattle.mapimage.proofs.shards.put_shards.Statement.{statement}
 use Rattle.mapimage.proofs.shards.put_shards.Tie as tie
 
+-- a row in the table, as it is written
+abbrev put : ShardRow → List ℕ
+put r = shardImage (viewShard r)
+
 abbrev Inv-loop : tie.InvT-loop
-Inv-loop out₀ t n i₀ out i = (i ≤ n) × (n ≤ 64) × (length out ≡ length out₀) × (sets out (4008 + 272 * i) (concatMap shardBytes (drop i (take (t .count) (t .items)))) ≡ sets out₀ 4008 (concatMap shardBytes (take (t .count) (t .items))))
+Inv-loop out₀ t n i₀ out i =
+    (i ≤ n) × (n ≤ 64) × (length out ≡ length out₀)
+    × (sets out (4008 + 272 * i) (concatMap put (drop i (take (t .count) (t .items)))) ≡ sets out₀ 4008 (concatMap put (take (t .count) (t .items))))
 
 abbrev μ-loop : tie.MeasureT-loop
 μ-loop out₀ t n i₀ out i = n - i
@@ -25,11 +34,14 @@ in-use-requires c κs = search needs
 loop-holds : tie.Need-loop-holds Inv-loop μ-loop
 loop-holds c = (omega arith, c .in-use .ensures .1, refl, refl)
 
-mul-row : tie.Need-mul-row Inv-loop μ-loop
-mul-row c = search needs
+mul-tidy-shard : tie.Need-mul-tidy-shard Inv-loop μ-loop
+mul-tidy-shard c = search needs
 
-element-copy-out-row : tie.Need-element-copy-out-row Inv-loop μ-loop
-element-copy-out-row c = search needs
+element-copy-out-tidy-shard : tie.Need-element-copy-out-tidy-shard Inv-loop μ-loop
+element-copy-out-tidy-shard c = search needs
+
+tidy-shard-requires : tie.Need-tidy-shard-requires Inv-loop μ-loop
+tidy-shard-requires c κs = search needs
 
 mul-put-shard : tie.Need-mul-put-shard Inv-loop μ-loop
 mul-put-shard c = search needs
@@ -47,15 +59,17 @@ loop-less : tie.Need-loop-less Inv-loop μ-loop
 loop-less c = search needs
 
 loop-again : tie.Need-loop-again Inv-loop μ-loop
+unfolding shardImage
 loop-again c =
-    let l = (c .before .before .before .before .before .before .loop) in
-    let a = (c .before .before .before .before .before .before .before .before .before .args) in
+    let l = (c .before .before .before .before .before .before .before .loop) in
+    let a = (c .before .before .before .before .before .before .before .before .before .before .args) in
     let k : length (a .t2 .items) ≡ 64 = search (needs, of-field) in
     let m = length-used 64 (a .t2 .count) (a .t2 .items) k in
     let h : l .i < a .t2 .count = omega arith in
     let g : l .i < length (take (a .t2 .count) (a .t2 .items)) = omega arith in
     let q : 4008 + 272 * (l .i + 1) ≡ 4008 + 272 * l .i + 272 = omega arith in
-    (omega arith, l .inv .1, c .before .before .put-shard .kept .0 ∙ l .inv .2, table-step shardBytes 272 (a .t2 .items) (a .t2 .count) pastShard (l .out) _ (l .i) (4008 + 272 * l .i) (4008 + 272 * (l .i + 1)) h g q (c .before .before .put-shard .ensures) ∙ l .inv .3)
+    let s = rw (c .before .before .before .before .tidy-shard .ensures) at (c .before .before .put-shard .ensures) in
+    (omega arith, l .inv .1, c .before .before .put-shard .kept .0 ∙ l .inv .2, table-step put 272 (a .t2 .items) (a .t2 .count) pastShard (l .out) _ (l .i) (4008 + 272 * l .i) (4008 + 272 * (l .i + 1)) h g q s ∙ l .inv .3)
 
 same-length : tie.Need-same-length Inv-loop μ-loop
 same-length c = c .before .loop .inv .2
@@ -66,8 +80,27 @@ returns c =
     let a = (c .before .before .before .before .args) in
     let k : length (a .t2 .items) ≡ 64 = search (needs, of-field) in
     let m = length-used 64 (a .t2 .count) (a .t2 .items) k in
-    let z : l .i ≡ length (take (a .t2 .count) (a .t2 .items)) = omega arith in
-    put-end shardBytes (take (a .t2 .count) (a .t2 .items)) (a .out .now) (l .out) (4008 + 272 * l .i) (l .i) 4008 z (l .inv .3)
+    let rows = take (a .t2 .count) (a .t2 .items) in
+    let z : l .i ≡ length rows = omega arith in
+    put-end put rows (a .out .now) (l .out) (4008 + 272 * l .i) (l .i) 4008 z (l .inv .3)
+    ∙ ap (λ (b : List ℕ). sets (a .out .now) 4008 b) (sym (concat-mapped shardImage viewShard rows))
 
 pub put-shards-spec : {M : Type 1} → statement M
-put-shards-spec = tie.close (tie.spec Inv-loop μ-loop in-use-requires loop-holds mul-row element-copy-out-row mul-put-shard add-put-shard put-shard-requires add-i loop-less loop-again same-length returns)
+put-shards-spec =
+    tie.close
+    (tie.spec
+    Inv-loop
+    μ-loop
+    in-use-requires
+    loop-holds
+    mul-tidy-shard
+    element-copy-out-tidy-shard
+    tidy-shard-requires
+    mul-put-shard
+    add-put-shard
+    put-shard-requires
+    add-i
+    loop-less
+    loop-again
+    same-length
+    returns)

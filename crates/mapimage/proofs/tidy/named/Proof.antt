@@ -1,0 +1,14 @@
+-- `tidy::named` meets its contract. Assumes nothing.
+use borrow.Author.Needs.{needs}
+use mathlib.Core.Path.{refl}
+use Rattle.mapimage.proofs.tidy.named.Statement.{statement}
+use Rattle.mapimage.proofs.tidy.named.Tie as tie
+
+tidy-name-requires : tie.Need-tidy-name-requires
+tidy-name-requires c κs = search needs
+
+returns : tie.Need-returns
+returns c = rw (c .tidy-name .ensures)
+
+pub named-spec : {M : Type 1} → statement M
+named-spec = tie.close (tie.spec tidy-name-requires returns)
