@@ -1,0 +1,2 @@
+pub mod OfLogs
+pub mod OfCalls
