@@ -24,13 +24,13 @@ retains-same l = refl
 pub retains-longer : (l m : Log) → Within l m → Retains l m
 retains-longer l m w =
     let e : min (length l) (length m) ≡ length l = min-eq-left (within-length l m w) in
-    rw e (within-take l m w ∙ sym (take-all (length l) l (omega arith)))
+    ap (λ (n : ℕ). take n m) e ∙ within-take l m w ∙ sym (take-all (length l) l (omega arith)) ∙ ap (λ (n : ℕ). take n l) (sym e)
 
 -- cut
 pub retains-cut : (l m : Log) → Within m l → Retains l m
 retains-cut l m w =
     let e : min (length l) (length m) ≡ length m = min-eq-right (within-length m l w) in
-    rw e (take-all (length m) m (omega arith) ∙ sym (within-take m l w))
+    ap (λ (n : ℕ). take n m) e ∙ take-all (length m) m (omega arith) ∙ sym (within-take m l w) ∙ ap (λ (n : ℕ). take n l) (sym e)
 
 pub append-retains : (r : ShardReplica) (op : Op) → Retains (r .log) (append r op .log)
 unfolding append push
