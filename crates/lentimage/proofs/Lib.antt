@@ -1,4 +1,10 @@
 pub mod OfPick
 pub mod OfPut
+pub mod OfSlots
 pub mod OfState
 pub mod OfBack
+pub mod OfFamily
+pub mod OfExit
+pub mod OfBegun
+pub mod OfAfter
+pub mod OfLent

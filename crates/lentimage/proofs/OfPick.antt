@@ -10,6 +10,7 @@ use lib.ListN.{length, getD, length-replicate}
 use borrow.Author.Tests.{lt-ltb, le-ltb, le-leb, lt-leb, eq-eqb}
 use Rattle.model.specs.Lists.{_and_}
 use Rattle.model.specs.Keys.{Key}
+use Rattle.model.specs.Layout.Format.{Bytes}
 use Rattle.model.specs.Node.Wire.{floatOf}
 use Rattle.model.proofs.Lists.{and-true, and-left, not-both}
 use Rattle.storecheck.proofs.Answers.{true-if}
@@ -58,9 +59,9 @@ module _ (s : List ℕ) (x : Kept) (there : 1392640 ≤ length s) (slot : x .slo
 
   read-fresh : (b : Lot) (r : Bool)
       → Reads s (beginOf x) (x .held .last) (noLot .columns) (b .columns) (noLot .keys) (noLot .places) (b .keys) (b .places) r
-      → KeptRead s x b r
+      → Bytes s → KeptRead s x b r
   unfolding keptReadable lotAt
-  read-fresh b r q =
+  read-fresh b r q bytes =
       let room = roomFor s (beginOf x) (x .held .last) (noLot .columns) (noLot .keys) (noLot .places) in
       let all = allReadable s (beginOf x) (x .held .last) in
       record {
@@ -68,20 +69,23 @@ module _ (s : List ℕ) (x : Kept) (there : 1392640 ≤ length s) (slot : x .slo
         lot = λ e.
             let t : room ≡ true = and-left room all (sym (q .answer) ∙ e) in
             rw (q .columns, q .keys, q .places, t);
+        bytes = λ e. bytes;
       }
 
   -- the store of a slot, read into fresh columns
   pub kept-read : (a b : Lot) (r : Bool) (base : ℕ) → a ≡ noLot
-      → Reads s base (x .held .last) (a .columns) (b .columns) (a .keys) (a .places) (b .keys) (b .places) r → base ≡ beginOf x → KeptRead s x b r
-  kept-read a b r base fresh q e =
+      → Reads s base (x .held .last) (a .columns) (b .columns) (a .keys) (a .places) (b .keys) (b .places) r → base ≡ beginOf x → Bytes s
+      → KeptRead s x b r
+  kept-read a b r base fresh q e bytes =
       let p = subst (λ (i : ℕ). Reads s i (x .held .last) (a .columns) (b .columns) (a .keys) (a .places) (b .keys) (b .places) r) e q in
       read-fresh b r
       (subst (λ (z : Lot). Reads s (beginOf x) (x .held .last) (z .columns) (b .columns) (z .keys) (z .places) (b .keys) (b .places) r) fresh p)
+      bytes
 
 -- a slot that none of the eight is
 pub kept-none : (s : List ℕ) (x : Kept) (b : Lot) → 8 ≤ x .slot → KeptRead s x b false
 unfolding keptReadable
-kept-none s x b h = record { answer = off (ltb (x .slot) 8) _ (le-ltb (x .slot) 8 h); lot = λ e. not-both false e refl }
+kept-none s x b h = record { answer = off (ltb (x .slot) 8) _ (le-ltb (x .slot) 8 h); lot = λ e. not-both false e refl; bytes = λ e. not-both false e refl }
 
 -- ---- the whole
 
@@ -99,6 +103,7 @@ module _ (h s : List ℕ) (k : Key) where
     read = λ t. not-both _ t e;
     at = λ t. not-both _ t e;
     lot = λ t. not-both _ t e;
+    bytes = λ t. not-both _ t e;
   }
 
   pub lends-unread : (l : Lent) → l ≡ lentHeader h → l .found ≡ false → lendsState h s k ≡ false
@@ -132,14 +137,15 @@ module _ (h s : List ℕ) (k : Key) where
           lent (few-too few) (le-leb 1392640 (length s) there)
 
       picks-held : (b : Lot) (at : ℕ) (r : Bool) → r ≡ readable s n k → at ≡ placeOf n k → (r ≡ true → b ≡ lotIn s n k)
-          → Picks h s k b (record { found = r; at = at; node = n })
-      picks-held b at r found e read =
+          → (r ≡ true → holds n k ≡ true → Bytes s) → Picks h s k b (record { found = r; at = at; node = n })
+      picks-held b at r found e read bytes =
           let f = found ∙ lends-is in
           record {
             found = f;
             read = λ t. is;
             at = λ t. e ∙ ap (λ (m : Node). placeOf m k) is;
             lot = λ t. read (f ∙ t) ∙ ap (λ (m : Node). lotIn s m k) is;
+            bytes = λ t q. bytes (f ∙ t) (ap (λ (m : Node). holds m k) is ∙ q);
           }
 
       -- the shard is not held: the columns stay fresh
@@ -149,6 +155,7 @@ module _ (h s : List ℕ) (k : Key) where
           let t : holds n k ≡ false = le-ltb (placeOf n k) (n .count) (omega arith) in
           picks-held b at true (sym (ap (λ (c : Bool). cond c (keptReadable s (keptOf n k)) true) t)) e
           (λ q. fresh ∙ sym (ap (λ (c : Bool). cond c (lotAt s (keptOf n k)) noLot) t))
+          (λ q z. not-both (holds n k) z t)
 
       -- it is held, and its own store was read
       pub picks-kept : (b : Lot) (at : ℕ) (r : Bool) → at ≡ placeOf n k → at < n .count → KeptRead s (getD (n .held) at noKept) b r
@@ -158,3 +165,4 @@ module _ (h s : List ℕ) (k : Key) where
           let p = subst (λ (i : ℕ). KeptRead s (getD (n .held) i noKept) b r) e q in
           picks-held b at r (p .answer ∙ sym (ap (λ (c : Bool). cond c (keptReadable s (keptOf n k)) true) t)) e
           (λ z. p .lot z ∙ sym (ap (λ (c : Bool). cond c (lotAt s (keptOf n k)) noLot) t))
+          (λ z q. p .bytes z)

@@ -2,14 +2,14 @@
 -- header and eight stores are there, the header passes its test, and the store of a shard that is held is well formed. Assumes nothing.
 use Prim.Native.Nat.{ℕ, zero, suc, _+_, _≤_, _<_}
 use mathlib.Core.Path.{_≡_, refl, sym, ap, subst, _∙_}
-use mathlib.Core.Bool.{Bool, true, false, cond, not}
+use mathlib.Core.Bool.{Bool, true, false, cond}
 use mathlib.Core.List.{List, [], _∷_}
 use native.Mathlib.Omega.{arith}
 use lib.Dec.{leb, ltb}
 use lib.ListN.{length, getD, take, drop, length-drop}
 use lib.Seq.{length-take-le, getD-take}
 use borrow.Author.Tests.{ltb-true, lt-ltb, leb-true, le-leb}
-use Rattle.model.specs.Lists.{_and_, any, every}
+use Rattle.model.specs.Lists.{_and_, every}
 use Rattle.model.specs.Keys.{Key}
 use Rattle.model.proofs.Lists.{and-true, and-left, and-right}
 use Rattle.shard.specs.Store.{Sized, wellFormedStore}
@@ -19,7 +19,7 @@ use Rattle.replica.proofs.OfFits.{fits-well, fits-from}
 use Rattle.header.specs.declared.Kept.{Kept}
 use Rattle.header.specs.declared.Node.{Node}
 use Rattle.header.specs.View.{Stores, used, noKept}
-use Rattle.header.specs.Formed.{onSlot, slotsFit, countsFit, lentNode}
+use Rattle.header.specs.Formed.{slotsFit, countsFit, lentNode}
 use Rattle.header.proofs.OfLists.{by-case}
 use Rattle.lend.specs.Lend.{storeOf, keptStore, placeOf, lentAt, lentFor}
 use Rattle.headerimage.specs.Image.{headerLent, nodeAt}
@@ -28,6 +28,7 @@ use Rattle.storeimage.specs.Read.{columnsAt, allReadable}
 use Rattle.storeimage.proofs.Words.{words-length}
 use Rattle.storeimage.proofs.OfTest.{image-test}
 use Rattle.lentimage.proofs.OfPick.{floats-whole}
+use Rattle.lentimage.proofs.OfSlots.{slots-below}
 use Rattle.lentimage.specs.Lent.{storesSize, noLot, beginOf, keptReadable, lotAt, holds, keptOf, readable, lotIn, lendsState}
 
 -- the store of a held shard, as an image
@@ -39,13 +40,7 @@ abbrev pub imagesLent : Stores → (header stores : List ℕ) → Key → Bool
 imagesLent z h s k =
     headerLent h and (leb storesSize (length s) and (lentNode z (nodeAt h) and cond (holds (nodeAt h) k) (keptImage s (keptOf (nodeAt h) k)) true))
 
--- ---- a slot in use is one of the eight
-
-slots-below : (l : List Kept) → slotsFit l ≡ true → (i : ℕ) → getD l i noKept .slot < 8
-unfolding slotsFit
-slots-below [] e i = omega arith
-slots-below (x ∷ xs) e zero = ltb-true (x .slot) 8 (and-left (ltb (x .slot) 8) _ e)
-slots-below (x ∷ xs) e (suc i) = slots-below xs (and-right (not (any (onSlot (x .slot)) xs)) (slotsFit xs) (and-right (ltb (x .slot) 8) _ e)) i
+-- ---- the header is one
 
 lent-few : (z : Stores) (n : Node) → lentNode z n ≡ true → leb (n .count) 8 ≡ true
 unfolding lentNode

@@ -9,7 +9,7 @@ use lib.ListN.{length, getD, replicate}
 use Rattle.model.specs.Lists.{_and_}
 use Rattle.model.specs.Limits.{maxEntries, maxHeld, minFloats}
 use Rattle.model.specs.Keys.{Key}
-use Rattle.model.specs.Layout.Format.{All}
+use Rattle.model.specs.Layout.Format.{Bytes, All}
 use Rattle.model.specs.Node.Wire.{floatOf}
 use Rattle.shard.specs.View.{columns, logOf}
 use Rattle.shard.specs.Table.{rowsOf}
@@ -85,11 +85,14 @@ pub record Picks (h s : List ℕ) (k : Key) (b : Lot) (r : Picked) : Type 0 wher
   pub read : lendsState h s k ≡ true → r .node ≡ nodeAt h
   pub at : lendsState h s k ≡ true → r .at ≡ placeOf (nodeAt h) k
   pub lot : lendsState h s k ≡ true → b ≡ lotIn s (nodeAt h) k
+  -- where a store was read, what is read are bytes
+  pub bytes : lendsState h s k ≡ true → holds (nodeAt h) k ≡ true → Bytes s
 
 -- of one store
 pub record KeptRead (s : List ℕ) (x : Kept) (b : Lot) (r : Bool) : Type 0 where
   pub answer : r ≡ keptReadable s x
   pub lot : r ≡ true → b ≡ lotAt s x
+  pub bytes : r ≡ true → Bytes s
 
 -- ---- what is written back, over the images that were read
 

@@ -1,2 +1,4 @@
 pub mod OfLogs
 pub mod OfCalls
+pub mod OfLent
+pub mod OfBegin

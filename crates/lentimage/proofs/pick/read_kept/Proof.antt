@@ -1,6 +1,7 @@
 -- `lentimage::pick::read_kept` meets its contract. Assumes nothing.
 use borrow.Author.Needs.{needs}
 use mathlib.Core.Path.{refl}
+use native.Mathlib.Omega.{arith}
 use Rattle.lend.specs.Lend.{Lot, lot}
 use Rattle.lentimage.proofs.OfPick.{kept-read, kept-none}
 use Rattle.lentimage.proofs.pick.read_kept.Statement.{statement}
@@ -49,6 +50,7 @@ returns-2 : tie.Need-returns-2
 returns-2 c =
     let s = c .before .before .before .before .before .before .before .before .before .before .before .before .before .before .before .before .before .before .before .before .before .before .before .before .before .before .before .before .before .before .before .before .before .before .before .before in
     kept-read (s .args .stores .now) (s .args .x) (s .pre .0) (c .before .before .before .before .before .before .before .before .before .before .before .before .before .before .before .before .before .before .before .before .before .before .before .before .before .before .if1 .left) (columnsOf s) _ _ _ (s .pre .1) (c .before .before .before .before .before .before .before .before .before .before .before .before .before .before .before .before .read-store .ensures) refl
+    (λ i. omega (arith, c .before .before .before .before .before .before .before .before .before .before .before .before .before .before .before .before .before .before .before .before .before .before .before .before .before .before .before .before .before .before .before .before .before .before .before .shared-slice-known .given i))
 
 pub read-kept-spec : {M : Type 1} → statement M
 read-kept-spec =

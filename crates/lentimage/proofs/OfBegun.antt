@@ -1,0 +1,155 @@
+-- The stores at entry and at exit of a call at a shard that is not held: no store is written, and a shard that begins has an empty log and
+-- no rows in a slot that none had, whose bytes may be anything. Assumes nothing.
+use Prim.Native.Nat.{ℕ, zero, suc, _+_, _≤_, _<_}
+use mathlib.Core.Path.{_≡_, refl, sym, ap, subst, _∙_}
+use mathlib.Core.Bool.{Bool, true, false, cond}
+use mathlib.Core.List.{List, [], _∷_, map}
+use mathlib.Core.Option.{some}
+use native.Mathlib.Omega.{arith}
+use lib.Dec.{eqb, ltb}
+use lib.ListN.{length, getD, take, drop, length-map, length-append, length-drop}
+use lib.Seq.{length-take-le, getD-at}
+use borrow.Author.Tests.{eqb-true, eq-eqb, ltb-true, ltb-false, le-ltb}
+use Rattle.model.specs.Lists.{nth, lead}
+use Rattle.model.specs.Keys.{Key}
+use Rattle.model.specs.Log.{Log, Vectors}
+use Rattle.model.specs.Node.Held as held
+use Rattle.model.proofs.Lists.{not-both, nth-same}
+use Rattle.retained.proofs.OfBegin.{Fresh}
+use Rattle.node.specs.View.{insertAt}
+use Rattle.node.proofs.Loops.{lead-most}
+use Rattle.shard.specs.View.{logOf}
+use Rattle.shard.specs.Table.{Row, zipped, rowsOf, vectorOf, vectorsOf}
+use Rattle.header.specs.declared.Kept.{Kept}
+use Rattle.header.specs.declared.Node.{Node}
+use Rattle.header.specs.View.{Stores, viewKept, viewNode, used, noKept}
+use Rattle.header.specs.Formed.{formedNode, slotsFit}
+use Rattle.header.specs.Seats.{slotsOf, SameSlots}
+use Rattle.header.specs.Grow.{lowestFree, belowKey}
+use Rattle.header.proofs.OfLists.{by-case}
+use Rattle.header.proofs.OfFormed.{header-apart}
+use Rattle.header.proofs.OfGrow.{slot-free-open, view-bare}
+use Rattle.lend.specs.Lend.{Lot, placeOf, slotOf}
+use Rattle.lentimage.specs.Lent.{lotIn, storePut, storesPut}
+use Rattle.lentimage.specs.State.{storesIn}
+use Rattle.lentimage.proofs.OfSlots.{slots-below, slots-one, none-on, slot-at, nodes-agree, view-nth}
+use Rattle.lentimage.proofs.OfFamily.{vectorsIn, lentIn, own-log, own-vectors, other-kept}
+
+-- a slot that no list has
+not-eqb : (a b : ℕ) → (a ≡ b → ⊥) → eqb a b ≡ false
+not-eqb a b d = by-case (eqb a b) (λ e. absurd (d (eqb-true a b e))) (λ e. e)
+
+-- columns that have a place make a row of each count but none
+no-rows : (ks ps : List ℕ) (m : ℕ) → 0 < length ks → 0 < length ps → length (rowsOf ks ps m) ≡ 0 → m ≡ 0
+unfolding rowsOf zipped
+no-rows ks ps zero a b e = refl
+no-rows [] ps (suc m) a b e = absurd (omega arith)
+no-rows (k ∷ ks) [] (suc m) a b e = absurd (omega arith)
+no-rows (k ∷ ks) (p ∷ ps) (suc m) a b e = absurd (omega arith)
+
+module _ (s : List ℕ) (n : Node) (k : Key) (formed : formedNode n ≡ true) (inside : n .count ≤ length (n .held)) (gone : n .count ≤ placeOf n k) where
+  abbrev slot : ℕ
+  slot = slotOf n k
+
+  own : slot ≡ lowestFree (used n)
+  unfolding slotOf
+  own = rw (le-ltb (placeOf n k) (n .count) gone) refl
+
+  -- no shard has the slot
+  free : (i : ℕ) → i < length (used n) → eqb (getD (used n) i noKept .slot) slot ≡ false
+  free i h =
+      not-eqb (getD (used n) i noKept .slot) slot
+      (λ e.
+      by-case (ltb (lowestFree (used n)) 8)
+      (λ q. none-on (lowestFree (used n)) (used n) i (slot-free-open (used n) (ltb-true (lowestFree (used n)) 8 q)) h (e ∙ own))
+      (λ q. omega (arith, ltb-false (lowestFree (used n)) 8 q, slots-below (used n) (header-apart n formed) i, e ∙ own)))
+
+  pub entry-absent : (a : Lot) → viewNode (lentIn (storesIn s) slot a) n ≡ viewNode (storesIn s) n
+  entry-absent a =
+      nodes-agree (lentIn (storesIn s) slot a) (storesIn s) n
+      (λ i h. other-kept (storesIn s) slot a (getD (used n) i noKept) (free i h))
+
+  module _ (p : Node) (b : Lot) where
+    abbrev after : Stores
+    after = lentIn (storesIn s) slot b
+
+    unwritten : storesPut s n p b (placeOf n k) ≡ s
+    unwritten =
+        ap (λ (t : Bool). cond t (storePut s (getD (n .held) (placeOf n k) noKept) (getD (p .held) (placeOf n k) noKept) b) s)
+        (le-ltb (placeOf n k) (n .count) gone)
+
+    -- ---- no shard begins
+
+    pub exit-absent : SameSlots n p → viewNode (storesIn (storesPut s n p b (placeOf n k))) p ≡ viewNode after p
+    exit-absent seats =
+        ap (λ (t : List ℕ). viewNode (storesIn t) p) unwritten
+        ∙ sym (nodes-agree after (storesIn s) p (λ i h.
+        let u = getD (used p) i noKept in
+        let m : length (used p) ≡ length (used n) =
+        sym (length-map (used p) (λ (q : Kept). q .slot)) ∙ ap length seats ∙ length-map (used n) (λ (q : Kept). q .slot) in
+        let e : u .slot ≡ getD (used n) i noKept .slot = sym (slot-at p i) ∙ ap (λ (l : List ℕ). getD l i 0) seats ∙ slot-at n i in
+        other-kept (storesIn s) slot b u (ap (λ (j : ℕ). eqb j slot) e ∙ free i (omega arith))))
+
+    -- ---- one begins
+
+    module _ (seats : slotsOf p ≡ insertAt (slotsOf n) (lead (belowKey k) (used n)) (lowestFree (used n))) (fit : slotsFit (used p) ≡ true)
+        (g : held.Held) (fresh : Fresh k g) (stands : nth (viewNode after p .held) (lead (belowKey k) (used n)) ≡ some g)
+        (keys : 0 < length (b .keys)) (places : 0 < length (b .places)) where
+      abbrev j : ℕ
+      j = lead (belowKey k) (used n)
+
+      abbrev y : Kept
+      y = getD (used p) j noKept
+
+      low : j ≤ length (slotsOf n)
+      low = omega (arith, lead-most (belowKey k) (used n), length-map (used n) (λ (q : Kept). q .slot))
+
+      more : length (used p) ≡ length (slotsOf n) + 1
+      more =
+          let l = slotsOf n in
+          let a = length-append (take j l) (lowestFree (used n) ∷ drop j l) in
+          let m = low in
+          sym (length-map (used p) (λ (q : Kept). q .slot)) ∙ ap length seats ∙ omega (arith, length-take-le j l m, length-drop j l)
+
+      seat : y .slot ≡ slot
+      seat =
+          sym (slot-at p j) ∙ ap (λ (l : List ℕ). getD l j 0) seats
+          ∙ getD-at (take j (slotsOf n)) (lowestFree (used n)) (drop j (slotsOf n)) 0 j (length-take-le j (slotsOf n) low) ∙ sym own
+
+      there : j < length (used p)
+      there = omega (arith, more, low)
+
+      is-fresh : g ≡ viewKept after y
+      is-fresh = nth-same (viewNode after p .held) j g (viewKept after y) stands (view-nth after p j there)
+
+      seated : eqb (y .slot) slot ≡ true
+      seated = eq-eqb (y .slot) slot seat
+
+      no-last : y .held .last ≡ 0
+      no-last =
+          let e : after .log (y .slot) (y .held .last) ≡ [] = ap (λ (q : held.Held). q .replica .log) (sym is-fresh) ∙ fresh .log in
+          sym (after .long (y .slot) (y .held .last)) ∙ ap length e
+
+      no-stored : y .stored ≡ 0
+      unfolding vectorsOf
+      no-stored =
+          let l = y .held .last in
+          let rs = rowsOf (b .keys) (b .places) (y .stored) in
+          let e : vectorsIn b l (y .stored) ≡ [] =
+          sym (own-vectors (storesIn s) slot b (y .slot) seated l (y .stored)) ∙ ap (λ (q : held.Held). q .replica .vectors) (sym is-fresh) ∙ fresh .vectors in
+          no-rows (b .keys) (b .places) (y .stored) keys places (sym (length-map rs (vectorOf (logOf (b .columns) l))) ∙ ap length e)
+
+      bare : viewKept (storesIn s) y ≡ viewKept after y
+      bare = view-bare (storesIn s) y no-last no-stored ∙ sym (view-bare after y no-last no-stored)
+
+      begun-kept : (i : ℕ) → i < length (used p) → viewKept (storesIn s) (getD (used p) i noKept) ≡ viewKept after (getD (used p) i noKept)
+      begun-kept i h =
+          let u = getD (used p) i noKept in
+          by-case (eqb (u .slot) slot)
+          (λ e.
+          let is : i ≡ j = slots-one (used p) fit i j h there (eqb-true (u .slot) slot e ∙ sym seat) in
+          subst (λ (m : ℕ). viewKept (storesIn s) (getD (used p) m noKept) ≡ viewKept after (getD (used p) m noKept)) (sym is) bare)
+          (λ e. sym (other-kept (storesIn s) slot b u e))
+
+      pub exit-begun : viewNode (storesIn (storesPut s n p b (placeOf n k))) p ≡ viewNode after p
+      exit-begun = ap (λ (t : List ℕ). viewNode (storesIn t) p) unwritten ∙ nodes-agree (storesIn s) after p begun-kept

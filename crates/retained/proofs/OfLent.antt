@@ -1,0 +1,58 @@
+-- A call whose lent state is malformed is refused ('Who is turned down', 24, or a number before it): what was not refused was lent. Assumes
+-- nothing.
+use Prim.Native.Nat.{ℕ}
+use mathlib.Core.Path.{_≡_, refl, sym, ap, _∙_, subst}
+use mathlib.Core.Bool.{Bool, false, cond, not}
+use mathlib.Core.List.{List}
+use mathlib.Core.Option.{Option, some}
+use Rattle.model.specs.Lists.{every}
+use Rattle.model.specs.Keys.{Key}
+use Rattle.model.specs.Refusals.{Refusal, undecodable, outsideDomain, malformed}
+use Rattle.model.specs.Layout.Message.{Write, decodeWrite, Replicated, decodeReplicate, NewEpoch, decodeNewEpoch, Copied, decodeCopyShard}
+use Rattle.model.specs.Node.Held.{Node}
+use Rattle.model.specs.Node.Shards.{Result, gives}
+use Rattle.model.specs.Node.Wire.{opInDomain, entryInDomain}
+use Rattle.model.specs.Node.Client.{WriteAnswer, writeRefused}
+use Rattle.model.specs.Node.Backup.{BackupAnswer, backupRefused}
+use Rattle.model.specs.Node.Calls.{lateTime, writeOf, writeWith, replicateOf, replicateWith, newEpochOf, newEpochWith, copyOf, copyWith}
+use Rattle.model.proofs.Lists.{by-test}
+
+-- a result that is a refusal
+abbrev pub Refuses : Result BackupAnswer Node → Type 0
+Refuses v = (r : Refusal) × (v .answer ≡ backupRefused r)
+
+abbrev pub RefusesWrite : Result WriteAnswer Node → Type 0
+RefusesWrite v = (r : Refusal) × (v .answer ≡ writeRefused r)
+
+module _ (n : Node) (lent : Key → Bool) where
+  -- the test of the lent state, past the others
+  tested : (k : Key) (v : Result BackupAnswer Node) → lent k ≡ false → Refuses (cond (not (lent k)) (gives (backupRefused malformed) n) v)
+  tested k v e = subst (λ (b : Bool). Refuses (cond (not b) (gives (backupRefused malformed) n) v)) (sym e) (malformed, refl)
+
+  tested-write : (k : Key) (v : Result WriteAnswer Node) → lent k ≡ false → RefusesWrite (cond (not (lent k)) (gives (writeRefused malformed) n) v)
+  tested-write k v e = subst (λ (b : Bool). RefusesWrite (cond (not b) (gives (writeRefused malformed) n) v)) (sym e) (malformed, refl)
+
+  pub replicate-unlent : (s : List ℕ) (w : Replicated) → decodeReplicate s ≡ some w → lent (w .key) ≡ false → Refuses (replicateWith lent n s)
+  unfolding replicateWith
+  replicate-unlent s w d e =
+      subst (λ (o : Option Replicated). Refuses (replicateOf lent n o)) (sym d)
+      (by-test Refuses (not (opInDomain (w .op))) (λ p. (outsideDomain, refl)) (λ p. tested (w .key) _ e))
+
+  pub new-epoch-unlent : (s : List ℕ) (w : NewEpoch) → decodeNewEpoch s ≡ some w → lent (w .key) ≡ false → Refuses (newEpochWith lent n s)
+  unfolding newEpochWith
+  new-epoch-unlent s w d e = subst (λ (o : Option NewEpoch). Refuses (newEpochOf lent n o)) (sym d) (tested (w .key) _ e)
+
+  pub copy-unlent : (s : List ℕ) (w : Copied) → decodeCopyShard s ≡ some w → lent (w .key) ≡ false → Refuses (copyWith lent n s)
+  unfolding copyWith
+  copy-unlent s w d e =
+      subst (λ (o : Option Copied). Refuses (copyOf lent n o)) (sym d)
+      (by-test Refuses (not (every entryInDomain (w .entries))) (λ p. (outsideDomain, refl)) (λ p. tested (w .key) _ e))
+
+  pub write-unlent : (now least : ℕ) (s : List ℕ) (w : Write) → decodeWrite s ≡ some w → lent (w .key) ≡ false
+      → RefusesWrite (writeWith lent n now least s)
+  unfolding writeWith
+  write-unlent now least s w d e =
+      by-test RefusesWrite (lateTime now) (λ p. (undecodable, refl))
+      (λ p. subst (λ (o : Option Write). RefusesWrite (writeOf lent n now least o)) (sym d)
+      (by-test RefusesWrite (not (opInDomain (w .op))) (λ p. (outsideDomain, refl))
+      (λ p. tested-write (w .key) _ e)))
