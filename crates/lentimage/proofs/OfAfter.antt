@@ -50,7 +50,7 @@ pub record Lent (s : List ℕ) (n : Node) (k : Key) : Type 0 where
   pub bytes : holds n k ≡ true → Bytes s
 
 -- the test of a lent state looks at no other store
-lent-any : (z t : Stores) (n : Node) (a : Lot) → lentFor z n a ≡ lentFor t n a
+pub lent-any : (z t : Stores) (n : Node) (a : Lot) → lentFor z n a ≡ lentFor t n a
 unfolding lentFor
 lent-any z t n a = fun-ext (λ k. ap (λ (b : Bool). b and lentAt n a (placeOf n k)) (sym (formed-lent n z) ∙ formed-lent n t))
 
@@ -63,7 +63,7 @@ module _ (s : List ℕ) (n : Node) (k : Key) (l : Lent s n k) where
   abbrev x : Kept
   x = getD (n .held) at noKept
 
-  is-formed : formedNode n ≡ true
+  pub is-formed : formedNode n ≡ true
   unfolding lentFor
   is-formed = formed-lent n (storesIn s) ∙ and-left (lentNode (storesIn s) n) _ (l .formed (storesIn s))
 

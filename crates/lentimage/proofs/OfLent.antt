@@ -1,26 +1,38 @@
 -- What `pick` found of the images and the test of the call found of the state is what the laws of the state at exit ask for. Assumes nothing.
-use Prim.Native.Nat.{ℕ, _-_, _≤_}
+use Prim.Native.Nat.{ℕ, _-_, _≤_, _<_}
 use mathlib.Core.Path.{_≡_, sym, ap, _∙_}
 use mathlib.Core.Bool.{Bool, true, false, cond}
 use mathlib.Core.List.{List}
+use mathlib.Core.Option.{none, some}
 use native.Mathlib.Omega.{arith}
 use lib.Dec.{leb}
 use lib.ListN.{length, replicate, length-append, length-replicate}
 use borrow.Author.Tests.{leb-true, leb-false}
-use Rattle.model.specs.Lists.{_and_}
+use Rattle.model.specs.Lists.{_and_, lead}
 use Rattle.model.specs.Keys.{Key}
 use Rattle.model.specs.Layout.Format.{Bytes, numberAt}
+use Rattle.model.specs.Node.Held as held
+use Rattle.model.specs.Node.Shards.{Result, shardOf}
 use Rattle.model.proofs.Lists.{and-left, and-right}
+use Rattle.retained.specs.Retained.{CarriesAll}
+use Rattle.retained.proofs.OfBegin.{PutIn}
+use Rattle.node.specs.View.{insertAt}
 use Rattle.image.specs.Shape.{inUse, items, rowsAt}
 use Rattle.image.proofs.Images.{length-items}
 use Rattle.header.specs.declared.Kept.{Kept}
-use Rattle.header.specs.View.{Stores}
+use Rattle.header.specs.declared.Node.{Node}
+use Rattle.header.specs.View.{Stores, viewNode, used}
+use Rattle.header.specs.Formed.{formedNode, slotsFit}
+use Rattle.header.specs.Seats.{slotsOf, SameSlots}
+use Rattle.header.specs.Grow.{lowestFree, belowKey}
 use Rattle.header.proofs.OfLists.{by-case}
-use Rattle.lend.specs.Lend.{lentFor}
+use Rattle.lend.specs.Lend.{Lot, placeOf, slotOf, lentFor, Changes}
 use Rattle.headerimage.specs.Rows.{keptAt}
 use Rattle.headerimage.specs.Image.{noKept, headerLent, nodeAt}
-use Rattle.lentimage.specs.Lent.{holds, readable, lotIn, lendsState}
-use Rattle.lentimage.proofs.OfAfter.{Lent}
+use Rattle.lentimage.specs.Lent.{holds, readable, lotIn, lendsState, Puttable, Puts}
+use Rattle.lentimage.specs.State.{storesIn, StateAfter}
+use Rattle.lentimage.proofs.OfFamily.{lentIn, lent-changes}
+use Rattle.lentimage.proofs.OfAfter.{Lent, lent-any, is-formed, Becomes, same-after, begun-after}
 
 -- a header is read into eight rows
 rows-eight : (h : List ℕ) → length (nodeAt h .held) ≡ 8
@@ -48,3 +60,40 @@ is-lent h s k e formed bytes =
       formed = formed;
       bytes = bytes;
     }
+
+-- ---- the state at exit: p and b the header and the columns that a call left, which was not refused
+
+module _ {A : Type 0} (does : (Key → Bool) → held.Node → Result A held.Node) (h s h′ s′ : List ℕ) (k : Key) (p : Node) (b : Lot)
+    (lends : lendsState h s k ≡ true) (bytes : holds (nodeAt h) k ≡ true → Bytes s)
+    (same : (z t : Stores) → Changes z t (slotOf (nodeAt h) k) (lotIn s (nodeAt h) k) b
+        → viewNode t p ≡ does (lentFor z (nodeAt h) (lotIn s (nodeAt h) k)) (viewNode z (nodeAt h)) .after)
+    (unlent : (z t : Stores) → Changes z t (slotOf (nodeAt h) k) (lotIn s (nodeAt h) k) b → lentFor z (nodeAt h) (lotIn s (nodeAt h) k) k ≡ false → ⊥)
+    (slots : formedNode (nodeAt h) ≡ true → slotsFit (used p) ≡ true) (puts : Puts h h′ s s′ (nodeAt h) p b (placeOf (nodeAt h) k)) where
+  abbrev n : Node
+  n = nodeAt h
+
+  abbrev a : Lot
+  a = lotIn s n k
+
+  lent : Lent s n k
+  lent =
+      let z = lentIn (storesIn s) (slotOf n k) a in
+      is-lent h s k lends
+      (λ t. by-case (lentFor t n a k) (λ e. e)
+      (λ e. absurd (unlent z (lentIn (storesIn s) (slotOf n k) b) (lent-changes (storesIn s) (slotOf n k) a b) (ap (λ (f : Key → Bool). f k) (lent-any z t n a) ∙ e))))
+      bytes
+
+  fit : slotsFit (used p) ≡ true
+  fit = slots (is-formed s n k lent)
+
+  reads : Becomes does s n k lent p b same → StateAfter A does h s h′ s′ k p
+  reads e = record { state = ap (λ (t : List ℕ). viewNode (storesIn t) p) (puts .stores) ∙ e }
+
+  pub same-state : SameSlots n p → Puttable s n p b (placeOf n k)
+      → ((f : Key → Bool) (v : held.Node) (g : held.Held) → shardOf v k ≡ some g → CarriesAll v (does f v .after)) → StateAfter A does h s h′ s′ k p
+  same-state seats w carries = reads (same-after does s n k lent p b same seats fit w (puts .fits) carries)
+
+  pub begun-state : n .count ≤ placeOf n k → slotsOf p ≡ insertAt (slotsOf n) (lead (belowKey k) (used n)) (lowestFree (used n))
+      → 0 < length (b .keys) → 0 < length (b .places)
+      → ((f : Key → Bool) (v : held.Node) → shardOf v k ≡ none → PutIn v k (does f v .after)) → StateAfter A does h s h′ s′ k p
+  begun-state gone seats keys places begins = reads (begun-after does s n k lent p b same gone seats fit keys places begins)

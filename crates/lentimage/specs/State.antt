@@ -1,15 +1,21 @@
 -- The whole state of a node as two byte images have it (docs/IMAGES.md): the header, and the log and the vectors of each store. Definitions
 -- only.
 use Prim.Native.Nat.{ℕ, _*_}
-use mathlib.Core.Path.{refl}
+use mathlib.Core.Path.{_≡_, refl}
+use mathlib.Core.Bool.{Bool}
 use mathlib.Core.List.{List}
+use Rattle.model.specs.Keys.{Key}
 use Rattle.model.specs.Node.Held as held
+use Rattle.model.specs.Node.Shards.{Result}
 use Rattle.shard.specs.View.{firsts}
 use Rattle.shard.specs.Table.{zipped, rowsOf, vectorsOf}
 use Rattle.shard.proofs.Firsts.{firsts-length}
+use Rattle.header.specs.declared.Node.{Node}
 use Rattle.header.specs.View.{Stores, viewNode}
+use Rattle.lend.specs.Lend.{lentFor}
 use Rattle.headerimage.specs.Image.{nodeAt}
 use Rattle.storeimage.specs.Image.{storeSize, entryAt, logAt, rowsAt}
+use Rattle.lentimage.specs.Lent.{lotIn}
 
 -- what the bytes of eight stores hold, by slot: the log of so many entries, and the vectors that so many rows of the table name
 unfoldable pub storesIn : List ℕ → Stores
@@ -24,3 +30,8 @@ storesIn s = record {
 -- the state that the bytes are
 abbrev pub stateAt : (header stores : List ℕ) → held.Node
 stateAt h s = viewNode (storesIn s) (nodeAt h)
+
+-- a call at the shard of a key was lent its state by the images h and s, and left h′ and s′ with the header p: they are read as the node that
+-- the call's definition leaves of what h and s are read as
+pub record StateAfter (A : Type 0) (does : (Key → Bool) → held.Node → Result A held.Node) (h s h′ s′ : List ℕ) (key : Key) (p : Node) : Type 0 where
+  pub state : viewNode (storesIn s′) p ≡ does (lentFor (storesIn s) (nodeAt h) (lotIn s (nodeAt h) key)) (stateAt h s) .after

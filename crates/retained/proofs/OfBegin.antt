@@ -5,7 +5,7 @@ use mathlib.Core.Bool.{Bool, true, false, cond, not}
 use mathlib.Core.Logic.{_⊎_, inl, inr}
 use mathlib.Core.List.{List, [], _∷_}
 use mathlib.Core.Option.{Option, none, some}
-use lib.Dec.{leb, ltb}
+use lib.Dec.{leb}
 use lib.ListN.{length}
 use Rattle.model.specs.Lists.{nth, lead, put}
 use Rattle.model.specs.Limits.{maxHeld}
@@ -19,7 +19,7 @@ use Rattle.model.specs.Node.Calls.{newEpochOf, newEpochWith}
 use Rattle.model.specs.declared.Metric.{Metric}
 use Rattle.model.proofs.Lists.{by-test, not-both}
 use Rattle.model.proofs.Map.Orders.{keys}
-use Rattle.model.proofs.Node.After.{new-epoch-after, new-epoch-key}
+use Rattle.model.proofs.Node.After.{new-epoch-after}
 
 -- a shard of the key without any entry
 pub record Fresh (k : Key) (g : Held) : Type 0 where
@@ -43,13 +43,20 @@ module _ (n : Node) (lent : Key → Bool) where
       by-test (λ (v : Result BackupAnswer Node). PutIn n (w .key) (v .after)) (leb maxHeld (length (n .held)))
       (λ p. inl refl) (λ p. inr (_, fresh-epoch (w .key) (w .metric) (w .epoch) (w .end) (w .table), refl))
 
-  pub new-epoch-begins : (s : List ℕ) (w : NewEpoch) → decodeNewEpoch s ≡ some w → shardOf n (w .key) ≡ none
-      → PutIn n (w .key) (newEpochWith lent n s .after)
-  unfolding newEpochWith onNewEpoch
-  new-epoch-begins s w d e =
-      subst (λ (o : Option NewEpoch). PutIn n (w .key) (newEpochOf lent n o .after)) (sym d)
+  begins-of : (k : Key) (m : Option NewEpoch) → ((w : NewEpoch) → m ≡ some w → k ≡ w .key) → shardOf n k ≡ none → PutIn n k (newEpochOf lent n m .after)
+  unfolding onNewEpoch
+  begins-of k none names e = inl refl
+  begins-of k (some w) names e =
+      let q = names w refl in
+      subst (λ (j : Key). PutIn n j (newEpochOf lent n (some w) .after)) (sym q)
       (by-test (λ (v : Result BackupAnswer Node). PutIn n (w .key) (v .after)) (not (lent (w .key))) (λ p. inl refl)
-      (λ p. subst (λ (o : Option Held). PutIn n (w .key) (newEpochAt n (w .key) (w .epoch) (w .end) (w .table) (w .metric) o .after)) (sym e) (begins w)))
+      (λ p. subst (λ (o : Option Held). PutIn n (w .key) (newEpochAt n (w .key) (w .epoch) (w .end) (w .table) (w .metric) o .after))
+      (sym (ap (shardOf n) (sym q) ∙ e)) (begins w)))
+
+  pub new-epoch-begins : (k : Key) (s : List ℕ) → ((w : NewEpoch) → decodeNewEpoch s ≡ some w → k ≡ w .key) → shardOf n k ≡ none
+      → PutIn n k (newEpochWith lent n s .after)
+  unfolding newEpochWith
+  new-epoch-begins k s names e = begins-of k (decodeNewEpoch s) names e
 
 -- where it stands: behind the shards below its key
 pub put-at : (g : Held) (l : List Held) → nth (put heldBelow g l) (lead (λ h. keyBelow (h .key) (g .key)) l) ≡ some g
