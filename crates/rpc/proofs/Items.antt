@@ -13,7 +13,7 @@ use Rattle.model.specs.Log.{End}
 use Rattle.model.specs.Layout.Format.{Format, Value, word, text, _▸_, many, fits, fitsN, next, nextN, value, valueN, numberAt}
 use Rattle.model.specs.Layout.Parts.{u64, entryF, endOf, entryOf, WireEntry}
 use Rattle.model.proofs.LayoutLaws.Tests.{and-left, and-right}
-use Rattle.rpc.proofs.Skips.{fixed-fits, fixed-next}
+use Rattle.rpcshape.proofs.Skips.{fixed-fits, fixed-next}
 use Rattle.rpc.proofs.Places.{text-length, length-valueN}
 
 -- a name or an address: as many bytes after the length byte as it has

@@ -17,12 +17,12 @@ use Rattle.model.specs.Layout.Request as request
 use Rattle.model.specs.Layout.Message.{replicateF, newEpochF, copyShardF, writeF, searchF, replyF, decodeReplicate, decodeNewEpoch, decodeCopyShard, decodeWrite, decodeSearch, decodeReply}
 use Rattle.model.proofs.LayoutLaws.Tests.{and-left, and-right, and-intro}
 use Rattle.model.proofs.LayoutLaws.Data.{length-mapped}
-use Rattle.rpc.specs.Skip.{skip}
-use Rattle.rpc.specs.declared.Skip.the-variants.{Next, Bad}
+use Rattle.rpcshape.specs.Skip.{skip}
+use Rattle.rpcshape.specs.declared.Skip.the-variants.{Next, Bad}
 use Rattle.rpc.specs.Shown.{part, keyShown, opShown, commandShown, shownOr, replicateShown, newEpochShown, copyShown, writeShown, searchShown, replyShown, requestReadOf, requestShown, readOr, messageOf}
 use Rattle.rpc.specs.declared.Message.{Message}
 use Rattle.rpc.specs.declared.Message.the-variants.{Undecodable, Request, Replicate, NewEpoch, CopyShard, Write, Search, Stored, Gap, StaleEpoch, Adopted}
-use Rattle.rpc.proofs.Skips.{no-1, no-2, skip-next, skip-bad, pair-then, pair-bad, code-first, code-other, Same, same-skip, same-trans, same-after, same-first, same-words, same-words-then, same-keyed-then, same-many, fixed-next}
+use Rattle.rpcshape.proofs.Skips.{no-1, no-2, skip-next, skip-bad, pair-then, pair-bad, code-first, code-other, Same, same-skip, same-trans, same-after, same-first, same-words, same-words-then, same-keyed-then, same-many, fixed-next}
 use Rattle.rpc.proofs.Places.{length-valueN, count-length}
 
 -- ---- a code, and then two groups of fields

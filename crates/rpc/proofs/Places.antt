@@ -18,7 +18,7 @@ use Rattle.model.proofs.LayoutLaws.Tests.{and-left, and-right}
 use Rattle.rpc.specs.Shown.{part, keyShown, opShown, entryShown}
 use Rattle.rpc.specs.declared.OpPart.{OpPart}
 use Rattle.rpc.specs.declared.OpPart.the-variants.{Upsert, Delete}
-use Rattle.rpc.proofs.Skips.{fixed-next, fixed-fits, count-byte}
+use Rattle.rpcshape.proofs.Skips.{fixed-next, fixed-fits, count-byte}
 
 module _ {A : Type 0} where
   pub length-valueN : (val : ℕ → A) (step : ℕ → ℕ) (n at : ℕ) → length (valueN val step n at) ≡ n

@@ -13,23 +13,23 @@ use crate::ReplicatePart;
 use crate::RequestPart;
 use crate::RequestRead;
 use crate::SearchPart;
-use crate::Skip;
 use crate::WritePart;
 use crate::command::command_at;
 use crate::parts::key_at;
 use crate::parts::metric_at;
 use crate::parts::op_at;
 use crate::parts::text_at;
-use crate::shape::skip_below;
-use crate::shape::skip_command;
-use crate::shape::skip_entries;
-use crate::shape::skip_long_run;
-use crate::shape::skip_op;
-use crate::shape::skip_run;
-use crate::shape::skip_text;
-use crate::shape::skip_word;
 use model::Epoch;
 use model::Offset;
+use rpcshape::Skip;
+use rpcshape::skip_below;
+use rpcshape::skip_command;
+use rpcshape::skip_entries;
+use rpcshape::skip_long_run;
+use rpcshape::skip_op;
+use rpcshape::skip_run;
+use rpcshape::skip_text;
+use rpcshape::skip_word;
 
 // 01, at a position, with the position after it.
 pub fn read_request(s: &[u8], at: usize) -> RequestRead

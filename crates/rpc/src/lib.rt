@@ -1,6 +1,7 @@
 // The message layout of paper 01, 'Bytes on the wire': the reader. It answers one enum of numbers; names, vectors,
 // tables, lists and entries stay in the message, and the enum carries their places. What the numbers mean is
-// model's Layout; specs/Shown.antt says how a value is shown as this enum. The writer is crate `rpcw`.
+// model's Layout; specs/Shown.antt says how a value is shown as this enum. The shape tests are crate `rpcshape`, the
+// writer is crate `rpcw`.
 ghost use mathlib.Core.Path.{_≡_};
 ghost use Rattle.rpc.specs.Shown.{messageOf, requestReadOf};
 use kinds::read_copy_shard;
@@ -20,7 +21,6 @@ mod command;
 mod kinds;
 pub mod parts;
 pub mod placed;
-mod shape;
 
 // Where a part of a message begins, and how many bytes or items it has.
 pub struct Part {
@@ -172,12 +172,6 @@ pub enum Message {
 pub struct RequestRead {
     pub message: Message,
     pub next: usize,
-}
-
-// Where the next field begins, or that no value of the field stands here.
-pub enum Skip {
-    Next(usize),
-    Bad,
 }
 
 // The message that the bytes are, all of them, or Undecodable.

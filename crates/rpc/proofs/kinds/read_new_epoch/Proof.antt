@@ -7,7 +7,7 @@ use borrow.Author.Tests.{leb-true}
 use Rattle.model.specs.Layout.Format.{word, below, text, _▸_, many}
 use Rattle.model.specs.Layout.Parts.{u64, keyF, metricF, tableF}
 use Rattle.model.proofs.LayoutLaws.Tests.{and-left, and-right}
-use Rattle.rpc.proofs.Skips.{below-there, skip-next, pair-next, pair-bad, same-words, same-many}
+use Rattle.rpcshape.proofs.Skips.{below-there, skip-next, pair-next, pair-bad, same-words, same-many}
 use Rattle.rpc.proofs.Messages.{head-bad, rest-bad, rest-left, rest-all, key-there, epoch-there, rest-there, same-new-epoch, new-epoch-not, new-epoch-is}
 use Rattle.rpc.proofs.kinds.read_new_epoch.Statement.{statement}
 use Rattle.rpc.proofs.kinds.read_new_epoch.Tie as tie

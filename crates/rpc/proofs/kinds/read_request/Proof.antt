@@ -7,7 +7,7 @@ use borrow.Author.Needs.{needs}
 use borrow.Author.Tests.{leb-true}
 use Rattle.model.specs.Layout.Format.{word}
 use Rattle.model.specs.Layout.Request.{commandF}
-use Rattle.rpc.proofs.Skips.{skip-next}
+use Rattle.rpcshape.proofs.Skips.{skip-next}
 use Rattle.rpc.proofs.Messages.{request-no, request-is, request-chain, request-short, request-end, request-other}
 use Rattle.rpc.proofs.kinds.read_request.Statement.{statement}
 use Rattle.rpc.proofs.kinds.read_request.Tie as tie
