@@ -1,3 +1,1 @@
-pub mod OfWalk
 pub mod OfCommand
-pub mod OfCreate

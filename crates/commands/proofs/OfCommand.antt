@@ -19,7 +19,7 @@ use Rattle.state.specs.declared.Command.{Command}
 use Rattle.state.specs.declared.Command.the-variants.{Create, Drop, Register, MarkNodeDead, OfShard, Bench}
 use Rattle.state.specs.declared.Grown.{Grown}
 use Rattle.commands.specs.Committed.{commandWith}
-use Rattle.commands.specs.Grown.{GrownAs}
+use Rattle.newshards.specs.Grown.{GrownAs}
 
 -- the command that asks for a change is decided as with_shard decides
 pub decide-of : (m : Map) (k : Key) (e : ℕ) (c : Change) → decide m (changeCommand k e c) ≡ changeAnswer k e c (shardAt (m .shards) k)

@@ -1,4 +1,2 @@
-pub mod Walk
-pub mod Grown
 pub mod Decided
 pub mod Committed

@@ -1,13 +1,13 @@
 // Internal: what a command that takes effect makes of the map. Each takes and gives back only its own tables.
 ghost use mathlib.Core.Path.{_≡_};
 ghost use Rattle.commands.specs.Committed.{Committable, Committed};
-use crate::create::with_shards;
 use crate::dropped::collections_without;
 use crate::dropped::shards_without;
-use crate::register::marked_dead;
 use changes::of_shard::shard_changed;
 use model::DataNodeId;
 use model::Epoch;
+use newshards::with_shards;
+use registering::marked_dead;
 use state::Change;
 use state::CollectionRow;
 use state::Command;

@@ -18,7 +18,7 @@ use Rattle.commands.proofs.commit.created.Tie as tie
 use Rattle.commands.proofs.commit.created.Reads as reads
 use Rattle.commands.proofs.commit.created.Lts as lts
 use Rattle.state.proofs.collection_table.collection_put.Reads as collection-put-reads
-use Rattle.commands.proofs.create.with_shards.Reads as with-shards-reads
+use Rattle.newshards.proofs.with_shards.Reads as with-shards-reads
 
 with-shards-requires : tie.Need-with-shards-requires
 with-shards-requires c κs = search needs

@@ -17,7 +17,7 @@ use Rattle.commands.proofs.commit.with_dead.Statement.{statement}
 use Rattle.commands.proofs.commit.with_dead.Tie as tie
 use Rattle.commands.proofs.commit.with_dead.Reads as reads
 use Rattle.commands.proofs.commit.with_dead.Lts as lts
-use Rattle.commands.proofs.register.marked_dead.Reads as marked-dead-reads
+use Rattle.registering.proofs.marked_dead.Reads as marked-dead-reads
 
 marked-dead-requires : tie.Need-marked-dead-requires
 marked-dead-requires c κs = search needs

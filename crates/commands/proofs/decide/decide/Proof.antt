@@ -14,11 +14,11 @@ use Rattle.commands.proofs.decide.decide.Tie as tie
 use Rattle.commands.proofs.decide.decide.Reads as reads
 use Rattle.commands.proofs.decide.decide.Lts as lts
 use Rattle.state.proofs.answers.applied.Reads as applied-reads
-use Rattle.commands.proofs.create.create_answer.Reads as create-answer-reads
+use Rattle.creating.proofs.create_answer.Reads as create-answer-reads
 use Rattle.commands.proofs.decide.drop_answer.Reads as drop-answer-reads
 use Rattle.changes.proofs.of_shard.shard_answer.Reads as shard-answer-reads
-use Rattle.commands.proofs.register.dead_answer.Reads as dead-answer-reads
-use Rattle.commands.proofs.register.register_answer.Reads as register-answer-reads
+use Rattle.registering.proofs.dead_answer.Reads as dead-answer-reads
+use Rattle.registering.proofs.register_answer.Reads as register-answer-reads
 
 enum-known-c : tie.Need-enum-known-c
 enum-known-c c = search needs

@@ -1,0 +1,2 @@
+pub mod OfWalk
+pub mod OfCreate
