@@ -237,5 +237,13 @@ module _ (s : List ℕ) (n : Node) (room : 10288 ≤ length s) (fits : Fits n) w
       (ap (λ (v : Value headF). v .0 .0 .0 .0 .1) head-back)
       (ap (map (viewKept st)) used-back ∙ view-tidied st (used n))
 
+  -- the count is that of the rows
+  pub counted-back : nodeAt (headerPut s n) .count ≡ inUse 8 (n .count)
+  unfolding nodeAt
+  counted-back = count-back
+
+  pub count-within : nodeAt (headerPut s n) .count ≤ 8
+  count-within = let k = table n fits .count in let e = counted-back in omega arith
+
   pub slots-back : slotsOf (nodeAt (headerPut s n)) ≡ slotsOf n
   slots-back = ap (map (λ (x : Kept). x .slot)) used-back ∙ slots-tidied (used n)

@@ -1,5 +1,6 @@
 pub mod OfImage
 pub mod OfTidy
+pub mod OfFormed
 pub mod Back
 pub mod Types
 pub mod OfBecomes

@@ -15,11 +15,12 @@ use Rattle.header.specs.declared.Node.{Node}
 use Rattle.image.specs.Shape.{inUse}
 use Rattle.image.proofs.Images.{sets-append, length-used}
 use Rattle.headerimage.specs.Rows.{expiryCode, expiryTime}
-use Rattle.headerimage.specs.Image.{headBytes, shardsBytes, headerPut}
+use Rattle.headerimage.specs.Image.{nodeAt, headBytes, shardsBytes, headerPut}
 use Rattle.headerimage.specs.Becomes.{Counted, leaseCode, leaseTime, headerImage, HeaderBecomes, HeaderWrites}
 use Rattle.headerimage.proofs.OfImage.{lent-whole, written-long, written-short}
 use Rattle.headerimage.proofs.OfTidy.{image-rows}
-use Rattle.headerimage.proofs.Back.{Fits, length-put, codes-listed, header-back, slots-back}
+use Rattle.headerimage.proofs.OfFormed.{formed-as}
+use Rattle.headerimage.proofs.Back.{Fits, length-put, codes-listed, used-back, header-back, counted-back, count-within, slots-back}
 
 lease-code : (e : Expiry) → leaseCode (viewExpiry e) ≡ expiryCode e
 lease-code Never = refl
@@ -49,6 +50,9 @@ becomes-put s n room fits =
       lent = lent-whole (headerPut s n) (omega arith) (codes-listed s n room fits);
       read = header-back s n room fits;
       seats = slots-back s n room fits;
+      formed = formed-as n (nodeAt (headerPut s n)) (fits .rows) (count-within s n room fits) (used-back s n room fits);
+      count = counted-back s n room fits;
+      rows = used-back s n room fits;
     }
 
 module _ (s : List ℕ) (n : Node) where

@@ -3,20 +3,23 @@
 use Prim.Native.Nat.{ℕ, _≤_}
 use mathlib.Core.Path.{_≡_}
 use mathlib.Core.Bool.{true}
-use mathlib.Core.List.{List, [], _∷_, _++_}
+use mathlib.Core.List.{List, [], _∷_, _++_, map}
 use mathlib.Core.Option.{Option, none, some}
 use lib.ListN.{length}
 use lib.Seq.{sets}
 use Rattle.model.specs.Layout.Format.{concatMap}
 use Rattle.model.specs.Node.Held as held
-use Rattle.header.specs.View.{Stores, viewNode}
+use Rattle.header.specs.View.{Stores, used, viewNode}
+use Rattle.header.specs.Formed.{formedNode}
 use Rattle.header.specs.Seats.{slotsOf}
 use Rattle.header.specs.declared.Kept.{Kept}
 use Rattle.header.specs.declared.Node.{Node}
+use Rattle.image.specs.Shape.{inUse}
 use Rattle.image.specs.Codes.{epochOf}
 use Rattle.image.specs.Parts.{noReplica}
 use Rattle.image.specs.Canon.{padded, imageKey}
 use Rattle.headerimage.specs.Rows.{noPeer, keptBytes}
+use Rattle.headerimage.specs.Tidy.{tidyKept}
 use Rattle.headerimage.specs.Image.{headOf, headerLent, nodeAt, headerWritten}
 
 -- families of stores whose tables have as many vectors as the header counts
@@ -67,12 +70,16 @@ headerImage n slots =
 
 -- ---- what a write promises
 
--- the image s became t, in which the header n stands: its bytes, that it lends a header, and that this is read as n, each shard in its slot
+-- the image s became t, in which the header n stands: its bytes, that it lends a header, and that this is read as n, each shard in its slot,
+-- and is well formed if n is; its rows are those of n in the canonical form
 pub record HeaderBecomes (s t : List ℕ) (n : Node) : Type 0 where
   pub bytes : (st : Stores) → Counted st → t ≡ sets s 0 (headerImage (viewNode st n) (slotsOf n))
   pub lent : headerLent t ≡ true
   pub read : (st : Stores) → viewNode st (nodeAt t) ≡ viewNode st n
   pub seats : slotsOf (nodeAt t) ≡ slotsOf n
+  pub formed : formedNode n ≡ true → formedNode (nodeAt t) ≡ true
+  pub count : nodeAt t .count ≡ inUse 8 (n .count)
+  pub rows : used (nodeAt t) ≡ map tidyKept (used n)
 
 -- a buffer that is shorter than an image stays as it was
 pub record HeaderWrites (s t : List ℕ) (n : Node) : Type 0 where
