@@ -1,3 +1,4 @@
 pub mod Rows
 pub mod Canon
+pub mod Beside
 pub mod Image

@@ -27,6 +27,7 @@ use crate::shards::shards_at;
 use image::bytes::in_use;
 use state::ShardMap;
 
+mod beside;
 mod collections;
 mod nodes;
 mod sessions;

@@ -1,12 +1,11 @@
 // Internal: a row of the map in the form in which it is written (specs/Canon.antt): of names, addresses, replicas and ids what is in use, and
 // of a session's key what its outcome has among its operands. All else of the row is zeros.
 ghost use mathlib.Core.Path.{_≡_};
-ghost use Rattle.state.specs.Names.{viewKey};
-ghost use Rattle.state.specs.View.{viewNode, viewCollection, viewHolders, viewInSync, viewShard, rejectionOf, outcomeOf, viewSession};
-ghost use Rattle.image.specs.Canon.{imageKey};
-ghost use Rattle.mapimage.specs.Canon.{imageNode, imageCollection, imageHolders, imageInSync, imageShard, keyOfName, rejectionKey, outcomeKey, imageSession};
+ghost use Rattle.state.specs.View.{viewNode, viewCollection, viewHolders, viewInSync, viewShard, viewSession};
+ghost use Rattle.mapimage.specs.Canon.{imageNode, imageCollection, imageHolders, imageInSync, imageShard, imageSession};
+use crate::beside::beside_outcome;
+use crate::beside::part_of;
 use image::bytes::in_use;
-use image::keys::no_key;
 use image::tidy::tidy_address;
 use image::tidy::tidy_ids;
 use image::tidy::tidy_key;
@@ -16,10 +15,7 @@ use state::CollectionRow;
 use state::Holders;
 use state::InSync;
 use state::NodeRow;
-use state::Outcome;
-use state::Rejection;
 use state::SessionRow;
-use state::ShardKey;
 use state::ShardRow;
 
 pub fn tidy_node(r: NodeRow) -> NodeRow
@@ -87,54 +83,12 @@ pub fn tidy_shard(r: ShardRow) -> ShardRow
     }
 }
 
-// The key with its collection alone.
-fn named(key: ShardKey) -> ShardKey
-    ensures { λ k. ⌜ k ≡ imageKey (keyOfName (viewKey key .collection)) ⌝ }
-{
-    let name = tidy_name(key.collection);
-    ShardKey {
-        collection: name,
-        shard: 0,
-    }
-}
-
-fn rejection_key(r: Rejection, key: ShardKey) -> ShardKey
-    ensures { λ k. ⌜ k ≡ imageKey (rejectionKey (rejectionOf r (viewKey key))) ⌝ }
-{
-    match r {
-        Rejection::Older => no_key(),
-        Rejection::Exists => named(key),
-        Rejection::ZeroSpec => no_key(),
-        Rejection::PlacementMismatch => no_key(),
-        Rejection::NotAlive(_) => no_key(),
-        Rejection::NoCollection => named(key),
-        Rejection::KnownIncarnation(_, _) => no_key(),
-        Rejection::NotAtIncarnation(_, _) => no_key(),
-        Rejection::NoShard => tidy_key(key),
-        Rejection::OtherEpoch(_, _) => tidy_key(key),
-        Rejection::AlreadyHeld(_) => no_key(),
-        Rejection::RemovesPrimary => no_key(),
-        Rejection::NotHeld(_) => no_key(),
-        Rejection::NotInSync(_) => no_key(),
-        Rejection::ShrinksPrimary => no_key(),
-        Rejection::AlreadyInSync(_) => no_key(),
-    }
-}
-
-fn outcome_key(o: Outcome, key: ShardKey) -> ShardKey
-    ensures { λ k. ⌜ k ≡ imageKey (outcomeKey (outcomeOf o (viewKey key))) ⌝ }
-{
-    match o {
-        Outcome::Applied => no_key(),
-        Outcome::Rejected(r) => rejection_key(r, key),
-    }
-}
-
 pub fn tidy_session(r: SessionRow) -> SessionRow
     ensures { λ t. ⌜ t ≡ imageSession (viewSession r) ⌝ }
 {
     let outcome = r.outcome;
-    let key = outcome_key(outcome, r.key);
+    let beside = beside_outcome(outcome);
+    let key = part_of(beside, r.key);
     SessionRow {
         client: r.client,
         seq: r.seq,

@@ -6,13 +6,17 @@ use Rattle.mapimage.proofs.Canon.{same-outcome}
 use Rattle.mapimage.proofs.tidy.tidy_session.Statement.{statement}
 use Rattle.mapimage.proofs.tidy.tidy_session.Tie as tie
 
-outcome-key-requires : tie.Need-outcome-key-requires
-outcome-key-requires c κs = search needs
+beside-outcome-requires : tie.Need-beside-outcome-requires
+beside-outcome-requires c κs = search needs
+
+part-of-requires : tie.Need-part-of-requires
+part-of-requires c κs = search needs
 
 returns : tie.Need-returns
 returns c =
-    let r = c .before .args .r in
-    rw (c .outcome-key .ensures, same-outcome (r .outcome) (viewKey (r .key)))
+    let r = c .before .before .args .r in
+    let k = viewKey (r .key) in
+    rw (c .part-of .ensures, ← c .before .beside-outcome .ensures k, same-outcome (r .outcome) k)
 
 pub tidy-session-spec : {M : Type 1} → statement M
-tidy-session-spec = tie.close (tie.spec outcome-key-requires returns)
+tidy-session-spec = tie.close (tie.spec beside-outcome-requires part-of-requires returns)
