@@ -1,167 +1,178 @@
--- A map that was written is read back, whatever the image held before: every code is listed, and the map that the bytes are read as is the
--- one written. Assumes nothing.
-use Prim.Native.Nat.{ℕ, _+_, _*_, _^_, _≤_, _<_}
-use mathlib.Core.Path.{_≡_, refl, ap, _∙_}
+-- A map that was written is read back, whatever the image held before: every code is listed, the tables that the bytes are read as are those
+-- of the map in its one form, and they are read as the map. Assumes nothing.
+use Prim.Native.Nat.{ℕ, _+_, _^_, _≤_, _<_}
+use mathlib.Core.Path.{_≡_, refl, sym, ap, _∙_}
 use mathlib.Core.Bool.{true}
-use mathlib.Core.List.{List, _++_}
-use lib.ListN.{length, drop}
+use mathlib.Core.List.{List, _++_, map}
+use lib.ListN.{length, drop, length-map}
 use lib.Seq.{sets, length-sets}
 use native.Mathlib.Omega.{arith}
-use native.Mathlib.Nat.{mul-le-mul}
 use Rattle.model.specs.Layout.Format.{numberAt, concatMap}
 use Rattle.model.specs.Map.Tables as tables
 use Rattle.model.proofs.LayoutLaws.Data.{metric-of, metric-below}
 use Rattle.model.proofs.LayoutLaws.Tests.{and-intro}
-use Rattle.state.specs.View.{viewNode, viewCollection, viewShard, viewSession, viewMap}
+use Rattle.state.specs.View.{viewMap}
+use Rattle.state.specs.declared.NodeRow.{NodeRow}
+use Rattle.state.specs.declared.CollectionRow.{CollectionRow}
+use Rattle.state.specs.declared.ShardRow.{ShardRow}
+use Rattle.state.specs.declared.SessionRow.{SessionRow}
+use Rattle.state.specs.declared.Nodes.{Nodes}
+use Rattle.state.specs.declared.Collections.{Collections}
+use Rattle.state.specs.declared.Shards.{Shards}
+use Rattle.state.specs.declared.Sessions.{Sessions}
+use Rattle.state.specs.declared.ShardMap.{ShardMap}
 use Rattle.image.specs.Shape.{Shape, Value, _▸_, u64, Good, value}
 use Rattle.image.proofs.Back.{length-encode, value-encode, length-rows, Holds, holds-stored, holds-kept}
 use Rattle.image.proofs.OfCodes.{flag-back, flag-small, primary-back, primary-small, outcome-back, outcome-small, replicas-back, ids-back}
 use Rattle.mapimage.specs.Canon.{imageNode, imageCollection, imageShard, imageSession}
 use Rattle.mapimage.specs.Rows.{nodeF, nodeOf, nodeValue, nodeAt, nodeBytes, collectionF, collectionOf, collectionValue, collectionAt, collectionBytes, shardF, shardOf, shardValue, shardAt, shardBytes, sessionF, sessionOf, sessionValue, sessionAt, sessionBytes}
-use Rattle.mapimage.specs.Image.{noNode, noCollection, noShard, noSession, codesListed, mapLent, mapAt, headImage, nodeImage, collectionImage, shardImage, sessionImage, mapStored, MapBecomes}
-use Rattle.mapimage.proofs.Canon.{view-node, view-collection, view-shard, view-session}
-use Rattle.mapimage.proofs.Viewed.{Few, table-viewed, table-listed}
+use Rattle.mapimage.specs.Image.{noNode, noCollection, noShard, noSession, codesListed, mapLent, mapAt, headImage, mapStored, imageMap, MapBecomes}
+use Rattle.mapimage.proofs.Canon.{view-map}
+use Rattle.mapimage.proofs.Tables.{Few, table-held, table-listed}
 use Rattle.mapimage.proofs.OfImage.{lent-whole}
 
 -- ---- rows: the numbers and arrays of a row are those of its types
 
-abbrev pub NodeFits : tables.NodeInfo → Type 0
-NodeFits x = Good nodeF (nodeValue (imageNode x))
+abbrev pub NodeFits : NodeRow → Type 0
+NodeFits r = Good nodeF (nodeValue r)
 
-abbrev pub CollectionFits : tables.Collection → Type 0
-CollectionFits x = Good collectionF (collectionValue (imageCollection x))
+abbrev pub CollectionFits : CollectionRow → Type 0
+CollectionFits r = Good collectionF (collectionValue r)
 
-abbrev pub ShardFits : tables.ShardInfo → Type 0
-ShardFits x = Good shardF (shardValue (imageShard x))
+abbrev pub ShardFits : ShardRow → Type 0
+ShardFits r = Good shardF (shardValue r)
 
-abbrev pub SessionFits : tables.Session → Type 0
-SessionFits x = Good sessionF (sessionValue (imageSession x))
+abbrev pub SessionFits : SessionRow → Type 0
+SessionFits r = Good sessionF (sessionValue r)
 
 module _ (s : List ℕ) where
-  node-value : (x : tables.NodeInfo) (at : ℕ) (t : List ℕ) → NodeFits x → drop at s ≡ nodeImage x ++ t
-      → value nodeF s at ≡ nodeValue (imageNode x)
-  unfolding nodeImage nodeBytes
-  node-value x at t g e = value-encode nodeF (nodeValue (imageNode x)) s at t g e
+  node-value : (r : NodeRow) (at : ℕ) (t : List ℕ) → NodeFits r → drop at s ≡ nodeBytes r ++ t → value nodeF s at ≡ nodeValue r
+  unfolding nodeBytes
+  node-value r at t g e = value-encode nodeF (nodeValue r) s at t g e
 
-  node-back : (x : tables.NodeInfo) (at : ℕ) (t : List ℕ) → NodeFits x → drop at s ≡ nodeImage x ++ t → viewNode (nodeAt s at) ≡ x
+  node-back : (r : NodeRow) (at : ℕ) (t : List ℕ) → NodeFits r → drop at s ≡ nodeBytes r ++ t → nodeAt s at ≡ r
   unfolding nodeAt
-  node-back x at t g e =
-      ap (λ (v : Value nodeF). viewNode (nodeOf v)) (node-value x at t g e)
-      ∙ (rw (flag-back (x .alive)) (view-node x))
+  node-back r at t g e = ap nodeOf (node-value r at t g e) ∙ (rw (flag-back (r .alive)))
 
-  node-code : (x : tables.NodeInfo) (at : ℕ) (t : List ℕ) → NodeFits x → drop at s ≡ nodeImage x ++ t → numberAt 4 s (at + 16) < 2
-  node-code x at t g e =
-      let c : numberAt 4 s (at + 16) ≡ nodeValue (imageNode x) .0 .0 .1 = ap (λ (v : Value nodeF). v .0 .0 .1) (node-value x at t g e) in
-      omega (arith, flag-small (x .alive))
+  node-code : (r : NodeRow) (at : ℕ) (t : List ℕ) → NodeFits r → drop at s ≡ nodeBytes r ++ t → numberAt 4 s (at + 16) < 2
+  node-code r at t g e =
+      let c : numberAt 4 s (at + 16) ≡ nodeValue r .0 .0 .1 = ap (λ (v : Value nodeF). v .0 .0 .1) (node-value r at t g e) in
+      omega (arith, flag-small (r .alive))
 
-  collection-value : (x : tables.Collection) (at : ℕ) (t : List ℕ) → CollectionFits x → drop at s ≡ collectionImage x ++ t
-      → value collectionF s at ≡ collectionValue (imageCollection x)
-  unfolding collectionImage collectionBytes
-  collection-value x at t g e = value-encode collectionF (collectionValue (imageCollection x)) s at t g e
+  collection-value : (r : CollectionRow) (at : ℕ) (t : List ℕ) → CollectionFits r → drop at s ≡ collectionBytes r ++ t
+      → value collectionF s at ≡ collectionValue r
+  unfolding collectionBytes
+  collection-value r at t g e = value-encode collectionF (collectionValue r) s at t g e
 
-  collection-back : (x : tables.Collection) (at : ℕ) (t : List ℕ) → CollectionFits x → drop at s ≡ collectionImage x ++ t → viewCollection (collectionAt s at) ≡ x
+  collection-back : (r : CollectionRow) (at : ℕ) (t : List ℕ) → CollectionFits r → drop at s ≡ collectionBytes r ++ t → collectionAt s at ≡ r
   unfolding collectionAt
-  collection-back x at t g e =
-      ap (λ (v : Value collectionF). viewCollection (collectionOf v)) (collection-value x at t g e)
-      ∙ (rw (metric-of (x .spec .metric)) (view-collection x))
+  collection-back r at t g e = ap collectionOf (collection-value r at t g e) ∙ (rw (metric-of (r .spec .metric)))
 
-  collection-code : (x : tables.Collection) (at : ℕ) (t : List ℕ) → CollectionFits x → drop at s ≡ collectionImage x ++ t → numberAt 4 s (at + 44) < 2
-  collection-code x at t g e =
-      let c : numberAt 4 s (at + 44) ≡ collectionValue (imageCollection x) .0 .0 .1 = ap (λ (v : Value collectionF). v .0 .0 .1) (collection-value x at t g e) in
-      omega (arith, metric-below (x .spec .metric))
+  collection-code : (r : CollectionRow) (at : ℕ) (t : List ℕ) → CollectionFits r → drop at s ≡ collectionBytes r ++ t → numberAt 4 s (at + 44) < 2
+  collection-code r at t g e =
+      let c : numberAt 4 s (at + 44) ≡ collectionValue r .0 .0 .1 = ap (λ (v : Value collectionF). v .0 .0 .1) (collection-value r at t g e) in
+      omega (arith, metric-below (r .spec .metric))
 
-  shard-value : (x : tables.ShardInfo) (at : ℕ) (t : List ℕ) → ShardFits x → drop at s ≡ shardImage x ++ t
-      → value shardF s at ≡ shardValue (imageShard x)
-  unfolding shardImage shardBytes
-  shard-value x at t g e = value-encode shardF (shardValue (imageShard x)) s at t g e
+  shard-value : (r : ShardRow) (at : ℕ) (t : List ℕ) → ShardFits r → drop at s ≡ shardBytes r ++ t → value shardF s at ≡ shardValue r
+  unfolding shardBytes
+  shard-value r at t g e = value-encode shardF (shardValue r) s at t g e
 
-  shard-back : (x : tables.ShardInfo) (at : ℕ) (t : List ℕ) → ShardFits x → drop at s ≡ shardImage x ++ t → viewShard (shardAt s at) ≡ x
+  shard-back : (r : ShardRow) (at : ℕ) (t : List ℕ) → ShardFits r → drop at s ≡ shardBytes r ++ t → shardAt s at ≡ r
   unfolding shardAt
-  shard-back x at t g e =
-      ap (λ (v : Value shardF). viewShard (shardOf v)) (shard-value x at t g e)
-      ∙ (rw (primary-back (imageShard x .primary), replicas-back (imageShard x .replicas .items), ids-back (imageShard x .insync .items)) (view-shard x))
+  shard-back r at t g e =
+      ap shardOf (shard-value r at t g e) ∙ (rw (primary-back (r .primary), replicas-back (r .replicas .items), ids-back (r .insync .items)))
 
-  shard-code : (x : tables.ShardInfo) (at : ℕ) (t : List ℕ) → ShardFits x → drop at s ≡ shardImage x ++ t → numberAt 4 s (at + 44) < 2
-  shard-code x at t g e =
-      let c : numberAt 4 s (at + 44) ≡ shardValue (imageShard x) .0 .0 .0 .0 .0 .0 .1 = ap (λ (v : Value shardF). v .0 .0 .0 .0 .0 .0 .1) (shard-value x at t g e) in
-      omega (arith, primary-small (imageShard x .primary))
+  shard-code : (r : ShardRow) (at : ℕ) (t : List ℕ) → ShardFits r → drop at s ≡ shardBytes r ++ t → numberAt 4 s (at + 44) < 2
+  shard-code r at t g e =
+      let c : numberAt 4 s (at + 44) ≡ shardValue r .0 .0 .0 .0 .0 .0 .1 =
+      ap (λ (v : Value shardF). v .0 .0 .0 .0 .0 .0 .1) (shard-value r at t g e) in
+      omega (arith, primary-small (r .primary))
 
-  session-value : (x : tables.Session) (at : ℕ) (t : List ℕ) → SessionFits x → drop at s ≡ sessionImage x ++ t
-      → value sessionF s at ≡ sessionValue (imageSession x)
-  unfolding sessionImage sessionBytes
-  session-value x at t g e = value-encode sessionF (sessionValue (imageSession x)) s at t g e
+  session-value : (r : SessionRow) (at : ℕ) (t : List ℕ) → SessionFits r → drop at s ≡ sessionBytes r ++ t → value sessionF s at ≡ sessionValue r
+  unfolding sessionBytes
+  session-value r at t g e = value-encode sessionF (sessionValue r) s at t g e
 
-  session-back : (x : tables.Session) (at : ℕ) (t : List ℕ) → SessionFits x → drop at s ≡ sessionImage x ++ t → viewSession (sessionAt s at) ≡ x
+  session-back : (r : SessionRow) (at : ℕ) (t : List ℕ) → SessionFits r → drop at s ≡ sessionBytes r ++ t → sessionAt s at ≡ r
   unfolding sessionAt
-  session-back x at t g e =
-      ap (λ (v : Value sessionF). viewSession (sessionOf v)) (session-value x at t g e)
-      ∙ (rw (outcome-back (imageSession x .outcome)) (view-session x))
+  session-back r at t g e = ap sessionOf (session-value r at t g e) ∙ (rw (outcome-back (r .outcome)))
 
-  session-code : (x : tables.Session) (at : ℕ) (t : List ℕ) → SessionFits x → drop at s ≡ sessionImage x ++ t → numberAt 4 s (at + 60) < 17
-  session-code x at t g e =
-      let c : numberAt 4 s (at + 60) ≡ sessionValue (imageSession x) .0 .0 .1 = ap (λ (v : Value sessionF). v .0 .0 .1) (session-value x at t g e) in
-      omega (arith, outcome-small (imageSession x .outcome))
+  session-code : (r : SessionRow) (at : ℕ) (t : List ℕ) → SessionFits r → drop at s ≡ sessionBytes r ++ t → numberAt 4 s (at + 60) < 17
+  session-code r at t g e =
+      let c : numberAt 4 s (at + 60) ≡ sessionValue r .0 .0 .1 = ap (λ (v : Value sessionF). v .0 .0 .1) (session-value r at t g e) in
+      omega (arith, outcome-small (r .outcome))
 
-node-long : (x : tables.NodeInfo) → NodeFits x → length (nodeImage x) ≡ 96
-unfolding nodeImage nodeBytes
-node-long x g = length-encode nodeF (nodeValue (imageNode x)) g
+node-long : (r : NodeRow) → NodeFits r → length (nodeBytes r) ≡ 96
+unfolding nodeBytes
+node-long r g = length-encode nodeF (nodeValue r) g
 
-collection-long : (x : tables.Collection) → CollectionFits x → length (collectionImage x) ≡ 56
-unfolding collectionImage collectionBytes
-collection-long x g = length-encode collectionF (collectionValue (imageCollection x)) g
+collection-long : (r : CollectionRow) → CollectionFits r → length (collectionBytes r) ≡ 56
+unfolding collectionBytes
+collection-long r g = length-encode collectionF (collectionValue r) g
 
-shard-long : (x : tables.ShardInfo) → ShardFits x → length (shardImage x) ≡ 272
-unfolding shardImage shardBytes
-shard-long x g = length-encode shardF (shardValue (imageShard x)) g
+shard-long : (r : ShardRow) → ShardFits r → length (shardBytes r) ≡ 272
+unfolding shardBytes
+shard-long r g = length-encode shardF (shardValue r) g
 
-session-long : (x : tables.Session) → SessionFits x → length (sessionImage x) ≡ 80
-unfolding sessionImage sessionBytes
-session-long x g = length-encode sessionF (sessionValue (imageSession x)) g
+session-long : (r : SessionRow) → SessionFits r → length (sessionBytes r) ≡ 80
+unfolding sessionBytes
+session-long r g = length-encode sessionF (sessionValue r) g
 
 -- ---- the whole map
 
 -- tables within their places; numbers and arrays of the rows as the types of the code have them
 pub record Fits (x : tables.Map) : Type 0 where
   pub version : x .version < 256 ^ 8
-  pub nodes : Few NodeFits 32 (x .nodes)
-  pub collections : Few CollectionFits 16 (x .collections)
-  pub shards : Few ShardFits 64 (x .shards)
-  pub sessions : Few SessionFits 64 (x .sessions)
+  pub nodes : Few NodeFits 32 (map imageNode (x .nodes))
+  pub collections : Few CollectionFits 16 (map imageCollection (x .collections))
+  pub shards : Few ShardFits 64 (map imageShard (x .shards))
+  pub sessions : Few SessionFits 64 (map imageSession (x .sessions))
 
 record Placed (w : List ℕ) (x : tables.Map) : Type 0 where
   head : Holds w 0 (headImage x)
-  nodes : Holds w 40 (concatMap nodeImage (x .nodes))
-  collections : Holds w 3112 (concatMap collectionImage (x .collections))
-  shards : Holds w 4008 (concatMap shardImage (x .shards))
-  sessions : Holds w 21416 (concatMap sessionImage (x .sessions))
+  nodes : Holds w 40 (concatMap nodeBytes (map imageNode (x .nodes)))
+  collections : Holds w 3112 (concatMap collectionBytes (map imageCollection (x .collections)))
+  shards : Holds w 4008 (concatMap shardBytes (map imageShard (x .shards)))
+  sessions : Holds w 21416 (concatMap sessionBytes (map imageSession (x .sessions)))
 
 abbrev headF : Shape
 headF = u64 ▸ u64 ▸ u64 ▸ u64 ▸ u64
 
-abbrev mapOf : ℕ → List tables.NodeInfo → List tables.Collection → List tables.ShardInfo → List tables.Session → tables.Map
+abbrev mapOf : ℕ → Nodes → Collections → Shards → Sessions → ShardMap
 mapOf v a b c d = record { version = v; nodes = a; collections = b; shards = c; sessions = d }
 
-same-map : {v w : ℕ} {a e : List tables.NodeInfo} {b f : List tables.Collection} {c g : List tables.ShardInfo} {d h : List tables.Session}
-    → v ≡ w → a ≡ e → b ≡ f → c ≡ g → d ≡ h → mapOf v a b c d ≡ mapOf w e f g h
+same-map : {v w : ℕ} {a e : Nodes} {b f : Collections} {c g : Shards} {d h : Sessions} → v ≡ w → a ≡ e → b ≡ f → c ≡ g → d ≡ h
+    → mapOf v a b c d ≡ mapOf w e f g h
 same-map p q r s t = rw (p, q, r, s, t)
+
+same-nodes : {a b : List NodeRow} {m n : ℕ} → a ≡ b → m ≡ n → _≡_ {A = Nodes} (record { items = a; count = m }) (record { items = b; count = n })
+same-nodes p q = rw (p, q)
+
+same-collections : {a b : List CollectionRow} {m n : ℕ} → a ≡ b → m ≡ n → _≡_ {A = Collections} (record { items = a; count = m }) (record { items = b; count = n })
+same-collections p q = rw (p, q)
+
+same-shards : {a b : List ShardRow} {m n : ℕ} → a ≡ b → m ≡ n → _≡_ {A = Shards} (record { items = a; count = m }) (record { items = b; count = n })
+same-shards p q = rw (p, q)
+
+same-sessions : {a b : List SessionRow} {m n : ℕ} → a ≡ b → m ≡ n → _≡_ {A = Sessions} (record { items = a; count = m }) (record { items = b; count = n })
+same-sessions p q = rw (p, q)
 
 module _ (s : List ℕ) (x : tables.Map) (room : 26536 ≤ length s) (fits : Fits x) where
   placed : Placed (mapStored s x) x
   unfolding mapStored
   placed =
-      let nn = length-rows NodeFits nodeImage 96 node-long (x .nodes) (fits .nodes .rows) in
-      let nc = length-rows CollectionFits collectionImage 56 collection-long (x .collections) (fits .collections .rows) in
-      let ns = length-rows ShardFits shardImage 272 shard-long (x .shards) (fits .shards .rows) in
-      let ne = length-rows SessionFits sessionImage 80 session-long (x .sessions) (fits .sessions .rows) in
+      let nn = length-rows NodeFits nodeBytes 96 node-long (map imageNode (x .nodes)) (fits .nodes .rows) in
+      let nc = length-rows CollectionFits collectionBytes 56 collection-long (map imageCollection (x .collections)) (fits .collections .rows) in
+      let ns = length-rows ShardFits shardBytes 272 shard-long (map imageShard (x .shards)) (fits .shards .rows) in
+      let ne = length-rows SessionFits sessionBytes 80 session-long (map imageSession (x .sessions)) (fits .sessions .rows) in
       let cn = fits .nodes .count in
       let cc₁ = fits .collections .count in
       let cs = fits .shards .count in
       let ce = fits .sessions .count in
       let H = headImage x in
-      let N = concatMap nodeImage (x .nodes) in
-      let C = concatMap collectionImage (x .collections) in
-      let S = concatMap shardImage (x .shards) in
-      let E = concatMap sessionImage (x .sessions) in
+      let N = concatMap nodeBytes (map imageNode (x .nodes)) in
+      let C = concatMap collectionBytes (map imageCollection (x .collections)) in
+      let S = concatMap shardBytes (map imageShard (x .shards)) in
+      let E = concatMap sessionBytes (map imageSession (x .sessions)) in
       let w₀ = sets s 0 H in
       let w₁ = sets w₀ 40 N in
       let w₂ = sets w₁ 3112 C in
@@ -183,6 +194,10 @@ module _ (s : List ℕ) (x : tables.Map) (room : 26536 ≤ length s) (fits : Fit
 
   head-back : value headF (mapStored s x) 0 ≡ ((((x .version, length (x .nodes)), length (x .collections)), length (x .shards)), length (x .sessions))
   head-back =
+      let mn = length-map (x .nodes) imageNode in
+      let mc = length-map (x .collections) imageCollection in
+      let ms = length-map (x .shards) imageShard in
+      let me = length-map (x .sessions) imageSession in
       let cn = fits .nodes .count in
       let cc₁ = fits .collections .count in
       let cs = fits .shards .count in
@@ -191,30 +206,42 @@ module _ (s : List ℕ) (x : tables.Map) (room : 26536 ≤ length s) (fits : Fit
       ((((fits .version, omega arith), omega arith), omega arith), omega arith)
       (placed .head .here)
 
+  nodes-counted : numberAt 8 (mapStored s x) 8 ≡ length (x .nodes)
+  nodes-counted = ap (λ (v : Value headF). v .0 .0 .0 .1) head-back
+
+  collections-counted : numberAt 8 (mapStored s x) 16 ≡ length (x .collections)
+  collections-counted = ap (λ (v : Value headF). v .0 .0 .1) head-back
+
+  shards-counted : numberAt 8 (mapStored s x) 24 ≡ length (x .shards)
+  shards-counted = ap (λ (v : Value headF). v .0 .1) head-back
+
+  sessions-counted : numberAt 8 (mapStored s x) 32 ≡ length (x .sessions)
+  sessions-counted = ap (λ (v : Value headF). v .1) head-back
+
   -- what was written lends a map
   codes-listed : codesListed (mapStored s x) ≡ true
   unfolding codesListed
   codes-listed =
       let w = mapStored s x in
       and-intro
-      (table-listed NodeFits nodeImage 96 node-long 32 (x .nodes) (fits .nodes) w 40 2 16 (node-code w) (placed .nodes) (numberAt 8 w 8) (ap (λ (v : Value headF). v .0 .0 .0 .1) head-back))
+      (table-listed NodeFits nodeBytes 96 node-long 32 (map imageNode (x .nodes)) (fits .nodes) w 40 2 16 (node-code w) (placed .nodes) (numberAt 8 w 8) (nodes-counted ∙ sym (length-map (x .nodes) imageNode)))
       (and-intro
-      (table-listed CollectionFits collectionImage 56 collection-long 16 (x .collections) (fits .collections) w 3112 2 44 (collection-code w) (placed .collections) (numberAt 8 w 16) (ap (λ (v : Value headF). v .0 .0 .1) head-back))
+      (table-listed CollectionFits collectionBytes 56 collection-long 16 (map imageCollection (x .collections)) (fits .collections) w 3112 2 44 (collection-code w) (placed .collections) (numberAt 8 w 16) (collections-counted ∙ sym (length-map (x .collections) imageCollection)))
       (and-intro
-      (table-listed ShardFits shardImage 272 shard-long 64 (x .shards) (fits .shards) w 4008 2 44 (shard-code w) (placed .shards) (numberAt 8 w 24) (ap (λ (v : Value headF). v .0 .1) head-back))
-      (table-listed SessionFits sessionImage 80 session-long 64 (x .sessions) (fits .sessions) w 21416 17 60 (session-code w) (placed .sessions) (numberAt 8 w 32) (ap (λ (v : Value headF). v .1) head-back))))
+      (table-listed ShardFits shardBytes 272 shard-long 64 (map imageShard (x .shards)) (fits .shards) w 4008 2 44 (shard-code w) (placed .shards) (numberAt 8 w 24) (shards-counted ∙ sym (length-map (x .shards) imageShard)))
+      (table-listed SessionFits sessionBytes 80 session-long 64 (map imageSession (x .sessions)) (fits .sessions) w 21416 17 60 (session-code w) (placed .sessions) (numberAt 8 w 32) (sessions-counted ∙ sym (length-map (x .sessions) imageSession)))))
 
-  -- and the map that it lends is the one written
-  map-back : viewMap (mapAt (mapStored s x)) ≡ x
+  -- its tables are those of the map in its one form
+  map-back : mapAt (mapStored s x) ≡ imageMap x
   unfolding mapAt
   map-back =
       let w = mapStored s x in
       same-map
       (ap (λ (v : Value headF). v .0 .0 .0 .0) head-back)
-      (table-viewed NodeFits nodeImage 96 node-long 32 (x .nodes) (fits .nodes) w 40 (nodeAt w) noNode viewNode (node-back w) (placed .nodes) (numberAt 8 w 8) (ap (λ (v : Value headF). v .0 .0 .0 .1) head-back))
-      (table-viewed CollectionFits collectionImage 56 collection-long 16 (x .collections) (fits .collections) w 3112 (collectionAt w) noCollection viewCollection (collection-back w) (placed .collections) (numberAt 8 w 16) (ap (λ (v : Value headF). v .0 .0 .1) head-back))
-      (table-viewed ShardFits shardImage 272 shard-long 64 (x .shards) (fits .shards) w 4008 (shardAt w) noShard viewShard (shard-back w) (placed .shards) (numberAt 8 w 24) (ap (λ (v : Value headF). v .0 .1) head-back))
-      (table-viewed SessionFits sessionImage 80 session-long 64 (x .sessions) (fits .sessions) w 21416 (sessionAt w) noSession viewSession (session-back w) (placed .sessions) (numberAt 8 w 32) (ap (λ (v : Value headF). v .1) head-back))
+      (same-nodes (table-held NodeFits nodeBytes 96 node-long 32 (map imageNode (x .nodes)) (fits .nodes) w 40 (nodeAt w) noNode (node-back w) (placed .nodes) (numberAt 8 w 8) (nodes-counted ∙ sym (length-map (x .nodes) imageNode))) nodes-counted)
+      (same-collections (table-held CollectionFits collectionBytes 56 collection-long 16 (map imageCollection (x .collections)) (fits .collections) w 3112 (collectionAt w) noCollection (collection-back w) (placed .collections) (numberAt 8 w 16) (collections-counted ∙ sym (length-map (x .collections) imageCollection))) collections-counted)
+      (same-shards (table-held ShardFits shardBytes 272 shard-long 64 (map imageShard (x .shards)) (fits .shards) w 4008 (shardAt w) noShard (shard-back w) (placed .shards) (numberAt 8 w 24) (shards-counted ∙ sym (length-map (x .shards) imageShard))) shards-counted)
+      (same-sessions (table-held SessionFits sessionBytes 80 session-long 64 (map imageSession (x .sessions)) (fits .sessions) w 21416 (sessionAt w) noSession (session-back w) (placed .sessions) (numberAt 8 w 32) (sessions-counted ∙ sym (length-map (x .sessions) imageSession))) sessions-counted)
 
   stored-long : 26536 ≤ length (mapStored s x)
   unfolding mapStored
@@ -222,8 +249,11 @@ module _ (s : List ℕ) (x : tables.Map) (room : 26536 ≤ length s) (fits : Fit
 
   -- so the bytes that hold the image of a map that fits become it
   pub becomes : (t : List ℕ) → t ≡ mapStored s x → MapBecomes s t x
-  becomes t e = record {
-    bytes = e;
-    lent = ap mapLent e ∙ lent-whole (mapStored s x) stored-long codes-listed;
-    read = ap (λ (w : List ℕ). viewMap (mapAt w)) e ∙ map-back;
-  }
+  becomes t e =
+      let held : mapAt t ≡ imageMap x = ap mapAt e ∙ map-back in
+      record {
+        bytes = e;
+        lent = ap mapLent e ∙ lent-whole (mapStored s x) stored-long codes-listed;
+        held = held;
+        read = ap viewMap held ∙ view-map x;
+      }

@@ -1,14 +1,15 @@
 -- The canonical rows (specs/Canon.antt): each is read as the row of model that it was made of; and the code has its primary and its outcome as
 -- they are. Assumes nothing.
 use Prim.Native.Nat.{ℕ}
-use mathlib.Core.Path.{_≡_, refl, ap}
-use mathlib.Core.List.{List}
+use mathlib.Core.Path.{_≡_, refl, sym, ap, _∙_}
+use mathlib.Core.List.{List, [], _∷_, map}
 use mathlib.Core.Option.{Option, none, some}
+use lib.ListN.{length, take, length-map}
 use Rattle.model.specs.Keys as keys
 use Rattle.model.specs.Refusals as said
 use Rattle.model.specs.Map.Tables as tables
 use Rattle.state.specs.Names.{viewKey}
-use Rattle.state.specs.View.{viewNode, viewCollection, viewPrimary, viewShard, rejectionOf, outcomeOf, viewSession}
+use Rattle.state.specs.View.{viewNode, viewCollection, viewPrimary, viewShard, rejectionOf, outcomeOf, viewSession, viewMap}
 use Rattle.state.specs.declared.Primary.{Primary}
 use Rattle.state.specs.declared.Primary.the-variants.{Nobody, At}
 use Rattle.state.specs.declared.Rejection.{Rejection}
@@ -37,6 +38,7 @@ use Rattle.image.specs.Parts.{noName, noKey, noReplica}
 use Rattle.image.specs.Canon.{padded, imageKey}
 use Rattle.image.proofs.Canon.{take-padded, view-name, view-address, view-key}
 use Rattle.mapimage.specs.Canon.{imageNode, imageCollection, imagePrimary, imageShard, imageRejection, imageOutcome, keyOfNone, rejectionKey, outcomeKey, imageSession}
+use Rattle.mapimage.specs.Image.{noNode, noCollection, noShard, noSession, imageMap}
 
 -- ---- what the code has
 
@@ -109,3 +111,20 @@ view-outcome (tables.rejected r) = ap tables.rejected (view-rejection r)
 
 pub view-session : (x : tables.Session) → viewSession (imageSession x) ≡ x
 view-session x = ap (λ (o : tables.Outcome). record { client = x .client; seq = x .seq; outcome = o }) (view-outcome (x .outcome))
+
+-- ---- and a table, and a map
+
+mapped-back : {A B : Type 0} (view : A → B) (image : B → A) → ((x : B) → view (image x) ≡ x) → (l : List B) → map view (map image l) ≡ l
+mapped-back view image law [] = refl
+mapped-back view image law (x ∷ l) = rw (law x, mapped-back view image law l)
+
+view-table : {A B : Type 0} (view : A → B) (image : B → A) → ((x : B) → view (image x) ≡ x) → (limit : ℕ) (past : A) (l : List B)
+    → map view (take (length l) (padded limit past (map image l))) ≡ l
+view-table view image law limit past l =
+    ap (λ (n : ℕ). map view (take n (padded limit past (map image l)))) (sym (length-map l image))
+    ∙ ap (map view) (take-padded limit past (map image l))
+    ∙ mapped-back view image law l
+
+pub view-map : (x : tables.Map) → viewMap (imageMap x) ≡ x
+view-map x =
+    rw (view-table viewNode imageNode view-node 32 noNode (x .nodes), view-table viewCollection imageCollection view-collection 16 noCollection (x .collections), view-table viewShard imageShard view-shard 64 noShard (x .shards), view-table viewSession imageSession view-session 64 noSession (x .sessions))

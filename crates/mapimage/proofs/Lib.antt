@@ -1,5 +1,5 @@
 pub mod OfImage
 pub mod Canon
-pub mod Viewed
+pub mod Tables
 pub mod Back
 pub mod Types

@@ -9,7 +9,6 @@ use mir.Val.{Val}
 use denote.Laws.{Is}
 use denote.Struct.Declared.{row, field}
 use Rattle.model.specs.Keys as keys
-use Rattle.model.specs.Map.Tables as tables
 use Rattle.model.proofs.LayoutLaws.Data.{metric-below}
 use Rattle.state.specs.Names.{viewKey}
 use Rattle.state.specs.View.{viewNode, viewCollection, viewPrimary, viewShard, rejectionOf, outcomeOf, viewSession, viewMap}
@@ -61,18 +60,18 @@ use Rattle.image.proofs.Canon.{length-padded}
 use Rattle.image.proofs.Tidied.{take-within, all-take, all-map, all-mapped, all-padded, name-fits, address-fits, key-fits, replicas-fit, ids-fit}
 use Rattle.mapimage.specs.Canon.{imageNode, imageCollection, imagePrimary, imageShard, imageRejection, imageOutcome, keyOfNone, keyOfName, rejectionKey, outcomeKey, imageSession}
 use Rattle.mapimage.specs.Rows.{nodeF, nodeValue, collectionF, collectionValue, shardF, shardValue, sessionF, sessionValue}
-use Rattle.mapimage.proofs.Viewed.{Few}
+use Rattle.mapimage.proofs.Tables.{Few}
 use Rattle.mapimage.proofs.Back.{NodeFits, CollectionFits, ShardFits, SessionFits, Fits}
 
 -- ---- nodes and collections
 
-node-good : (r : NodeRow) (vs : List Val) → Is (row ofNode.the-type) r vs → NodeFits (viewNode r)
+node-good : (r : NodeRow) (vs : List Val) → Is (row ofNode.the-type) r vs → NodeFits (imageNode (viewNode r))
 node-good r vs p = (
   (((p .1 .1 .0 .1 .1 .0 .1, p .1 .1 .1 .1 .0 .1), omega (arith, flag-small (r .alive))), omega arith),
   address-fits (r .address) (address-good (r .address) _ (p .1 .1 .1 .0)),
 )
 
-collection-good : (r : CollectionRow) (vs : List Val) → Is (row ofCollection.the-type) r vs → CollectionFits (viewCollection r)
+collection-good : (r : CollectionRow) (vs : List Val) → Is (row ofCollection.the-type) r vs → CollectionFits (imageCollection (viewCollection r))
 collection-good r vs p =
     let s = p .1 .1 .1 .0 in (
       (
@@ -93,7 +92,7 @@ primary-good (At n) vs p = p .1 .1 .1 .1 .0 .1 .1 .0 .1
 used-small : {A B : Type 0} (val : A → B) (n : ℕ) (xs : List A) → length (map val xs) ≡ 8 → length (take n xs) < 256 ^ 8
 used-small val n xs e = let k : length xs ≡ 8 = sym (length-map xs val) ∙ e in omega (arith, take-within n xs)
 
-shard-good : (r : ShardRow) (vs : List Val) → Is (row ofShard.the-type) r vs → ShardFits (viewShard r)
+shard-good : (r : ShardRow) (vs : List Val) → Is (row ofShard.the-type) r vs → ShardFits (imageShard (viewShard r))
 shard-good r vs p =
     let h = p .1 .1 .1 .0 in
     let s = p .1 .1 .1 .1 .1 .0 in
@@ -178,7 +177,7 @@ module _ (k : ShardKey) (g : Good keyF (keyValue k)) where
   outcome-key-fits Applied = none-fits
   outcome-key-fits (Rejected r) = rejection-key-fits r
 
-session-good : (r : SessionRow) (vs : List Val) → Is (row ofSession.the-type) r vs → SessionFits (viewSession r)
+session-good : (r : SessionRow) (vs : List Val) → Is (row ofSession.the-type) r vs → SessionFits (imageSession (viewSession r))
 session-good r vs p =
     let o = outcome-good (r .outcome) (viewKey (r .key)) _ (p .1 .1 .1 .1 .0) in (
       (
@@ -194,14 +193,16 @@ session-good r vs p =
 -- ---- tables, and the map
 
 -- the rows in use of an array whose rows fit
-few-used : {A B : Type 0} (f : Shape) (view : A → B) (val : B → Value f) (limit n : ℕ) (xs : List A)
-    → Good (rep limit f) (map (λ (x : A). val (view x)) xs) → Few (λ (y : B). Good f (val y)) limit (map view (take n xs))
-few-used {A} {B} f view val limit n xs g =
-    let k : length xs ≡ limit = sym (length-map xs (λ (x : A). val (view x))) ∙ g .0 in
-    let m : length (map view (take n xs)) ≡ length (take n xs) = length-map (take n xs) view in
+few-used : {A B : Type 0} (f : Shape) (view : A → B) (image : B → A) (val : A → Value f) (limit n : ℕ) (xs : List A)
+    → Good (rep limit f) (map (λ (x : A). val (image (view x))) xs) → Few (λ (y : A). Good f (val y)) limit (map image (map view (take n xs)))
+few-used {A} {B} f view image val limit n xs g =
+    let k : length xs ≡ limit = sym (length-map xs (λ (x : A). val (image (view x)))) ∙ g .0 in
+    let m : length (map image (map view (take n xs))) ≡ length (take n xs) = length-map (map view (take n xs)) image ∙ length-map (take n xs) view in
+    let p : A → Type 0 = λ y. Good f (val y) in
+    let q : B → Type 0 = λ y. Good f (val (image y)) in
     record {
       count = omega (arith, take-within n xs);
-      rows = all-map (λ (y : B). Good f (val y)) view (take n xs) (all-take (λ (x : A). Good f (val (view x))) n xs (all-mapped (Good f) (λ (x : A). val (view x)) xs (g .1)));
+      rows = all-map p image (map view (take n xs)) (all-map q view (take n xs) (all-take (λ (x : A). q (view x)) n xs (all-mapped (Good f) (λ (x : A). val (image (view x))) xs (g .1))));
     }
 
 -- what the types say of a map: how long its arrays are, and that what it is read as fits
@@ -229,9 +230,9 @@ typed m vs p =
       sessions = sym (length-map (m .sessions .items) (ofSession.the-type .to)) ∙ e .1 .0 .1;
       fits = record {
         version = p .1 .1 .0 .1;
-        nodes = few-used nodeF viewNode (λ (x : tables.NodeInfo). nodeValue (imageNode x)) 32 (m .nodes .count) (m .nodes .items) nodeGood;
-        collections = few-used collectionF viewCollection (λ (x : tables.Collection). collectionValue (imageCollection x)) 16 (m .collections .count) (m .collections .items) collectionGood;
-        shards = few-used shardF viewShard (λ (x : tables.ShardInfo). shardValue (imageShard x)) 64 (m .shards .count) (m .shards .items) shardGood;
-        sessions = few-used sessionF viewSession (λ (x : tables.Session). sessionValue (imageSession x)) 64 (m .sessions .count) (m .sessions .items) sessionGood;
+        nodes = few-used nodeF viewNode imageNode nodeValue 32 (m .nodes .count) (m .nodes .items) nodeGood;
+        collections = few-used collectionF viewCollection imageCollection collectionValue 16 (m .collections .count) (m .collections .items) collectionGood;
+        shards = few-used shardF viewShard imageShard shardValue 64 (m .shards .count) (m .shards .items) shardGood;
+        sessions = few-used sessionF viewSession imageSession sessionValue 64 (m .sessions .count) (m .sessions .items) sessionGood;
       };
     }

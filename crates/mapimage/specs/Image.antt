@@ -3,7 +3,7 @@
 use Prim.Native.Nat.{ℕ, _≤_}
 use mathlib.Core.Path.{_≡_}
 use mathlib.Core.Bool.{Bool, true, false, cond}
-use mathlib.Core.List.{List, _++_}
+use mathlib.Core.List.{List, _++_, map}
 use lib.ListN.{length, replicate}
 use lib.Dec.{leb}
 use lib.Seq.{sets}
@@ -27,6 +27,7 @@ use Rattle.mapimage.specs.declared.Lent.{Lent}
 use Rattle.image.specs.Shape.{inUse, rowsAt, codesBelow}
 use Rattle.image.specs.Codes.{idOf, epochOf}
 use Rattle.image.specs.Parts.{noName, noKey, noReplica}
+use Rattle.image.specs.Canon.{padded}
 use Rattle.mapimage.specs.Canon.{imageNode, imageCollection, imageShard, imageSession}
 use Rattle.mapimage.specs.Rows.{nodeAt, nodeBytes, collectionAt, collectionBytes, shardAt, shardBytes, sessionAt, sessionBytes}
 
@@ -110,26 +111,14 @@ headImage x =
     (((bytesOf 8 (x .version) ++ bytesOf 8 (length (x .nodes))) ++ bytesOf 8 (length (x .collections))) ++ bytesOf 8 (length (x .shards)))
     ++ bytesOf 8 (length (x .sessions))
 
-unfoldable pub nodeImage : tables.NodeInfo → List ℕ
-nodeImage x = nodeBytes (imageNode x)
-
-unfoldable pub collectionImage : tables.Collection → List ℕ
-collectionImage x = collectionBytes (imageCollection x)
-
-unfoldable pub shardImage : tables.ShardInfo → List ℕ
-shardImage x = shardBytes (imageShard x)
-
-unfoldable pub sessionImage : tables.Session → List ℕ
-sessionImage x = sessionBytes (imageSession x)
-
 -- the image of a map of model, stored over bytes
 unfoldable pub mapStored : List ℕ → tables.Map → List ℕ
 mapStored s x =
     sets
     (sets
-    (sets (sets (sets s 0 (headImage x)) 40 (concatMap nodeImage (x .nodes))) 3112 (concatMap collectionImage (x .collections)))
-    4008 (concatMap shardImage (x .shards)))
-    21416 (concatMap sessionImage (x .sessions))
+    (sets (sets (sets s 0 (headImage x)) 40 (concatMap nodeBytes (map imageNode (x .nodes)))) 3112 (concatMap collectionBytes (map imageCollection (x .collections))))
+    4008 (concatMap shardBytes (map imageShard (x .shards))))
+    21416 (concatMap sessionBytes (map imageSession (x .sessions)))
 
 abbrev pub mapPut : List ℕ → ShardMap → List ℕ
 mapPut s m = mapStored s (viewMap m)
@@ -138,11 +127,23 @@ mapPut s m = mapStored s (viewMap m)
 unfoldable pub mapWritten : List ℕ → ShardMap → List ℕ
 mapWritten s m = cond (leb 26536 (length s)) (mapPut s m) s
 
--- ---- what the bytes at exit are, of those at entry and a map of model: every byte, and that the map is read from them
+-- ---- the tables that such an image is read as: the rows from the start of their arrays on, past them rows that say nothing
+
+abbrev pub imageMap : tables.Map → ShardMap
+imageMap x = record {
+  version = x .version;
+  nodes = record { items = padded 32 noNode (map imageNode (x .nodes)); count = length (x .nodes) };
+  collections = record { items = padded 16 noCollection (map imageCollection (x .collections)); count = length (x .collections) };
+  shards = record { items = padded 64 noShard (map imageShard (x .shards)); count = length (x .shards) };
+  sessions = record { items = padded 64 noSession (map imageSession (x .sessions)); count = length (x .sessions) };
+}
+
+-- ---- what the bytes at exit are, of those at entry and a map of model: every byte, the tables that they lend, and that these are the map
 
 pub record MapBecomes (s t : List ℕ) (x : tables.Map) : Type 0 where
   pub bytes : t ≡ mapStored s x
   pub lent : mapLent t ≡ true
+  pub held : mapAt t ≡ imageMap x
   pub read : viewMap (mapAt t) ≡ x
 
 -- what a write promises: of a map that the code holds the image is that of the map that it is read as

@@ -1,5 +1,6 @@
 // Internal: the table of collections: 16 rows of 56 bytes, from 3112 on.
 ghost use mathlib.Core.Path.{_≡_};
+ghost use mathlib.Core.List.{map};
 ghost use Prim.Native.Nat.{_+_, _≤_};
 ghost use lib.ListN.{length};
 ghost use lib.Seq.{sets};
@@ -7,7 +8,8 @@ ghost use Rattle.model.specs.Layout.Format.{numberAt, concatMap};
 ghost use Rattle.state.specs.View.{viewCollections};
 ghost use Rattle.image.specs.Shape.{Stored, inUse, codesBelow};
 ghost use Rattle.mapimage.specs.Rows.{collectionAt, collectionBytes};
-ghost use Rattle.mapimage.specs.Image.{noCollection, noCollections, collectionsAt, collectionImage};
+ghost use Rattle.mapimage.specs.Canon.{imageCollection};
+ghost use Rattle.mapimage.specs.Image.{noCollection, noCollections, collectionsAt};
 use crate::tidy::tidy_collection;
 use image::bytes::codes_below;
 use image::bytes::count_at;
@@ -109,7 +111,7 @@ pub fn collections_at(s: &[u8]) -> Collections
 
 pub fn put_collections(out: &mut [u8], t: Collections)
     requires { ⌜ 26536 ≤ length (now out) ⌝ }
-    ensures { λ r. ⌜ now (out .exit) ≡ sets (now (out .entry)) 3112 (concatMap collectionImage (viewCollections t)) ⌝ }
+    ensures { λ r. ⌜ now (out .exit) ≡ sets (now (out .entry)) 3112 (concatMap collectionBytes (map imageCollection (viewCollections t))) ⌝ }
 {
     let n = in_use(16, t.count);
     let mut i: usize = 0;

@@ -1,5 +1,6 @@
 // Internal: the table of nodes: 32 rows of 96 bytes, from 40 on.
 ghost use mathlib.Core.Path.{_≡_};
+ghost use mathlib.Core.List.{map};
 ghost use Prim.Native.Nat.{_+_, _≤_};
 ghost use lib.ListN.{length, replicate};
 ghost use lib.Seq.{sets};
@@ -7,7 +8,8 @@ ghost use Rattle.model.specs.Layout.Format.{numberAt, concatMap};
 ghost use Rattle.state.specs.View.{viewNodes};
 ghost use Rattle.image.specs.Shape.{Stored, inUse, codesBelow};
 ghost use Rattle.mapimage.specs.Rows.{nodeAt, nodeBytes};
-ghost use Rattle.mapimage.specs.Image.{noNode, noNodes, nodesAt, nodeImage};
+ghost use Rattle.mapimage.specs.Canon.{imageNode};
+ghost use Rattle.mapimage.specs.Image.{noNode, noNodes, nodesAt};
 use crate::tidy::tidy_node;
 use image::bytes::codes_below;
 use image::bytes::count_at;
@@ -102,7 +104,7 @@ pub fn nodes_at(s: &[u8]) -> Nodes
 
 pub fn put_nodes(out: &mut [u8], t: Nodes)
     requires { ⌜ 26536 ≤ length (now out) ⌝ }
-    ensures { λ r. ⌜ now (out .exit) ≡ sets (now (out .entry)) 40 (concatMap nodeImage (viewNodes t)) ⌝ }
+    ensures { λ r. ⌜ now (out .exit) ≡ sets (now (out .entry)) 40 (concatMap nodeBytes (map imageNode (viewNodes t))) ⌝ }
 {
     let n = in_use(32, t.count);
     let mut i: usize = 0;

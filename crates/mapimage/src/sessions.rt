@@ -1,5 +1,6 @@
 // Internal: the table of sessions: 64 rows of 80 bytes, from 21416 on.
 ghost use mathlib.Core.Path.{_≡_};
+ghost use mathlib.Core.List.{map};
 ghost use Prim.Native.Nat.{_+_, _≤_};
 ghost use lib.ListN.{length};
 ghost use lib.Seq.{sets};
@@ -7,7 +8,8 @@ ghost use Rattle.model.specs.Layout.Format.{numberAt, concatMap};
 ghost use Rattle.state.specs.View.{viewSessions};
 ghost use Rattle.image.specs.Shape.{Stored, inUse, codesBelow};
 ghost use Rattle.mapimage.specs.Rows.{sessionAt, sessionBytes};
-ghost use Rattle.mapimage.specs.Image.{noSession, noSessions, sessionsAt, sessionImage};
+ghost use Rattle.mapimage.specs.Canon.{imageSession};
+ghost use Rattle.mapimage.specs.Image.{noSession, noSessions, sessionsAt};
 use crate::tidy::tidy_session;
 use image::bytes::codes_below;
 use image::bytes::count_at;
@@ -104,7 +106,7 @@ pub fn sessions_at(s: &[u8]) -> Sessions
 
 pub fn put_sessions(out: &mut [u8], t: Sessions)
     requires { ⌜ 26536 ≤ length (now out) ⌝ }
-    ensures { λ r. ⌜ now (out .exit) ≡ sets (now (out .entry)) 21416 (concatMap sessionImage (viewSessions t)) ⌝ }
+    ensures { λ r. ⌜ now (out .exit) ≡ sets (now (out .entry)) 21416 (concatMap sessionBytes (map imageSession (viewSessions t))) ⌝ }
 {
     let n = in_use(64, t.count);
     let mut i: usize = 0;

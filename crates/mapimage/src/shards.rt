@@ -1,5 +1,6 @@
 // Internal: the table of shards: 64 rows of 272 bytes, from 4008 on.
 ghost use mathlib.Core.Path.{_≡_};
+ghost use mathlib.Core.List.{map};
 ghost use Prim.Native.Nat.{_+_, _≤_};
 ghost use lib.ListN.{length};
 ghost use lib.Seq.{sets};
@@ -7,7 +8,8 @@ ghost use Rattle.model.specs.Layout.Format.{numberAt, concatMap};
 ghost use Rattle.state.specs.View.{viewShards};
 ghost use Rattle.image.specs.Shape.{Stored, inUse, codesBelow};
 ghost use Rattle.mapimage.specs.Rows.{shardAt, shardBytes, holdersAt, inSyncAt};
-ghost use Rattle.mapimage.specs.Image.{noShard, noShards, shardsAt, shardImage};
+ghost use Rattle.mapimage.specs.Canon.{imageShard};
+ghost use Rattle.mapimage.specs.Image.{noShard, noShards, shardsAt};
 use crate::tidy::tidy_shard;
 use image::bytes::codes_below;
 use image::bytes::count_at;
@@ -156,7 +158,7 @@ pub fn shards_at(s: &[u8]) -> Shards
 
 pub fn put_shards(out: &mut [u8], t: Shards)
     requires { ⌜ 26536 ≤ length (now out) ⌝ }
-    ensures { λ r. ⌜ now (out .exit) ≡ sets (now (out .entry)) 4008 (concatMap shardImage (viewShards t)) ⌝ }
+    ensures { λ r. ⌜ now (out .exit) ≡ sets (now (out .entry)) 4008 (concatMap shardBytes (map imageShard (viewShards t))) ⌝ }
 {
     let n = in_use(64, t.count);
     let mut i: usize = 0;

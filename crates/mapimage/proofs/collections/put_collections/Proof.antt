@@ -2,7 +2,7 @@
 use borrow.Author.Needs.{needs}
 use native.Mathlib.Omega.{arith}
 use mathlib.Core.Path.{_≡_, refl, sym, ap, _∙_}
-use mathlib.Core.List.{List}
+use mathlib.Core.List.{List, map}
 use Prim.Native.Nat.{ℕ, _+_, _-_, _*_, _≤_, _<_}
 use lib.ListN.{length, take, drop}
 use lib.Seq.{sets}
@@ -11,14 +11,15 @@ use Rattle.state.specs.View.{viewCollection}
 use Rattle.state.specs.declared.CollectionRow.{CollectionRow}
 use Rattle.state.proofs.Tables.{of-field}
 use Rattle.image.proofs.Images.{table-step, length-used, put-end, concat-mapped}
-use Rattle.mapimage.specs.Image.{collectionImage}
+use Rattle.mapimage.specs.Canon.{imageCollection}
+use Rattle.mapimage.specs.Rows.{collectionBytes}
 use Rattle.mapimage.proofs.OfImage.{pastCollection}
 use Rattle.mapimage.proofs.collections.put_collections.Statement.{statement}
 use Rattle.mapimage.proofs.collections.put_collections.Tie as tie
 
 -- a row in the table, as it is written
 abbrev put : CollectionRow → List ℕ
-put r = collectionImage (viewCollection r)
+put r = collectionBytes (imageCollection (viewCollection r))
 
 abbrev Inv-loop : tie.InvT-loop
 Inv-loop out₀ t n i₀ out i =
@@ -59,7 +60,6 @@ loop-less : tie.Need-loop-less Inv-loop μ-loop
 loop-less c = search needs
 
 loop-again : tie.Need-loop-again Inv-loop μ-loop
-unfolding collectionImage
 loop-again c =
     let l = (c .before .before .before .before .before .before .before .loop) in
     let a = (c .before .before .before .before .before .before .before .before .before .before .args) in
@@ -83,7 +83,7 @@ returns c =
     let rows = take (a .t2 .count) (a .t2 .items) in
     let z : l .i ≡ length rows = omega arith in
     put-end put rows (a .out .now) (l .out) (3112 + 56 * l .i) (l .i) 3112 z (l .inv .3)
-    ∙ ap (λ (b : List ℕ). sets (a .out .now) 3112 b) (sym (concat-mapped collectionImage viewCollection rows))
+    ∙ ap (λ (b : List ℕ). sets (a .out .now) 3112 b) (sym (concat-mapped collectionBytes imageCollection (map viewCollection rows) ∙ concat-mapped (λ x. collectionBytes (imageCollection x)) viewCollection rows))
 
 pub put-collections-spec : {M : Type 1} → statement M
 put-collections-spec =

@@ -2,7 +2,7 @@
 use borrow.Author.Needs.{needs}
 use native.Mathlib.Omega.{arith}
 use mathlib.Core.Path.{_≡_, refl, sym, ap, _∙_}
-use mathlib.Core.List.{List}
+use mathlib.Core.List.{List, map}
 use Prim.Native.Nat.{ℕ, _+_, _-_, _*_, _≤_, _<_}
 use lib.ListN.{length, take, drop}
 use lib.Seq.{sets}
@@ -11,14 +11,15 @@ use Rattle.state.specs.View.{viewShard}
 use Rattle.state.specs.declared.ShardRow.{ShardRow}
 use Rattle.state.proofs.Tables.{of-field}
 use Rattle.image.proofs.Images.{table-step, length-used, put-end, concat-mapped}
-use Rattle.mapimage.specs.Image.{shardImage}
+use Rattle.mapimage.specs.Canon.{imageShard}
+use Rattle.mapimage.specs.Rows.{shardBytes}
 use Rattle.mapimage.proofs.OfImage.{pastShard}
 use Rattle.mapimage.proofs.shards.put_shards.Statement.{statement}
 use Rattle.mapimage.proofs.shards.put_shards.Tie as tie
 
 -- a row in the table, as it is written
 abbrev put : ShardRow → List ℕ
-put r = shardImage (viewShard r)
+put r = shardBytes (imageShard (viewShard r))
 
 abbrev Inv-loop : tie.InvT-loop
 Inv-loop out₀ t n i₀ out i =
@@ -59,7 +60,6 @@ loop-less : tie.Need-loop-less Inv-loop μ-loop
 loop-less c = search needs
 
 loop-again : tie.Need-loop-again Inv-loop μ-loop
-unfolding shardImage
 loop-again c =
     let l = (c .before .before .before .before .before .before .before .loop) in
     let a = (c .before .before .before .before .before .before .before .before .before .before .args) in
@@ -83,7 +83,7 @@ returns c =
     let rows = take (a .t2 .count) (a .t2 .items) in
     let z : l .i ≡ length rows = omega arith in
     put-end put rows (a .out .now) (l .out) (4008 + 272 * l .i) (l .i) 4008 z (l .inv .3)
-    ∙ ap (λ (b : List ℕ). sets (a .out .now) 4008 b) (sym (concat-mapped shardImage viewShard rows))
+    ∙ ap (λ (b : List ℕ). sets (a .out .now) 4008 b) (sym (concat-mapped shardBytes imageShard (map viewShard rows) ∙ concat-mapped (λ x. shardBytes (imageShard x)) viewShard rows))
 
 pub put-shards-spec : {M : Type 1} → statement M
 put-shards-spec =
