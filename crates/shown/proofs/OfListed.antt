@@ -5,7 +5,6 @@ use mathlib.Core.List.{List, [], map}
 use mathlib.Core.Option.{Option, none, some}
 use Prim.Native.Nat.{ℕ, _<_, _≤_}
 use native.Mathlib.Omega.{arith}
-use lib.Dec.{ltb}
 use lib.ListN.{length, take, getD, length-take}
 use borrow.Author.Tests.{le-ltb, not-false}
 use Rattle.model.specs.Lists.{lead, find}

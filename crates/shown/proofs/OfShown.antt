@@ -1,6 +1,6 @@
 -- Laws of a map shown: the slots of the shards held after, and each way out. Assumes nothing.
 use mathlib.Core.Path.{_≡_, refl, sym, ap, _∙_, subst}
-use mathlib.Core.Bool.{Bool, true, false, cond, not}
+use mathlib.Core.Bool.{Bool, true, false, not}
 use mathlib.Core.List.{List, [], _∷_, _++_, map}
 use Prim.Native.Nat.{ℕ, zero, suc, _<_, _≤_}
 use native.Mathlib.Omega.{arith}
@@ -16,7 +16,6 @@ use Rattle.model.specs.Node.Held as held
 use Rattle.model.specs.Node.Shown as show
 use Rattle.model.specs.Node.Calls as calls
 use Rattle.model.proofs.Lists.{not-both, and-true, and-left, and-right}
-use Rattle.model.proofs.Map.Orders.{keys}
 use Rattle.model.proofs.Map.Rows.{every-cons}
 use Rattle.state.specs.declared.ShardMap.{ShardMap}
 use Rattle.state.specs.Names.{viewKey}

@@ -16,8 +16,7 @@ use Rattle.model.specs.Keys.{Key, keyBelow}
 use Rattle.model.specs.Map.Tables as tables
 use Rattle.model.specs.Node.Shown as show
 use Rattle.model.specs.Map.Create.{shardBelow}
-use Rattle.model.proofs.Lists.{not-both, and-true, and-left, and-right}
-use Rattle.model.proofs.Map.Orders.{keys}
+use Rattle.model.proofs.Lists.{not-both, and-left, and-right}
 use Rattle.node.proofs.Loops.{used-next, used-over, take-put}
 use Rattle.state.specs.declared.ShardRow.{ShardRow}
 use Rattle.state.specs.declared.Shards.{Shards}
