@@ -1,4 +1,5 @@
 pub mod OfAsked
+pub mod OfLeaves
 pub mod OfCalls
 pub mod OfFresh
 pub mod OfWaits

@@ -21,23 +21,26 @@ use Rattle.header.specs.declared.Proposal.{Proposal}
 use Rattle.header.specs.declared.NodeSettled.{NodeSettled}
 use Rattle.header.specs.declared.NodeWaited.{NodeWaited}
 use Rattle.header.specs.declared.NodeAcked.{NodeAcked}
-use Rattle.header.specs.Answers.{GrantsNode, SettlesNode, WaitsNode}
-use Rattle.header.specs.Arrays.{Fitting}
+use Rattle.header.specs.Answers.{Told, GrantsNode, SettlesNode, WaitTold, WaitsNode}
+use Rattle.header.specs.Seats.{Keeps}
 use Rattle.hears.specs.declared.Heard.{Heard}
 use Rattle.hears.specs.declared.Heard.the-variants as H
 use Rattle.hears.specs.Hears.{heardOf, HearsMap, HearsReply}
+use Rattle.model.proofs.Lists.{and-left}
 use Rattle.shown.specs.declared.NodeShown.{NodeShown}
+use Rattle.shown.specs.Shows.{ShownTold}
 use Rattle.state.specs.declared.ShardMap.{ShardMap}
 use Rattle.mapimage.specs.declared.Lent as map
 use Rattle.mapimage.specs.Image.{mapLent, mapAt, lentMap}
 use Rattle.headerimage.specs.declared.Lent.{Lent}
 use Rattle.headerimage.specs.Image.{headerLent, nodeAt, lentHeader}
-use Rattle.headercalls.specs.Asked.{keyNamed, imageAfter}
-use Rattle.headercalls.specs.Grants.{grantNumber, isGranted, GrantsImage}
-use Rattle.headercalls.specs.Acks.{sentAt, noReply, ackNumber, isAcked, AcksImage}
-use Rattle.headercalls.specs.Settles.{proposalAt, outcomeNumber, isSettled, SettlesImage}
-use Rattle.headercalls.specs.Waits.{left, waitLeft, WaitsImage}
-use Rattle.headercalls.specs.Shows.{showLeft, ShowsImage}
+use Rattle.headercalls.specs.Asked.{keyNamed, imageAfter, Becomes}
+use Rattle.headercalls.specs.Grants.{grantNumber, isGranted, granted, GrantsImage}
+use Rattle.headercalls.specs.Acks.{sentAt, noReply, ackNumber, isAcked, acked, AcksImage}
+use Rattle.headercalls.specs.Settles.{proposalAt, outcomeNumber, isSettled, settled, SettlesImage}
+use Rattle.headercalls.specs.Waits.{WaitPut, waited, WaitsImage}
+use Rattle.headercalls.specs.Shows.{isShown, ShowPut, shownAfter, ShowsImage}
+use Rattle.headercalls.proofs.OfLeaves.{leaves-slots, leaves-shown, shown-formed}
 
 module _ (s : List ℕ) (l : Lent) (read : l ≡ lentHeader s) where
   pub as-lent : (b : Bool) → l .found ≡ b → headerLent s ≡ b
@@ -52,56 +55,78 @@ module _ (s : List ℕ) (l : Lent) (read : l ≡ lentHeader s) where
     on-lent P = subst P (ap (λ (x : Lent). x .node) read ∙ lent-node (as-lent true found))
 
     pub grants-image : (t : List ℕ) (i sent lease r : ℕ) (after : NodeGranted)
-        → GrantsNode (l .node) i sent lease after → Fitting (l .node) (after .node)
+        → GrantsNode (l .node) i sent lease after → Keeps (l .node) (after .node)
         → (x : GrantAnswer) → after .answer ≡ x → r ≡ grantNumber x → t ≡ imageAfter (isGranted x) s (after .node)
-        → GrantsImage s t i sent lease r
-    grants-image t i sent lease r after call fits x e a b = record {
+        → (isGranted x ≡ true → Becomes s t (after .node)) → GrantsImage s t i sent lease r
+    grants-image t i sent lease r after call keeps x e a b g = record {
       after = after;
       call = on-lent (λ n. GrantsNode n i sent lease after) call;
-      fits = on-lent (λ n. Fitting n (after .node)) fits;
+      keeps = on-lent (λ n. Keeps n (after .node)) keeps;
       answer = a ∙ ap grantNumber (sym e);
       image = b ∙ ap (λ (y : GrantAnswer). imageAfter (isGranted y) s (after .node)) (sym e);
+      leaves = λ d.
+          leaves-slots s t (as-lent true found) (after .node) (g (ap isGranted (sym e) ∙ d)) (λ st. granted s i sent lease st .after)
+          (λ st. ap (λ (w : Told GrantAnswer). w .node) (on-lent (λ n. GrantsNode n i sent lease after) call st))
+          (on-lent (λ n. Keeps n (after .node)) keeps);
     }
 
     module _ (name : List ℕ) (shard : ℕ) (k : Key) (key : k ≡ keyNamed name shard) where
       pub settles-image : (t : List ℕ) (epoch peer command applied r : ℕ) (w : Proposal) → w ≡ proposalAt command → (after : NodeSettled)
-          → SettlesNode (l .node) k epoch peer w (eqb applied 1) after → Fitting (l .node) (after .node)
+          → SettlesNode (l .node) k epoch peer w (eqb applied 1) after → Keeps (l .node) (after .node)
           → (x : OutcomeAnswer) → after .answer ≡ x → r ≡ outcomeNumber x → t ≡ imageAfter (isSettled x) s (after .node)
-          → SettlesImage s t name shard epoch peer command applied r
-      settles-image t epoch peer command applied r w what after call fits x e a b = record {
-        after = after;
-        call = subst (λ v. SettlesNode (nodeAt s) v epoch peer (proposalAt command) (eqb applied 1) after) key
-            (subst (λ v. SettlesNode (nodeAt s) k epoch peer v (eqb applied 1) after) what
-            (on-lent (λ n. SettlesNode n k epoch peer w (eqb applied 1) after) call));
-        fits = on-lent (λ n. Fitting n (after .node)) fits;
-        answer = a ∙ ap outcomeNumber (sym e);
-        image = b ∙ ap (λ (y : OutcomeAnswer). imageAfter (isSettled y) s (after .node)) (sym e);
-      }
+          → (isSettled x ≡ true → Becomes s t (after .node)) → SettlesImage s t name shard epoch peer command applied r
+      settles-image t epoch peer command applied r w what after call keeps x e a b g =
+          let on = subst (λ v. SettlesNode (nodeAt s) v epoch peer (proposalAt command) (eqb applied 1) after) key
+          (subst (λ v. SettlesNode (nodeAt s) k epoch peer v (eqb applied 1) after) what
+          (on-lent (λ n. SettlesNode n k epoch peer w (eqb applied 1) after) call)) in
+          let stay = on-lent (λ n. Keeps n (after .node)) keeps in
+          record {
+            after = after;
+            call = on;
+            keeps = stay;
+            answer = a ∙ ap outcomeNumber (sym e);
+            image = b ∙ ap (λ (y : OutcomeAnswer). imageAfter (isSettled y) s (after .node)) (sym e);
+            leaves = λ d.
+                leaves-slots s t (as-lent true found) (after .node) (g (ap isSettled (sym e) ∙ d))
+                (λ st. settled s name shard epoch peer command applied st .after) (λ st. ap (λ (w : Told OutcomeAnswer). w .node) (on st)) stay;
+          }
 
       pub acks-image : (t reply : List ℕ) (epoch peer step r : ℕ) (w : Sent) → w ≡ sentAt step → (after : NodeAcked)
-          → HearsReply (l .node) k epoch peer w reply after → Fitting (l .node) (after .node)
+          → HearsReply (l .node) k epoch peer w reply after → Keeps (l .node) (after .node)
           → (x : AckAnswer) → after .answer ≡ x → r ≡ ackNumber x → t ≡ imageAfter (isAcked x) s (after .node)
-          → AcksImage s t name reply shard epoch peer step r
-      acks-image t reply epoch peer step r w sent after call fits x e a b = record {
-        after = after;
-        call = subst (λ v. HearsReply (nodeAt s) v epoch peer (sentAt step) reply after) key
-            (subst (λ v. HearsReply (nodeAt s) k epoch peer v reply after) sent
-            (on-lent (λ n. HearsReply n k epoch peer w reply after) call));
-        fits = on-lent (λ n. Fitting n (after .node)) fits;
-        answer = a ∙ ap ackNumber (sym e);
-        image = b ∙ ap (λ (y : AckAnswer). imageAfter (isAcked y) s (after .node)) (sym e);
-      }
+          → (isAcked x ≡ true → Becomes s t (after .node)) → AcksImage s t name reply shard epoch peer step r
+      acks-image t reply epoch peer step r w sent after call keeps x e a b g =
+          let on = subst (λ v. HearsReply (nodeAt s) v epoch peer (sentAt step) reply after) key
+          (subst (λ v. HearsReply (nodeAt s) k epoch peer v reply after) sent
+          (on-lent (λ n. HearsReply n k epoch peer w reply after) call)) in
+          let stay = on-lent (λ n. Keeps n (after .node)) keeps in
+          record {
+            after = after;
+            call = on;
+            keeps = stay;
+            answer = a ∙ ap ackNumber (sym e);
+            image = b ∙ ap (λ (y : AckAnswer). imageAfter (isAcked y) s (after .node)) (sym e);
+            leaves = λ d.
+                leaves-slots s t (as-lent true found) (after .node) (g (ap isAcked (sym e) ∙ d))
+                (λ st. acked s name reply shard epoch peer step st .after) (λ st. ap (λ (w : Told AckAnswer). w .node) (on st)) stay;
+          }
 
       pub waits-image : (t p q a b : List ℕ) (epoch offset now timeout r : ℕ) (after : NodeWaited)
-          → WaitsNode (l .node) k epoch offset now timeout after → Fitting (l .node) (after .node)
-          → left r t q b ≡ waitLeft s p a after → WaitsImage s t p q a b name shard epoch offset now timeout r
-      waits-image t p q a b epoch offset now timeout r after call fits e = record {
-        after = after;
-        call = subst (λ v. WaitsNode (nodeAt s) v epoch offset now timeout after) key
-            (on-lent (λ n. WaitsNode n k epoch offset now timeout after) call);
-        fits = on-lent (λ n. Fitting n (after .node)) fits;
-        buffers = e;
-      }
+          → WaitsNode (l .node) k epoch offset now timeout after → Keeps (l .node) (after .node)
+          → WaitPut s t p q a b after r → WaitsImage s t p q a b name shard epoch offset now timeout r
+      waits-image t p q a b epoch offset now timeout r after call keeps e =
+          let on = subst (λ v. WaitsNode (nodeAt s) v epoch offset now timeout after) key
+          (on-lent (λ n. WaitsNode n k epoch offset now timeout after) call) in
+          let stay = on-lent (λ n. Keeps n (after .node)) keeps in
+          record {
+            after = after;
+            call = on;
+            keeps = stay;
+            buffers = e .buffers;
+            leaves = λ d.
+                leaves-slots s t (as-lent true found) (after .node) (e .becomes d)
+                (λ st. waited s name shard epoch offset now timeout st .after) (λ st. ap (λ (w : WaitTold). w .node) (on st)) stay;
+          }
 
 -- ---- the map that was read
 
@@ -117,12 +142,18 @@ module _ (m : List ℕ) (l : map.Lent) (read : l ≡ lentMap m) where
 
   pub shows-image : (s : List ℕ) (h : Lent) → h ≡ lentHeader s → h .found ≡ true → l .found ≡ true
       → (t p q a b : List ℕ) (fresh r : ℕ) (after : NodeShown)
-      → HearsMap (h .node) (l .map) fresh after → left r t q b ≡ showLeft s p a after → ShowsImage s t m p q a b fresh r
-  shows-image s h is found known t p q a b fresh r after call e = record {
-    after = after;
-    call = on-map (λ k. HearsMap (nodeAt s) k fresh after) known (on-lent s h is found (λ n. HearsMap n (l .map) fresh after) call);
-    buffers = e;
-  }
+      → HearsMap (h .node) (l .map) fresh after → ShowPut s t p q a b after r → ShowsImage s t m p q a b fresh r
+  shows-image s h is found known t p q a b fresh r after call e =
+      let on = on-map (λ k. HearsMap (nodeAt s) k fresh after) known (on-lent s h is found (λ n. HearsMap n (l .map) fresh after) call) in
+      record {
+        after = after;
+        call = on;
+        buffers = e .buffers;
+        leaves = λ d.
+            let formed = shown-formed (nodeAt s) (mapAt m) fresh after on (and-left (isShown (after .answer)) _ d) in
+            leaves-shown s t (as-lent s h is true found) (after .node) (e .becomes d) (shownAfter s m fresh)
+            (λ st. ap (λ (w : ShownTold). w .node) (on .same st)) (on .seats formed);
+      }
 
 pub lent-first : (a b : Bool) → a ≡ false → (a and b) ≡ false
 unfolding _and_

@@ -1,12 +1,14 @@
 -- What a wait leaves in a host's buffers, one law for each way out. Assumes nothing.
 use Prim.Native.Nat.{ℕ, _*_, _≤_, _<_}
-use mathlib.Core.Path.{_≡_, refl, sym, ap, _∙_}
+use mathlib.Core.Bool.{true, false}
+use mathlib.Core.Path.{_≡_, sym, ap, _∙_}
 use mathlib.Core.List.{List}
 use lib.ListN.{length, take}
 use lib.Seq.{sets}
 use borrow.Author.Tests.{le-leb, lt-leb}
 use Rattle.model.specs.Lists.{_and_}
 use Rattle.model.specs.Layout.Format.{bytesOf, concatMap}
+use Rattle.model.proofs.Lists.{not-both, and-left, and-right}
 use Rattle.node.specs.declared.WaitAnswer.{WaitAnswer}
 use Rattle.header.specs.declared.Node.{Node}
 use Rattle.header.specs.declared.NodeWaited.{NodeWaited}
@@ -14,8 +16,9 @@ use Rattle.shown.specs.declared.NodeShown.{NodeShown}
 use Rattle.shown.specs.declared.ShownAnswer.{ShownAnswer}
 use Rattle.shown.specs.Shows.{viewStarts}
 use Rattle.headerimage.specs.Image.{headerWritten}
-use Rattle.headercalls.specs.Shows.{showSaid, showLeft}
-use Rattle.headercalls.specs.Waits.{Left, left, answerPut, rowsPut, waitSaid, waitLeft}
+use Rattle.headercalls.specs.Asked.{Becomes}
+use Rattle.headercalls.specs.Shows.{workerBytes, showSaid, isShown, ShowPut}
+use Rattle.headercalls.specs.Waits.{left, idBytes, answerPut, rowsRoom, RowsPut, waitSaid, isWaited, WaitPut}
 
 pub answer-long : (a : List ℕ) (v : ℕ) → 8 ≤ length a → sets a 0 (bytesOf 8 v) ≡ answerPut a v
 answer-long a v h = rw (le-leb 8 (length a) h)
@@ -27,26 +30,44 @@ same-left : (r : ℕ) {t u q p b a : List ℕ} → t ≡ u → q ≡ p → b ≡
 same-left r x y z = rw (x, y, z)
 
 module _ {A : Type 0} (bytes : A → List ℕ) (w : ℕ) (said : ℕ) (s p a : List ℕ) (l : List A) (n : Node) where
-  pub no-answer : length a < 8 → left 23 s p a ≡ rowsPut bytes w said s p a l n
-  unfolding _and_
-  no-answer h = rw (lt-leb 8 (length a) h)
+  -- without room nothing is written
+  unput : rowsRoom bytes w p a l ≡ false → RowsPut bytes w said s s p p a a l n 23
+  unput e = record { buffers = rw e; becomes = λ d. not-both (rowsRoom bytes w p a l) d e }
+
+  pub no-answer : length a < 8 → RowsPut bytes w said s s p p a a l n 23
+  no-answer h = unput (unfold _and_ in rw (lt-leb 8 (length a) h))
 
   module _ (answer : 8 ≤ length a) where
-    pub no-peers : length p < w * length l → left 23 s p a ≡ rowsPut bytes w said s p a l n
-    unfolding _and_
-    no-peers h = rw (le-leb 8 (length a) answer) (rw (lt-leb (w * length l) (length p) h))
+    pub no-peers : length p < w * length l → RowsPut bytes w said s s p p a a l n 23
+    no-peers h = unput (unfold _and_ in rw (le-leb 8 (length a) answer) (lt-leb (w * length l) (length p) h))
 
-    pub all-put : w * length l ≤ length p → {t q b : List ℕ} {c : ℕ} → t ≡ headerWritten s n → q ≡ sets p 0 (concatMap bytes l)
-        → b ≡ sets a 0 (bytesOf 8 c) → c ≡ length l → left said t q b ≡ rowsPut bytes w said s p a l n
-    unfolding _and_
-    all-put h x y z e =
-        rw (le-leb 8 (length a) answer) (rw (le-leb (w * length l) (length p) h)
-        (same-left said x y (z ∙ ap (λ (v : ℕ). sets a 0 (bytesOf 8 v)) e)))
+    pub all-put : w * length l ≤ length p → {t q b : List ℕ} {c : ℕ} → t ≡ headerWritten s n → Becomes s t n → q ≡ sets p 0 (concatMap bytes l)
+        → b ≡ sets a 0 (bytesOf 8 c) → c ≡ length l → RowsPut bytes w said s t p q a b l n said
+    all-put h x g y z e = record {
+      buffers = same-left said x y (z ∙ ap (λ (v : ℕ). sets a 0 (bytesOf 8 v)) e)
+          ∙ (unfold _and_ in rw (le-leb 8 (length a) answer) (rw (le-leb (w * length l) (length p) h)));
+      becomes = λ d. g;
+    }
 
-pub waited-as : (s p a : List ℕ) (x : NodeWaited) (w : WaitAnswer) → x .answer ≡ w → (u : Left)
-    → u ≡ waitSaid w s p a (take (x .shrink .count) (x .shrink .items)) (x .node) → u ≡ waitLeft s p a x
-waited-as s p a x w e u h = h ∙ ap (λ (y : WaitAnswer). waitSaid y s p a (take (x .shrink .count) (x .shrink .items)) (x .node)) (sym e)
+-- what is said decides whether the header is written
+pub waited-as : (s p a : List ℕ) (x : NodeWaited) (w : WaitAnswer) → x .answer ≡ w → {t q b : List ℕ} {r : ℕ}
+    → left r t q b ≡ waitSaid w s p a (take (x .shrink .count) (x .shrink .items)) (x .node)
+    → (isWaited w ≡ true → rowsRoom idBytes 8 p a (take (x .shrink .count) (x .shrink .items)) ≡ true → Becomes s t (x .node))
+    → WaitPut s t p q a b x r
+waited-as s p a x w e h g =
+    let room = rowsRoom idBytes 8 p a (take (x .shrink .count) (x .shrink .items)) in
+    record {
+      buffers = h ∙ ap (λ (y : WaitAnswer). waitSaid y s p a (take (x .shrink .count) (x .shrink .items)) (x .node)) (sym e);
+      becomes = λ d. g (ap isWaited (sym e) ∙ and-left (isWaited (x .answer)) room d) (and-right (isWaited (x .answer)) room d);
+    }
 
-pub shown-as : (s p a : List ℕ) (x : NodeShown) (w : ShownAnswer) → x .answer ≡ w → (u : Left)
-    → u ≡ showSaid w s p a (viewStarts (take (x .count) (x .starts))) (x .node) → u ≡ showLeft s p a x
-shown-as s p a x w e u h = h ∙ ap (λ (y : ShownAnswer). showSaid y s p a (viewStarts (take (x .count) (x .starts))) (x .node)) (sym e)
+pub shown-as : (s p a : List ℕ) (x : NodeShown) (w : ShownAnswer) → x .answer ≡ w → {t q b : List ℕ} {r : ℕ}
+    → left r t q b ≡ showSaid w s p a (viewStarts (take (x .count) (x .starts))) (x .node)
+    → (isShown w ≡ true → rowsRoom workerBytes 54 p a (viewStarts (take (x .count) (x .starts))) ≡ true → Becomes s t (x .node))
+    → ShowPut s t p q a b x r
+shown-as s p a x w e h g =
+    let room = rowsRoom workerBytes 54 p a (viewStarts (take (x .count) (x .starts))) in
+    record {
+      buffers = h ∙ ap (λ (y : ShownAnswer). showSaid y s p a (viewStarts (take (x .count) (x .starts))) (x .node)) (sym e);
+      becomes = λ d. g (ap isShown (sym e) ∙ and-left (isShown (x .answer)) room d) (and-right (isShown (x .answer)) room d);
+    }

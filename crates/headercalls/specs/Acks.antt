@@ -8,16 +8,23 @@ use mathlib.Core.Option.{Option, none, some}
 use lib.Dec.{eqb, ltb}
 use Rattle.model.specs.Lists.{_or_}
 use Rattle.model.specs.Layout.Message as message
-use Rattle.model.specs.Node.Ack.{badReply}
+use Rattle.model.specs.Node.Held as held
+use Rattle.model.specs.Node.Shards.{Result}
+use Rattle.model.specs.Node.Ack as ack
+use Rattle.model.specs.Node.Calls as calls
 use Rattle.node.specs.declared.AckAnswer.{AckAnswer}
 use Rattle.node.specs.declared.AckAnswer.the-variants as A
 use Rattle.node.specs.declared.Sent.{Sent}
 use Rattle.node.specs.declared.Sent.the-variants as S
+use Rattle.node.specs.Acks.{sentOf}
 use Rattle.header.specs.declared.NodeAcked.{NodeAcked}
-use Rattle.header.specs.Arrays.{Fitting}
+use Rattle.header.specs.View.{Stores, viewNode}
+use Rattle.header.specs.Formed.{lentNode}
+use Rattle.header.specs.Seats.{Keeps}
 use Rattle.hears.specs.Hears.{HearsReply}
 use Rattle.headerimage.specs.Image.{headerLent, nodeAt}
 use Rattle.headercalls.specs.Asked.{keyNamed, unreadName, Asked, imageAfter}
+use Rattle.headercalls.specs.Leaves.{LeavesSlots}
 
 -- the steps' codes: 2 align, 3 replicate, 4 copy
 abbrev pub sentAt : ℕ → Sent
@@ -26,7 +33,7 @@ sentAt step = cond (eqb step 2) S.Align (cond (eqb step 3) S.Replicate S.Copy)
 -- no reply, or one that no peer gives
 abbrev pub noReply : Option message.Reply → Bool
 noReply none = true
-noReply (some r) = badReply r
+noReply (some r) = ack.badReply r
 
 abbrev pub unreadReply : List ℕ → Bool
 unreadReply reply = noReply (message.decodeReply reply)
@@ -46,13 +53,19 @@ isAcked A.Noted = true
 isAcked A.Expand = true
 isAcked (A.Refused k) = false
 
+-- the model's ack, on the header that the bytes are read as
+abbrev pub acked : (s name reply : List ℕ) → (shard epoch peer step : ℕ) → Stores → Result ack.AckAnswer held.Node
+acked s name reply shard epoch peer step st =
+    calls.ackWith (lentNode st (nodeAt s)) (viewNode st (nodeAt s)) (keyNamed name shard) epoch peer (sentOf (sentAt step)) reply
+
 -- the image holds s before and t after
 pub record AcksImage (s t name reply : List ℕ) (shard epoch peer step r : ℕ) : Type 0 where
   pub after : NodeAcked
   pub call : HearsReply (nodeAt s) (keyNamed name shard) epoch peer (sentAt step) reply after
-  pub fits : Fitting (nodeAt s) (after .node)
+  pub keeps : Keeps (nodeAt s) (after .node)
   pub answer : r ≡ ackNumber (after .answer)
   pub image : t ≡ imageAfter (isAcked (after .answer)) s (after .node)
+  pub leaves : isAcked (after .answer) ≡ true → LeavesSlots s t (λ st. acked s name reply shard epoch peer step st .after)
 
 abbrev pub Acks : (s t name reply : List ℕ) → (shard epoch peer step r : ℕ) → Type 0
 Acks s t name reply shard epoch peer step r =

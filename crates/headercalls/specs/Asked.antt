@@ -1,14 +1,16 @@
 -- What every call over an image says first (paper 01, 'Who is turned down'), and what it leaves of the image. Definitions only.
-use Prim.Native.Nat.{ℕ}
+use Prim.Native.Nat.{ℕ, _≤_}
 use mathlib.Core.Bool.{Bool, true, false, not, cond}
 use mathlib.Core.Path.{_≡_}
 use mathlib.Core.List.{List}
+use lib.ListN.{length}
 use Rattle.model.specs.Lists.{_or_}
 use Rattle.model.specs.Limits.{maxName}
 use Rattle.model.specs.Keys.{Key}
 use Rattle.header.specs.declared.Node.{Node}
 use Rattle.rpcw.specs.Written.{textFits}
 use Rattle.headerimage.specs.Image.{headerWritten}
+use Rattle.headerimage.specs.Becomes.{HeaderBecomes}
 
 -- the shard that a caller names
 abbrev pub keyNamed : List ℕ → ℕ → Key
@@ -28,7 +30,12 @@ pub record Asked (unread lent : Bool) (r : ℕ) (Same Called : Type 0) : Type 0 
 abbrev pub imageAfter : Bool → List ℕ → Node → List ℕ
 imageAfter done s n = cond done (headerWritten s n) s
 
+-- internal: an image that was written back
+abbrev pub Becomes : (s t : List ℕ) → Node → Type 0
+Becomes s t n = 10288 ≤ length s → HeaderBecomes s t n
+
 -- internal: what putting it there leaves, and the number passed on
 pub record After (s t : List ℕ) (n : Node) (done : Bool) (number r : ℕ) : Type 0 where
   pub answer : r ≡ number
   pub image : t ≡ imageAfter done s n
+  pub becomes : done ≡ true → Becomes s t n

@@ -1,15 +1,14 @@
 -- What a fresh node promises: every byte of its image, and that the image is read as the model's new node. Definitions only.
 use Prim.Native.Nat.{ℕ, _≤_, _<_}
-use mathlib.Core.Bool.{true}
 use mathlib.Core.Path.{_≡_}
-use mathlib.Core.List.{List}
+use mathlib.Core.List.{List, []}
 use lib.ListN.{length}
 use Rattle.model.specs.Node.Held as held
 use Rattle.serve.specs.declared.Expiry.the-variants.{Never}
 use Rattle.header.specs.declared.Node.{Node}
-use Rattle.header.specs.View.{Stores, viewNode}
 use Rattle.image.specs.Codes.{idOf}
-use Rattle.headerimage.specs.Image.{noNode, headerLent, nodeAt, headerWritten}
+use Rattle.headerimage.specs.Image.{noNode, headerWritten}
+use Rattle.headercalls.specs.Leaves.{Leaves}
 
 -- no shard, no lease, no map known
 abbrev pub freshNode : (id incarnation : ℕ) → Node
@@ -25,8 +24,7 @@ freshNode id incarnation = record {
 pub record FreshImage (s t : List ℕ) (id incarnation r : ℕ) : Type 0 where
   pub answer : r ≡ 0
   pub image : t ≡ headerWritten s (freshNode id incarnation)
-  pub lent : headerLent t ≡ true
-  pub read : (stores : Stores) → viewNode stores (nodeAt t) ≡ held.emptyNode id incarnation
+  pub leaves : Leaves s t (λ st. held.emptyNode id incarnation) (λ st. [])
 
 -- the image holds s before and t after
 pub record Freshens (s t : List ℕ) (id incarnation r : ℕ) : Type 0 where

@@ -5,14 +5,20 @@ use mathlib.Core.Bool.{Bool, true, false}
 use mathlib.Core.Path.{_≡_}
 use mathlib.Core.List.{List}
 use Rattle.model.specs.Lists.{_or_}
-use Rattle.model.specs.Node.Calls.{lateTime}
+use Rattle.model.specs.Node.Held as held
+use Rattle.model.specs.Node.Shards.{Result}
+use Rattle.model.specs.Node.Lease as leases
+use Rattle.model.specs.Node.Calls as calls
 use Rattle.header.specs.declared.GrantAnswer.{GrantAnswer}
 use Rattle.header.specs.declared.GrantAnswer.the-variants as G
 use Rattle.header.specs.declared.NodeGranted.{NodeGranted}
 use Rattle.header.specs.Answers.{GrantsNode}
-use Rattle.header.specs.Arrays.{Fitting}
+use Rattle.header.specs.View.{Stores, viewNode}
+use Rattle.header.specs.Formed.{lentNode}
+use Rattle.header.specs.Seats.{Keeps}
 use Rattle.headerimage.specs.Image.{headerLent, nodeAt}
 use Rattle.headercalls.specs.Asked.{Asked, imageAfter}
+use Rattle.headercalls.specs.Leaves.{LeavesSlots}
 
 abbrev pub grantNumber : GrantAnswer → ℕ
 grantNumber G.Granted = 0
@@ -22,14 +28,19 @@ abbrev pub isGranted : GrantAnswer → Bool
 isGranted G.Granted = true
 isGranted (G.Refused k) = false
 
+-- the model's grant, on the header that the bytes are read as
+abbrev pub granted : List ℕ → (incarnation sent lease : ℕ) → Stores → Result leases.GrantAnswer held.Node
+granted s incarnation sent lease st = calls.grantWith (lentNode st (nodeAt s)) (viewNode st (nodeAt s)) incarnation sent lease
+
 -- the image holds s before and t after
 pub record GrantsImage (s t : List ℕ) (incarnation sent lease r : ℕ) : Type 0 where
   pub after : NodeGranted
   pub call : GrantsNode (nodeAt s) incarnation sent lease after
-  pub fits : Fitting (nodeAt s) (after .node)
+  pub keeps : Keeps (nodeAt s) (after .node)
   pub answer : r ≡ grantNumber (after .answer)
   pub image : t ≡ imageAfter (isGranted (after .answer)) s (after .node)
+  pub leaves : isGranted (after .answer) ≡ true → LeavesSlots s t (λ st. granted s incarnation sent lease st .after)
 
 abbrev pub Grants : (s t : List ℕ) → (incarnation sent lease r : ℕ) → Type 0
 Grants s t incarnation sent lease r =
-    Asked (lateTime sent or lateTime lease) (headerLent s) r (t ≡ s) (GrantsImage s t incarnation sent lease r)
+    Asked (calls.lateTime sent or calls.lateTime lease) (headerLent s) r (t ≡ s) (GrantsImage s t incarnation sent lease r)

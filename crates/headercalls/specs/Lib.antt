@@ -1,3 +1,4 @@
+pub mod Leaves
 pub mod Asked
 pub mod Grants
 pub mod Acks

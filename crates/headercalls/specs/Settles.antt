@@ -6,15 +6,22 @@ use mathlib.Core.Path.{_≡_}
 use mathlib.Core.List.{List}
 use lib.Dec.{eqb, ltb}
 use Rattle.model.specs.Lists.{_or_}
+use Rattle.model.specs.Node.Held as held
+use Rattle.model.specs.Node.Shards.{Result}
+use Rattle.model.specs.Node.Ack as ack
+use Rattle.model.specs.Node.Calls as calls
 use Rattle.node.specs.declared.OutcomeAnswer.{OutcomeAnswer}
 use Rattle.node.specs.declared.OutcomeAnswer.the-variants as O
 use Rattle.header.specs.declared.Proposal.{Proposal}
 use Rattle.header.specs.declared.Proposal.the-variants as P
 use Rattle.header.specs.declared.NodeSettled.{NodeSettled}
-use Rattle.header.specs.Answers.{SettlesNode}
-use Rattle.header.specs.Arrays.{Fitting}
+use Rattle.header.specs.View.{Stores, viewNode}
+use Rattle.header.specs.Formed.{lentNode}
+use Rattle.header.specs.Seats.{Keeps}
+use Rattle.header.specs.Answers.{proposalOf, SettlesNode}
 use Rattle.headerimage.specs.Image.{headerLent, nodeAt}
 use Rattle.headercalls.specs.Asked.{keyNamed, unreadName, Asked, imageAfter}
+use Rattle.headercalls.specs.Leaves.{LeavesSlots}
 
 -- the commands' codes as in a request: 17 Shrink, 18 Expand (hexadecimal)
 abbrev pub proposalAt : ℕ → Proposal
@@ -32,13 +39,19 @@ abbrev pub isSettled : OutcomeAnswer → Bool
 isSettled O.Noted = true
 isSettled (O.Refused k) = false
 
+-- the model's outcome, on the header that the bytes are read as
+abbrev pub settled : (s name : List ℕ) → (shard epoch peer command applied : ℕ) → Stores → Result ack.OutcomeAnswer held.Node
+settled s name shard epoch peer command applied st =
+    calls.outcomeWith (lentNode st (nodeAt s)) (viewNode st (nodeAt s)) (keyNamed name shard) epoch peer (proposalOf (proposalAt command)) (eqb applied 1)
+
 -- the image holds s before and t after
 pub record SettlesImage (s t name : List ℕ) (shard epoch peer command applied r : ℕ) : Type 0 where
   pub after : NodeSettled
   pub call : SettlesNode (nodeAt s) (keyNamed name shard) epoch peer (proposalAt command) (eqb applied 1) after
-  pub fits : Fitting (nodeAt s) (after .node)
+  pub keeps : Keeps (nodeAt s) (after .node)
   pub answer : r ≡ outcomeNumber (after .answer)
   pub image : t ≡ imageAfter (isSettled (after .answer)) s (after .node)
+  pub leaves : isSettled (after .answer) ≡ true → LeavesSlots s t (λ st. settled s name shard epoch peer command applied st .after)
 
 abbrev pub Settles : (s t name : List ℕ) → (shard epoch peer command applied r : ℕ) → Type 0
 Settles s t name shard epoch peer command applied r =

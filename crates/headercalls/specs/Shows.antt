@@ -1,27 +1,36 @@
 -- What a map shown over images promises: 24 as every call, then the contract of the call on the header and the map that the bytes are read
 -- as, and from its answer the number and every byte after of the three buffers. Definitions only.
 use Prim.Native.Nat.{ℕ, _+_, _*_, _≤_}
-use mathlib.Core.Bool.{false}
+use mathlib.Core.Bool.{Bool, true, false}
 use mathlib.Core.Path.{_≡_}
 use mathlib.Core.List.{List, [], _∷_, _++_}
 use lib.ListN.{length, take}
 use Rattle.model.specs.Lists.{_and_}
 use Rattle.model.specs.Layout.Format.{bytesOf, encode, concatMap}
 use Rattle.model.specs.Layout.Parts.{keyF, keyValue, metricCode}
+use Rattle.model.specs.Node.Held as held
 use Rattle.model.specs.Node.Shown as show
+use Rattle.model.specs.Node.Calls as calls
+use Rattle.state.specs.View.{viewMap}
+use Rattle.mapcheck.specs.Lent.{wellFormedLent}
 use Rattle.header.specs.declared.Node.{Node}
+use Rattle.header.specs.View.{Stores, viewNode}
+use Rattle.header.specs.Formed.{lentNode}
+use Rattle.header.specs.Seats.{slotsOf}
 use Rattle.shown.specs.declared.Start.{Start}
 use Rattle.shown.specs.declared.NodeShown.{NodeShown}
 use Rattle.shown.specs.declared.ShownAnswer.{ShownAnswer}
 use Rattle.shown.specs.declared.ShownAnswer.the-variants as S
 use Rattle.shown.specs.Rows.{viewStart}
+use Rattle.shown.specs.Slots.{slotsAfter}
 use Rattle.shown.specs.Shows.{viewStarts}
 use Rattle.hears.specs.Hears.{HearsMap}
 use Rattle.image.specs.Shape.{Stored}
 use Rattle.headerimage.specs.Image.{headerLent, nodeAt}
 use Rattle.mapimage.specs.Image.{mapLent, mapAt}
-use Rattle.headercalls.specs.Asked.{Asked}
-use Rattle.headercalls.specs.Waits.{Left, left, rowsPut}
+use Rattle.headercalls.specs.Asked.{Asked, Becomes}
+use Rattle.headercalls.specs.Leaves.{Leaves}
+use Rattle.headercalls.specs.Waits.{Left, left, rowsRoom, rowsPut}
 
 -- a worker to start, 54 bytes: its key as on the wire, the peer, the epoch, the metric's code
 abbrev pub workerBytes : show.Worker → List ℕ
@@ -44,11 +53,33 @@ showSaid (S.Refused k) s p a l n = left k s p a
 abbrev pub showLeft : (header starts answer : List ℕ) → NodeShown → Left
 showLeft s p a r = showSaid (r .answer) s p a (viewStarts (take (r .count) (r .starts))) (r .node)
 
+-- the header is written back: the map was not refused, and there is room for the workers
+abbrev pub isShown : ShownAnswer → Bool
+isShown S.Shown = true
+isShown (S.Refused k) = false
+
+abbrev pub showWrites : (starts answer : List ℕ) → NodeShown → Bool
+showWrites p a r = isShown (r .answer) and rowsRoom workerBytes 54 p a (viewStarts (take (r .count) (r .starts)))
+
+-- internal: what a map shown puts where the host looks for it
+pub record ShowPut (s t p q a b : List ℕ) (x : NodeShown) (r : ℕ) : Type 0 where
+  pub buffers : left r t q b ≡ showLeft s p a x
+  pub becomes : showWrites p a x ≡ true → Becomes s t (x .node)
+
+-- the model's node after the map, of the header and the map that the bytes are read as, and the slots of its shards
+abbrev pub shownAfter : (s m : List ℕ) → (fresh : ℕ) → Stores → held.Node
+shownAfter s m fresh st =
+    calls.shownWith (lentNode st (nodeAt s) and wellFormedLent (mapAt m)) (viewNode st (nodeAt s)) fresh (viewMap (mapAt m)) .after
+
+abbrev pub shownSlots : (s m : List ℕ) → (fresh : ℕ) → Stores → List ℕ
+shownSlots s m fresh st = slotsAfter (viewNode st (nodeAt s)) (slotsOf (nodeAt s)) (shownAfter s m fresh st)
+
 -- the header's image holds s before and t after, `starts` p and q, `answer` a and b; the map's holds m
 pub record ShowsImage (s t m p q a b : List ℕ) (fresh r : ℕ) : Type 0 where
   pub after : NodeShown
   pub call : HearsMap (nodeAt s) (mapAt m) fresh after
   pub buffers : left r t q b ≡ showLeft s p a after
+  pub leaves : showWrites p a after ≡ true → Leaves s t (shownAfter s m fresh) (shownSlots s m fresh)
 
 abbrev pub Shows : (s t m p q a b : List ℕ) → (fresh r : ℕ) → Type 0
 Shows s t m p q a b fresh r =

@@ -1,7 +1,7 @@
 -- What waiting for acks over a header's image promises: 21 and 24 as every call, then the contract of the wait on the header that the bytes
 -- are read as, and from its answer the number and every byte after of the three buffers. Definitions only.
 use Prim.Native.Nat.{ℕ, _*_}
-use mathlib.Core.Bool.{Bool, cond}
+use mathlib.Core.Bool.{Bool, true, false, cond}
 use mathlib.Core.Path.{_≡_}
 use mathlib.Core.List.{List}
 use lib.Dec.{leb}
@@ -9,20 +9,26 @@ use lib.ListN.{length, take}
 use lib.Seq.{sets}
 use Rattle.model.specs.Lists.{_and_, _or_}
 use Rattle.model.specs.Layout.Format.{bytesOf, concatMap}
-use Rattle.model.specs.Node.Calls.{lateTime}
+use Rattle.model.specs.Node.Held as held
+use Rattle.model.specs.Node.Shards.{Result}
+use Rattle.model.specs.Node.Client as client
+use Rattle.model.specs.Node.Calls as calls
 use Rattle.model.specs.declared.DataNodeId.{DataNodeId}
 use Rattle.node.specs.declared.WaitAnswer.{WaitAnswer}
 use Rattle.node.specs.declared.WaitAnswer.the-variants as W
 use Rattle.header.specs.declared.Node.{Node}
 use Rattle.header.specs.declared.NodeWaited.{NodeWaited}
 use Rattle.header.specs.Answers.{WaitsNode}
-use Rattle.header.specs.Arrays.{Fitting}
+use Rattle.header.specs.View.{Stores, viewNode}
+use Rattle.header.specs.Formed.{lentNode}
+use Rattle.header.specs.Seats.{Keeps}
 use Rattle.headerimage.specs.Image.{headerLent, nodeAt, headerWritten}
-use Rattle.headercalls.specs.Asked.{keyNamed, unreadName, Asked}
+use Rattle.headercalls.specs.Asked.{keyNamed, unreadName, Asked, Becomes}
+use Rattle.headercalls.specs.Leaves.{LeavesSlots}
 
 -- no name, or a time above 2^62
 abbrev pub unreadWait : List ℕ → (now timeout : ℕ) → Bool
-unreadWait name now timeout = unreadName name (lateTime now or lateTime timeout)
+unreadWait name now timeout = unreadName name (calls.lateTime now or calls.lateTime timeout)
 
 -- ---- what is left
 
@@ -55,6 +61,11 @@ module _ {A : Type 0} (bytes : A → List ℕ) (w : ℕ) where
       (left said (headerWritten s n) (sets p 0 (concatMap bytes l)) (sets a 0 (bytesOf 8 (length l))))
       (left 23 s p a)
 
+-- internal: what putting them there leaves
+pub record RowsPut {A : Type 0} (bytes : A → List ℕ) (w said : ℕ) (s t p q a b : List ℕ) (l : List A) (n : Node) (r : ℕ) : Type 0 where
+  pub buffers : left r t q b ≡ rowsPut bytes w said s p a l n
+  pub becomes : rowsRoom bytes w p a l ≡ true → Becomes s t n
+
 abbrev pub waitPut : ℕ → (header peers answer : List ℕ) → List DataNodeId → Node → Left
 waitPut said s p a l n = rowsPut idBytes 8 said s p a l n
 
@@ -68,14 +79,35 @@ waitSaid (W.Refused k) s p a l n = left k s p a
 abbrev pub waitLeft : (header peers answer : List ℕ) → NodeWaited → Left
 waitLeft s p a r = waitSaid (r .answer) s p a (take (r .shrink .count) (r .shrink .items)) (r .node)
 
+-- the header is written back: the wait was not refused, and there is room for its peers
+abbrev pub isWaited : WaitAnswer → Bool
+isWaited W.Done = true
+isWaited W.Waiting = true
+isWaited (W.NotPrimary own) = false
+isWaited (W.Refused k) = false
+
+abbrev pub waitWrites : (peers answer : List ℕ) → NodeWaited → Bool
+waitWrites p a r = isWaited (r .answer) and rowsRoom idBytes 8 p a (take (r .shrink .count) (r .shrink .items))
+
+-- internal: what a wait puts where the host looks for it
+pub record WaitPut (s t p q a b : List ℕ) (x : NodeWaited) (r : ℕ) : Type 0 where
+  pub buffers : left r t q b ≡ waitLeft s p a x
+  pub becomes : waitWrites p a x ≡ true → Becomes s t (x .node)
+
 -- ---- the call
+
+-- the model's wait, on the header that the bytes are read as
+abbrev pub waited : (s name : List ℕ) → (shard epoch offset now timeout : ℕ) → Stores → Result client.WaitAnswer held.Node
+waited s name shard epoch offset now timeout st =
+    calls.waitWith (lentNode st (nodeAt s)) (viewNode st (nodeAt s)) now timeout (keyNamed name shard) epoch offset
 
 -- the header's image holds s before and t after, `peers` p and q, `answer` a and b
 pub record WaitsImage (s t p q a b name : List ℕ) (shard epoch offset now timeout r : ℕ) : Type 0 where
   pub after : NodeWaited
   pub call : WaitsNode (nodeAt s) (keyNamed name shard) epoch offset now timeout after
-  pub fits : Fitting (nodeAt s) (after .node)
+  pub keeps : Keeps (nodeAt s) (after .node)
   pub buffers : left r t q b ≡ waitLeft s p a after
+  pub leaves : waitWrites p a after ≡ true → LeavesSlots s t (λ st. waited s name shard epoch offset now timeout st .after)
 
 abbrev pub Waits : (s t p q a b name : List ℕ) → (shard epoch offset now timeout r : ℕ) → Type 0
 Waits s t p q a b name shard epoch offset now timeout r =

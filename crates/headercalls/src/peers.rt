@@ -5,7 +5,7 @@ ghost use lib.ListN.{length, take};
 ghost use lib.Seq.{sets};
 ghost use Rattle.model.specs.Layout.Format.{concatMap};
 ghost use Rattle.image.specs.Shape.{inUse};
-ghost use Rattle.headercalls.specs.Waits.{idBytes, answerPut, waitLeft, waitPut, left};
+ghost use Rattle.headercalls.specs.Waits.{idBytes, answerPut, RowsPut, WaitPut};
 use header::Node;
 use header::NodeWaited;
 use headerimage::write_header;
@@ -46,8 +46,8 @@ fn put_shrink(
     answer: &mut [u8],
     said: u32,
 ) -> u32
-    ensures { λ r. ⌜ left r (now (header .exit)) (now (peers .exit)) (now (answer .exit))
-        ≡ waitPut said (now (header .entry)) (now (peers .entry)) (now (answer .entry)) (take (shrink .count) (shrink .items)) n ⌝ }
+    ensures { λ r. ⌜ RowsPut idBytes 8 said (now (header .entry)) (now (header .exit)) (now (peers .entry)) (now (peers .exit))
+        (now (answer .entry)) (now (answer .exit)) (take (shrink .count) (shrink .items)) n r ⌝ }
 {
     let count = in_use(32, shrink.count);
     if answer.len() < 8 {
@@ -65,8 +65,8 @@ fn put_shrink(
 
 // Internal: what a wait says, put where the host looks for it.
 pub fn put_waited(header: &mut [u8], a: NodeWaited, peers: &mut [u8], answer: &mut [u8]) -> u32
-    ensures { λ r. ⌜ left r (now (header .exit)) (now (peers .exit)) (now (answer .exit))
-        ≡ waitLeft (now (header .entry)) (now (peers .entry)) (now (answer .entry)) a ⌝ }
+    ensures { λ r. ⌜ WaitPut (now (header .entry)) (now (header .exit)) (now (peers .entry)) (now (peers .exit))
+        (now (answer .entry)) (now (answer .exit)) a r ⌝ }
 {
     let said = a.answer;
     let shrink = a.shrink;

@@ -1,9 +1,8 @@
 // A map shown to a node, over the images of its header and of the map (paper 01, 'Map shown', 'Who is turned down').
-ghost use mathlib.Core.Path.{_≡_};
 ghost use lib.ListN.{take};
 ghost use Rattle.shown.specs.Shows.{viewStarts};
-ghost use Rattle.headercalls.specs.Waits.{left, rowsPut};
-ghost use Rattle.headercalls.specs.Shows.{workerBytes, showLeft, Shows};
+ghost use Rattle.headercalls.specs.Waits.{RowsPut};
+ghost use Rattle.headercalls.specs.Shows.{workerBytes, ShowPut, Shows};
 use crate::starts::put_starts;
 use crate::starts::rows_in;
 use header::Node;
@@ -23,8 +22,8 @@ fn put_all(
     starts: &mut [u8],
     answer: &mut [u8],
 ) -> u32
-    ensures { λ r. ⌜ left r (now (header .exit)) (now (starts .exit)) (now (answer .exit))
-        ≡ rowsPut workerBytes 54 0 (now (header .entry)) (now (starts .entry)) (now (answer .entry)) (viewStarts (take count rows)) n ⌝ }
+    ensures { λ r. ⌜ RowsPut workerBytes 54 0 (now (header .entry)) (now (header .exit)) (now (starts .entry)) (now (starts .exit))
+        (now (answer .entry)) (now (answer .exit)) (viewStarts (take count rows)) n r ⌝ }
 {
     let many = rows_in(rows, count);
     if answer.len() < 8 {
@@ -41,8 +40,8 @@ fn put_all(
 
 // Internal: what a map shown brings about, put where the host looks for it.
 fn put_shown(header: &mut [u8], a: NodeShown, starts: &mut [u8], answer: &mut [u8]) -> u32
-    ensures { λ r. ⌜ left r (now (header .exit)) (now (starts .exit)) (now (answer .exit))
-        ≡ showLeft (now (header .entry)) (now (starts .entry)) (now (answer .entry)) a ⌝ }
+    ensures { λ r. ⌜ ShowPut (now (header .entry)) (now (header .exit)) (now (starts .entry)) (now (starts .exit))
+        (now (answer .entry)) (now (answer .exit)) a r ⌝ }
 {
     let said = a.answer;
     match said {

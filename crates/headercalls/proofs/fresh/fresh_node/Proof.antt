@@ -1,6 +1,5 @@
 -- `fresh::fresh_node` meets its contract. Assumes nothing.
 use borrow.Author.Needs.{needs}
-use Prim.Native.Nat.{_^_, _<_}
 use mathlib.Core.Path.{refl}
 use Rattle.headercalls.proofs.OfFresh.{fresh-short, fresh-made}
 use Rattle.headercalls.proofs.fresh.fresh_node.Statement.{statement}
@@ -21,9 +20,7 @@ same-length c = search needs
 returns-2 : tie.Need-returns-2
 returns-2 c =
     let a = c .before .before .before .before .before .before .before .before .before .before .args in
-    let small : a .id < 256 ^ 8 = search needs in
-    let few : a .incarnation < 256 ^ 8 = search needs in
-    fresh-made (a .header .now) (a .id) (a .incarnation) (c .before .before .before .before .before .before .before .before .if1 .left) small few _ _ _ refl (c .before .before .write-header .ensures)
+    fresh-made (a .header .now) (a .id) (a .incarnation) (c .before .before .before .before .before .before .before .before .if1 .left) _ _ _ refl (c .before .before .write-header .ensures)
 
 pub fresh-node-spec : {M : Type 1} → statement M
 fresh-node-spec = tie.close (tie.spec returns read-header-requires write-header-requires same-length returns-2)

@@ -54,7 +54,7 @@ returns-3 c =
     let u = c .before .before .before .before .before .before .before .before .before .before .before .before .before .before .before .in-use .ensures in
     let f = c .before .before .before .before .before .before .before .before .before .before .before .before .before .if2 .left in
     let g : 8 * length (take (c .before .before .before .before .before .before .before .before .before .before .before .before .before .before .before .before .before .before .before .args .shrink .count) (c .before .before .before .before .before .before .before .before .before .before .before .before .before .before .before .before .before .before .before .args .shrink .items)) ≤ length (c .before .before .before .before .before .before .before .before .before .before .before .before .before .before .before .before .before .before .before .args .peers .now) = omega arith in
-    all-put idBytes 8 (c .before .before .before .before .before .before .before .before .before .before .before .before .before .before .before .before .before .before .before .args .said) (c .before .before .before .before .before .before .before .before .before .before .before .before .before .before .before .before .before .before .before .args .header .now) (c .before .before .before .before .before .before .before .before .before .before .before .before .before .before .before .before .before .before .before .args .peers .now) (c .before .before .before .before .before .before .before .before .before .before .before .before .before .before .before .before .before .before .before .args .answer .now) (take (c .before .before .before .before .before .before .before .before .before .before .before .before .before .before .before .before .before .before .before .args .shrink .count) (c .before .before .before .before .before .before .before .before .before .before .before .before .before .before .before .before .before .before .before .args .shrink .items)) (c .before .before .before .before .before .before .before .before .before .before .before .before .before .before .before .before .before .before .before .args .n) (c .before .before .before .before .before .before .before .before .before .before .before .before .before .before .if1 .left) g (c .before .before .write-header .ensures) (c .before .before .before .before .before .before .before .before .before .before .put-ids .ensures) (c .before .before .before .before .before .before .put8 .ensures) (u .0 ∙ sym m)
+    all-put idBytes 8 (c .before .before .before .before .before .before .before .before .before .before .before .before .before .before .before .before .before .before .before .args .said) (c .before .before .before .before .before .before .before .before .before .before .before .before .before .before .before .before .before .before .before .args .header .now) (c .before .before .before .before .before .before .before .before .before .before .before .before .before .before .before .before .before .before .before .args .peers .now) (c .before .before .before .before .before .before .before .before .before .before .before .before .before .before .before .before .before .before .before .args .answer .now) (take (c .before .before .before .before .before .before .before .before .before .before .before .before .before .before .before .before .before .before .before .args .shrink .count) (c .before .before .before .before .before .before .before .before .before .before .before .before .before .before .before .before .before .before .before .args .shrink .items)) (c .before .before .before .before .before .before .before .before .before .before .before .before .before .before .before .before .before .before .before .args .n) (c .before .before .before .before .before .before .before .before .before .before .before .before .before .before .if1 .left) g (c .before .before .write-header .ensures .image) (c .before .before .write-header .ensures .becomes) (c .before .before .before .before .before .before .before .before .before .before .put-ids .ensures) (c .before .before .before .before .before .before .put8 .ensures) (u .0 ∙ sym m)
 
 pub put-shrink-spec : {M : Type 1} → statement M
 put-shrink-spec = tie.close (tie.spec in-use-requires returns mul-if2 returns-2 put-ids-requires put8-requires write-header-requires same-length same-length-2 same-length-3 returns-3)

@@ -1,7 +1,9 @@
 -- `peers::put_waited` meets its contract. Assumes nothing.
 use borrow.Author.Needs.{needs}
 use mathlib.Core.Path.{refl, ap}
+use mathlib.Core.Bool.{false}
 use mathlib.Core.List.{List}
+use Rattle.model.proofs.Lists.{not-both}
 use Prim.Native.Nat.{ℕ}
 use Rattle.node.specs.declared.WaitAnswer.the-variants as W
 use Rattle.headercalls.specs.Waits.{left}
@@ -43,7 +45,7 @@ same-length-3 : tie.Need-same-length-3
 same-length-3 c = search needs
 
 returns : tie.Need-returns
-returns c = waited-as (c .before .before .before .before .before .before .before .before .before .before .before .before .before .before .before .before .before .args .header .now) (c .before .before .before .before .before .before .before .before .before .before .before .before .before .before .before .before .before .args .peers .now) (c .before .before .before .before .before .before .before .before .before .before .before .before .before .before .before .before .before .args .answer .now) (c .before .before .before .before .before .before .before .before .before .before .before .before .before .before .before .before .before .args .a) W.Done (c .before .before .before .before .before .before .before .before .before .before .enum-told .given .1) _ (c .before .before .before .before .before .before .put-shrink .ensures)
+returns c = waited-as (c .before .before .before .before .before .before .before .before .before .before .before .before .before .before .before .before .before .args .header .now) (c .before .before .before .before .before .before .before .before .before .before .before .before .before .before .before .before .before .args .peers .now) (c .before .before .before .before .before .before .before .before .before .before .before .before .before .before .before .before .before .args .answer .now) (c .before .before .before .before .before .before .before .before .before .before .before .before .before .before .before .before .before .args .a) W.Done (c .before .before .before .before .before .before .before .before .before .before .enum-told .given .1) (c .before .before .before .before .before .before .put-shrink .ensures .buffers) (λ d. c .before .before .before .before .before .before .put-shrink .ensures .becomes)
 
 same-length-4 : tie.Need-same-length-4
 same-length-4 c = search needs
@@ -55,16 +57,16 @@ same-length-6 : tie.Need-same-length-6
 same-length-6 c = search needs
 
 returns-2 : tie.Need-returns-2
-returns-2 c = waited-as (c .before .before .before .before .before .before .before .before .before .before .before .before .before .before .before .before .before .args .header .now) (c .before .before .before .before .before .before .before .before .before .before .before .before .before .before .before .before .before .args .peers .now) (c .before .before .before .before .before .before .before .before .before .before .before .before .before .before .before .before .before .args .answer .now) (c .before .before .before .before .before .before .before .before .before .before .before .before .before .before .before .before .before .args .a) W.Waiting (c .before .before .before .before .before .before .before .before .before .before .enum-told2 .given .1) _ (c .before .before .before .before .before .before .put-shrink2 .ensures)
+returns-2 c = waited-as (c .before .before .before .before .before .before .before .before .before .before .before .before .before .before .before .before .before .args .header .now) (c .before .before .before .before .before .before .before .before .before .before .before .before .before .before .before .before .before .args .peers .now) (c .before .before .before .before .before .before .before .before .before .before .before .before .before .before .before .before .before .args .answer .now) (c .before .before .before .before .before .before .before .before .before .before .before .before .before .before .before .before .before .args .a) W.Waiting (c .before .before .before .before .before .before .before .before .before .before .enum-told2 .given .1) (c .before .before .before .before .before .before .put-shrink2 .ensures .buffers) (λ d. c .before .before .before .before .before .before .put-shrink2 .ensures .becomes)
 
 same-length-7 : tie.Need-same-length-7
 same-length-7 c = search needs
 
 returns-3 : tie.Need-returns-3
-returns-3 c = waited-as (c .before .before .before .before .before .before .before .before .before .before .before .before .args .header .now) (c .before .before .before .before .before .before .before .before .before .before .before .before .args .peers .now) (c .before .before .before .before .before .before .before .before .before .before .before .before .args .answer .now) (c .before .before .before .before .before .before .before .before .before .before .before .before .args .a) (W.NotPrimary _) (c .before .before .before .before .before .said .given .1) _ (ap (λ (b : List ℕ). left 18 (c .before .before .before .before .before .before .before .before .before .before .before .before .args .header .now) (c .before .before .before .before .before .before .before .before .before .before .before .before .args .peers .now) b) (c .before .before .put-answer .ensures))
+returns-3 c = waited-as (c .before .before .before .before .before .before .before .before .before .before .before .before .args .header .now) (c .before .before .before .before .before .before .before .before .before .before .before .before .args .peers .now) (c .before .before .before .before .before .before .before .before .before .before .before .before .args .answer .now) (c .before .before .before .before .before .before .before .before .before .before .before .before .args .a) (W.NotPrimary _) (c .before .before .before .before .before .said .given .1) (ap (λ (b : List ℕ). left 18 (c .before .before .before .before .before .before .before .before .before .before .before .before .args .header .now) (c .before .before .before .before .before .before .before .before .before .before .before .before .args .peers .now) b) (c .before .before .put-answer .ensures)) (λ d. not-both false d refl)
 
 returns-4 : tie.Need-returns-4
-returns-4 c = waited-as (c .before .before .before .before .before .before .before .before .args .header .now) (c .before .before .before .before .before .before .before .before .args .peers .now) (c .before .before .before .before .before .before .before .before .args .answer .now) (c .before .before .before .before .before .before .before .before .args .a) (W.Refused _) (c .before .said2 .given .1) _ refl
+returns-4 c = waited-as (c .before .before .before .before .before .before .before .before .args .header .now) (c .before .before .before .before .before .before .before .before .args .peers .now) (c .before .before .before .before .before .before .before .before .args .answer .now) (c .before .before .before .before .before .before .before .before .args .a) (W.Refused _) (c .before .said2 .given .1) refl (λ d. not-both false d refl)
 
 pub put-waited-spec : {M : Type 1} → statement M
 put-waited-spec = tie.close (tie.spec enum-told put-shrink-requires enum-told-2 put-shrink-requires-2 enum-known-said put-answer-requires enum-known-said-2 cast-result same-length same-length-2 same-length-3 returns same-length-4 same-length-5 same-length-6 returns-2 same-length-7 returns-3 returns-4)

@@ -49,7 +49,7 @@ returns-3 c =
     let u = c .before .before .before .before .before .before .before .before .before .before .before .before .before .before .rows-in .ensures in
     let f = c .before .before .before .before .before .before .before .before .before .before .before .before .if2 .left in
     let g : 54 * length (viewStarts (take (c .before .before .before .before .before .before .before .before .before .before .before .before .before .before .before .before .before .before .args .count) (c .before .before .before .before .before .before .before .before .before .before .before .before .before .before .before .before .before .before .args .rows))) ≤ length (c .before .before .before .before .before .before .before .before .before .before .before .before .before .before .before .before .before .before .args .starts .now) = omega arith in
-    all-put workerBytes 54 0 (c .before .before .before .before .before .before .before .before .before .before .before .before .before .before .before .before .before .before .args .header .now) (c .before .before .before .before .before .before .before .before .before .before .before .before .before .before .before .before .before .before .args .starts .now) (c .before .before .before .before .before .before .before .before .before .before .before .before .before .before .before .before .before .before .args .answer .now) (viewStarts (take (c .before .before .before .before .before .before .before .before .before .before .before .before .before .before .before .before .before .before .args .count) (c .before .before .before .before .before .before .before .before .before .before .before .before .before .before .before .before .before .before .args .rows))) (c .before .before .before .before .before .before .before .before .before .before .before .before .before .before .before .before .before .before .args .n) (c .before .before .before .before .before .before .before .before .before .before .before .before .before .if1 .left) g (c .before .before .write-header .ensures) (c .before .before .before .before .before .before .before .before .before .before .put-starts .ensures) (c .before .before .before .before .before .before .put8 .ensures) (u .0)
+    all-put workerBytes 54 0 (c .before .before .before .before .before .before .before .before .before .before .before .before .before .before .before .before .before .before .args .header .now) (c .before .before .before .before .before .before .before .before .before .before .before .before .before .before .before .before .before .before .args .starts .now) (c .before .before .before .before .before .before .before .before .before .before .before .before .before .before .before .before .before .before .args .answer .now) (viewStarts (take (c .before .before .before .before .before .before .before .before .before .before .before .before .before .before .before .before .before .before .args .count) (c .before .before .before .before .before .before .before .before .before .before .before .before .before .before .before .before .before .before .args .rows))) (c .before .before .before .before .before .before .before .before .before .before .before .before .before .before .before .before .before .before .args .n) (c .before .before .before .before .before .before .before .before .before .before .before .before .before .if1 .left) g (c .before .before .write-header .ensures .image) (c .before .before .write-header .ensures .becomes) (c .before .before .before .before .before .before .before .before .before .before .put-starts .ensures) (c .before .before .before .before .before .before .put8 .ensures) (u .0)
 
 pub put-all-spec : {M : Type 1} → statement M
 put-all-spec = tie.close (tie.spec rows-in-requires returns mul-if2 returns-2 put-starts-requires put8-requires write-header-requires same-length same-length-2 same-length-3 returns-3)

@@ -1,0 +1,87 @@
+-- What was written back is the model's node after the call, each shard in its slot. Assumes nothing.
+use Prim.Native.Nat.{ℕ, _≤_}
+use mathlib.Core.Bool.{true, false}
+use mathlib.Core.Path.{_≡_, refl, sym, ap, _∙_}
+use mathlib.Core.List.{List, []}
+use lib.Dec.{leb}
+use lib.ListN.{length, replicate, length-replicate}
+use lib.Seq.{sets}
+use borrow.Author.Tests.{leb-true}
+use Rattle.model.specs.Lists.{_and_}
+use Rattle.model.specs.Node.Held as held
+use Rattle.model.specs.Node.Calls as calls
+use Rattle.model.proofs.Lists.{not-both, and-left}
+use Rattle.state.specs.declared.ShardMap.{ShardMap}
+use Rattle.header.specs.declared.Node.{Node}
+use Rattle.header.specs.View.{Stores, viewNode}
+use Rattle.header.specs.Formed.{formedNode}
+use Rattle.header.specs.Seats.{slotsOf, Keeps}
+use Rattle.header.proofs.OfLists.{by-case}
+use Rattle.header.proofs.OfFormed.{formed-lent}
+use Rattle.header.proofs.OfShards.{some-stores}
+use Rattle.shown.specs.declared.NodeShown.{NodeShown}
+use Rattle.shown.specs.Shows.{ShownTold}
+use Rattle.shown.specs.Slots.{slotsAfter}
+use Rattle.hears.specs.Hears.{HearsMap}
+use Rattle.headerimage.specs.Image.{headerLent, codesListed, nodeAt}
+use Rattle.headerimage.specs.Becomes.{Counted, headerImage, HeaderBecomes}
+use Rattle.headercalls.specs.Leaves.{Leaves, LeavesSlots}
+use Rattle.headercalls.specs.Shows.{isShown}
+
+pub leaves-of : (s t : List ℕ) (n : Node) → HeaderBecomes s t n → (after : Stores → held.Node) → ((st : Stores) → viewNode st n ≡ after st)
+    → (slots : Stores → List ℕ) → ((st : Stores) → slotsOf n ≡ slots st) → Leaves s t after slots
+leaves-of s t n b after e slots k = record {
+  bytes = λ st c.
+      b .bytes st c
+      ∙ ap (λ (x : held.Node). sets s 0 (headerImage x (slotsOf n))) (e st)
+      ∙ ap (λ (l : List ℕ). sets s 0 (headerImage (after st) l)) (k st);
+  lent = b .lent;
+  read = λ st. b .read st ∙ e st;
+  seats = λ st. b .seats ∙ k st;
+}
+
+-- an image that lends a header is long enough to be written
+lent-long : (s : List ℕ) → headerLent s ≡ true → 10288 ≤ length s
+unfolding headerLent
+lent-long s e = leb-true 10288 (length s) (and-left (leb 10288 (length s)) (codesListed s) e)
+
+module _ (s t : List ℕ) (lent : headerLent s ≡ true) (n : Node) (becomes : 10288 ≤ length s → HeaderBecomes s t n)
+    (after : Stores → held.Node) (view : (st : Stores) → viewNode st n ≡ after st) where
+  -- a call that leaves the slots
+  pub leaves-slots : Keeps (nodeAt s) n → LeavesSlots s t after
+  leaves-slots keeps = leaves-of s t n (becomes (lent-long s lent)) after view (λ st. slotsOf (nodeAt s)) (λ st. keeps .seats)
+
+  -- a map shown
+  pub leaves-shown : ((st : Stores) → slotsOf n ≡ slotsAfter (viewNode st (nodeAt s)) (slotsOf (nodeAt s)) (viewNode st n))
+      → Leaves s t after (λ st. slotsAfter (viewNode st (nodeAt s)) (slotsOf (nodeAt s)) (after st))
+  leaves-shown seats =
+      leaves-of s t n (becomes (lent-long s lent)) after view (λ st. slotsAfter (viewNode st (nodeAt s)) (slotsOf (nodeAt s)) (after st))
+      (λ st. seats st ∙ ap (slotsAfter (viewNode st (nodeAt s)) (slotsOf (nodeAt s))) (view st))
+
+-- a map is taken note of only by a header that is not malformed
+module _ (n : Node) (m : ShardMap) (fresh : ℕ) (r : NodeShown) (h : HearsMap n m fresh r) where
+  refused : formedNode n ≡ false → isShown (r .answer) ≡ false
+  unfolding calls.shownWith _and_
+  refused q = ap (λ (t : ShownTold). isShown (t .answer)) (h .same some-stores) ∙ rw (sym (formed-lent n some-stores) ∙ q)
+
+  pub shown-formed : isShown (r .answer) ≡ true → formedNode n ≡ true
+  shown-formed e = by-case (formedNode n) (λ q. q) (λ q. not-both (isShown (r .answer)) e (refused q))
+
+-- ---- the promise is of stores that there are: as many vectors as the header counts, all the same
+
+pub counted-stores : Stores
+counted-stores = record {
+  log = some-stores .log;
+  vectors = λ slot last stored. replicate stored (record { id = 0; components = [] });
+  long = some-stores .long;
+  bare = λ slot. refl;
+}
+
+pub counted : Counted counted-stores
+unfolding counted-stores
+counted slot last stored = length-replicate stored (record { id = 0; components = [] })
+
+-- so every byte is known
+pub written-bytes : {s t : List ℕ} {after : Stores → held.Node} {slots : Stores → List ℕ} → Leaves s t after slots
+    → t ≡ sets s 0 (headerImage (after counted-stores) (slots counted-stores))
+written-bytes l = l .bytes counted-stores counted

@@ -1,0 +1,24 @@
+-- What a call that is not refused leaves of a header's image: every byte is a function of the bytes before, and the image is read as the
+-- model's node after the call. Definitions only.
+use Prim.Native.Nat.{ℕ}
+use mathlib.Core.Bool.{true}
+use mathlib.Core.Path.{_≡_}
+use mathlib.Core.List.{List}
+use lib.Seq.{sets}
+use Rattle.model.specs.Node.Held as held
+use Rattle.header.specs.View.{Stores, viewNode}
+use Rattle.header.specs.Seats.{slotsOf}
+use Rattle.headerimage.specs.Image.{headerLent, nodeAt}
+use Rattle.headerimage.specs.Becomes.{Counted, headerImage}
+
+-- s became t, in which `after` stands, its shards in `slots`, for whatever the stores hold: its bytes, those past them as they were; that it
+-- lends a header; and that this is read as `after`, each shard in its slot
+pub record Leaves (s t : List ℕ) (after : Stores → held.Node) (slots : Stores → List ℕ) : Type 0 where
+  pub bytes : (st : Stores) → Counted st → t ≡ sets s 0 (headerImage (after st) (slots st))
+  pub lent : headerLent t ≡ true
+  pub read : (st : Stores) → viewNode st (nodeAt t) ≡ after st
+  pub seats : (st : Stores) → slotsOf (nodeAt t) ≡ slots st
+
+-- a call that begins no shard and ends none: each has the slot that it had
+abbrev pub LeavesSlots : (s t : List ℕ) → (after : Stores → held.Node) → Type 0
+LeavesSlots s t after = Leaves s t after (λ st. slotsOf (nodeAt s))
