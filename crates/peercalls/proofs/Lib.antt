@@ -1,3 +1,4 @@
 mod OfEnds
 mod OfServes
+mod OfStates
 mod OfMessages

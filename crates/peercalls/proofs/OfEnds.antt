@@ -9,6 +9,7 @@ use lib.ListN.{length}
 use lib.Seq.{sets}
 use borrow.Author.Tests.{le-leb, lt-leb}
 use Rattle.model.specs.Layout.Message.{encodeReply}
+use Rattle.model.proofs.Lists.{not-both}
 use Rattle.rpcw.specs.declared.Reply.{Reply}
 use Rattle.rpcw.specs.declared.Wrote.{Wrote}
 use Rattle.rpcw.specs.Written.{replyGiven, Written}
@@ -60,7 +61,7 @@ outcome-ends b h s (P.Adopted o) = refl
 outcome-ends b h s (P.Refused r) = refl
 
 -- what the outcome says of whether the call was turned down
-abbrev turned : Outcome → Bool
+abbrev pub turned : Outcome → Bool
 turned (O.Refused r) = true
 turned (O.Kept w) = true
 turned (O.Changed w) = false
@@ -90,6 +91,10 @@ unsent b h s w t r d e =
 
 pub made : (a : PeerReply) (o : Outcome) → o ≡ outcome a → (w : Reply) → o ≡ O.Changed w → turnedDown a ≡ false
 made a o e w q = outcome-turned a ∙ ap turned (sym e ∙ q)
+
+-- a call that left the state as it was was turned down
+pub unmade : (a : PeerReply) (o : Outcome) → o ≡ outcome a → (x : Outcome) → o ≡ x → turned x ≡ true → {P : Type 0} → turnedDown a ≡ false → P
+unmade a o e x q t f = not-both (turnedDown a) (outcome-turned a ∙ ap turned (sym e ∙ q) ∙ t) f
 
 -- ---- the ways out
 

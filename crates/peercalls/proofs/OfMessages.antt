@@ -22,7 +22,7 @@ use Rattle.peers.specs.Peers.{ReplicatesAt, CopiesAt}
 use Rattle.peers.proofs.OfNamed.{replicate-key, copy-key}
 use Rattle.newepoch.specs.Announces.{AnnouncesAt}
 use Rattle.newepoch.proofs.OfNamed.{new-epoch-key}
-use Rattle.peercalls.specs.PeerCalls.{Buffers, AtShard, ReplicatesImage, AnnouncesImage, CopiesImage}
+use Rattle.peercalls.specs.PeerCalls.{Buffers, AtShard, replicates, announces, copies, ReplicatesImage, AnnouncesImage, CopiesImage}
 use Rattle.peercalls.proofs.OfServes.{outside, inside}
 
 -- ---- Replicate
@@ -38,12 +38,12 @@ module _ (m : List ℕ) (p : ReplicatePart) (i : messageOf m ≡ Replicate p) (b
   replicated-fine = told ∙ ap opInDomain (replicate-op m p i replicated replicated-is)
 
   pub replicate-outside : f ≡ false → ReplicatesImage m b b 22
-  replicate-outside e = outside _ _ _ _ m b replicated replicated-is f replicated-fine e
+  replicate-outside e = outside _ _ _ _ _ m b replicated replicated-is f replicated-fine e
 
-  pub replicate-inside : f ≡ true → (k : Key) → k ≡ keyIn m (p .key) → (c : Buffers) (r : ℕ) → AtShard ReplicatesAt k m b c r
+  pub replicate-inside : f ≡ true → (k : Key) → k ≡ keyIn m (p .key) → (c : Buffers) (r : ℕ) → AtShard ReplicatesAt replicates k m b c r
       → ReplicatesImage m b c r
   replicate-inside e k named c r d =
-      inside _ _ _ _ m b replicated replicated-is f replicated-fine e k (named ∙ replicate-key m p i replicated replicated-is) c r d
+      inside _ _ _ _ _ m b replicated replicated-is f replicated-fine e k (named ∙ replicate-key m p i replicated replicated-is) c r d
 
 -- ---- NewEpoch, which has no domain
 
@@ -54,9 +54,9 @@ module _ (m : List ℕ) (p : NewEpochPart) (i : messageOf m ≡ NewEpoch p) (b :
   announced-is : message.decodeNewEpoch m ≡ some announced
   announced-is = new-epoch-decoded m p i .decoded
 
-  pub new-epoch-inside : (k : Key) → k ≡ keyIn m (p .key) → (c : Buffers) (r : ℕ) → AtShard AnnouncesAt k m b c r → AnnouncesImage m b c r
+  pub new-epoch-inside : (k : Key) → k ≡ keyIn m (p .key) → (c : Buffers) (r : ℕ) → AtShard AnnouncesAt announces k m b c r → AnnouncesImage m b c r
   new-epoch-inside k named c r d =
-      inside _ _ _ _ m b announced announced-is true refl refl k (named ∙ new-epoch-key m p i announced announced-is) c r d
+      inside _ _ _ _ _ m b announced announced-is true refl refl k (named ∙ new-epoch-key m p i announced announced-is) c r d
 
 -- ---- CopyShard
 
@@ -72,7 +72,7 @@ module _ (m : List ℕ) (p : CopyPart) (i : messageOf m ≡ CopyShard p) (b : Bu
     copied-fine = told ∙ ap (every entryInDomain) (copy-entries m p i copied copied-is)
 
     pub copy-outside : f ≡ false → CopiesImage m b b 22
-    copy-outside e = outside _ _ _ _ m b copied copied-is f copied-fine e
+    copy-outside e = outside _ _ _ _ _ m b copied copied-is f copied-fine e
 
-    pub copy-inside : f ≡ true → (k : Key) → k ≡ keyIn m (p .key) → (c : Buffers) (r : ℕ) → AtShard CopiesAt k m b c r → CopiesImage m b c r
-    copy-inside e k named c r d = inside _ _ _ _ m b copied copied-is f copied-fine e k (named ∙ copy-key m p i copied copied-is) c r d
+    pub copy-inside : f ≡ true → (k : Key) → k ≡ keyIn m (p .key) → (c : Buffers) (r : ℕ) → AtShard CopiesAt copies k m b c r → CopiesImage m b c r
+    copy-inside e k named c r d = inside _ _ _ _ _ m b copied copied-is f copied-fine e k (named ∙ copy-key m p i copied copied-is) c r d

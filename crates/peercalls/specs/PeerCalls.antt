@@ -1,6 +1,6 @@
 -- What a primary's messages promise of the images that a host owns (paper 01, 'Who is turned down', 'Bytes on the wire', 30 to 33): the
 -- number that is answered, and every byte of the header, the stores and the reply, given by the bytes at entry and the call's own contract
--- on what they are read as. Definitions only.
+-- on what they are read as; and what the images at exit are read as. Definitions only.
 use Prim.Native.Nat.{ℕ}
 use mathlib.Core.Path.{_≡_}
 use mathlib.Core.Bool.{Bool, true, false, cond}
@@ -12,6 +12,10 @@ use lib.Seq.{sets}
 use Rattle.model.specs.Lists.{every}
 use Rattle.model.specs.Keys.{Key}
 use Rattle.model.specs.Layout.Message as message
+use Rattle.model.specs.Node.Held as held
+use Rattle.model.specs.Node.Shards.{Result}
+use Rattle.model.specs.Node.Backup.{BackupAnswer}
+use Rattle.model.specs.Node.Calls as calls
 use Rattle.model.specs.Node.Wire.{opInDomain, entryInDomain}
 use Rattle.rpcw.specs.declared.Reply.the-variants as R
 use Rattle.rpcw.specs.declared.Reply.{Reply}
@@ -19,11 +23,12 @@ use Rattle.rpcw.specs.Written.{replyGiven}
 use Rattle.header.specs.declared.Node.{Node}
 use Rattle.headerimage.specs.Image.{nodeAt, headerWritten}
 use Rattle.lend.specs.Lend.{Lot, placeOf}
-use Rattle.lentimage.specs.Lent.{lendsState, lotIn, storesPut}
+use Rattle.lentimage.specs.Lent.{lendsState, lotIn, storesPut, Puts}
+use Rattle.lentimage.specs.State.{StateAfter}
 use Rattle.peers.specs.declared.PeerReply.{PeerReply}
 use Rattle.peers.specs.declared.PeerReply.the-variants as P
 use Rattle.peers.specs.declared.PeerAnswer.{PeerAnswer}
-use Rattle.peers.specs.Peers.{ReplicatesAt, CopiesAt}
+use Rattle.peers.specs.Peers.{turnedDown, ReplicatesAt, CopiesAt}
 use Rattle.newepoch.specs.Announces.{AnnouncesAt}
 use Rattle.peercalls.specs.declared.Outcome.{Outcome}
 use Rattle.peercalls.specs.declared.Outcome.the-variants as O
@@ -76,40 +81,60 @@ pub record Replies (w : Reply) (s t : List ℕ) (r : ℕ) : Type 0 where
   pub answer : r ≡ cond (leb 9 (length s)) 0 23
   pub bytes : t ≡ cond (leb 9 (length s)) (sets s 0 (message.encodeReply (replyGiven w))) s
 
+-- internal: the buffers b became c with the number r; a call that was not turned down has written what it left, if its reply was sent
+pub record Finished (b c : Buffers) (n : Node) (at : ℕ) (l : Lot) (a : PeerAnswer) (r : ℕ) : Type 0 where
+  pub ends : ended r c ≡ endedWith b n at l a
+  pub puts : turnedDown (a .answer) ≡ false → r ≡ 0 → Puts (b .header) (c .header) (b .stores) (c .stores) n (a .node) l at
+
 -- ---- an entry point
+
+-- what a message does to a node, in paper 01's words
+abbrev pub Deed : Type 0
+Deed = List ℕ → (Key → Bool) → held.Node → Result BackupAnswer held.Node
 
 -- refused before the call: nothing is written
 abbrev pub Turned : ℕ → (b c : Buffers) → ℕ → Type 0
 Turned number b c r = (r ≡ number) × (c ≡ b)
 
 -- the state was lent: what the call answered, and the header and the columns that it left, are those of its own contract, of the header
--- and the columns that the bytes at entry are read as
-pub record Passed (Call : Node → (a b : Lot) → List ℕ → PeerAnswer → Type 0) (key : Key) (m : List ℕ) (b c : Buffers) (r : ℕ) : Type 0 where
+-- and the columns that the bytes at entry are read as. Not turned down, and its reply sent, it leaves images that are read as the node after
+pub record Passed (Call : Node → (a b : Lot) → List ℕ → PeerAnswer → Type 0) (does : Deed) (key : Key) (m : List ℕ) (b c : Buffers) (r : ℕ) : Type 0 where
   pub after : PeerAnswer
   pub columns : Lot
   pub called : Call (nodeAt (b .header)) (lotIn (b .stores) (nodeAt (b .header)) key) columns m after
   pub ends : ended r c ≡ endedWith b (nodeAt (b .header)) (placeOf (nodeAt (b .header)) key) columns after
+  pub state : turnedDown (after .answer) ≡ false → r ≡ 0
+      → StateAfter BackupAnswer (does m) (b .header) (b .stores) (c .header) (c .stores) key (after .node)
 
 -- at the shard of a key: 24 where the bytes lend no state
-pub record AtShard (Call : Node → (a b : Lot) → List ℕ → PeerAnswer → Type 0) (key : Key) (m : List ℕ) (b c : Buffers) (r : ℕ) : Type 0 where
+pub record AtShard (Call : Node → (a b : Lot) → List ℕ → PeerAnswer → Type 0) (does : Deed) (key : Key) (m : List ℕ) (b c : Buffers) (r : ℕ) : Type 0 where
   pub unlent : lendsState (b .header) (b .stores) key ≡ false → Turned 24 b c r
-  pub lent : lendsState (b .header) (b .stores) key ≡ true → Passed Call key m b c r
+  pub lent : lendsState (b .header) (b .stores) key ≡ true → Passed Call does key m b c r
 
 -- a message m that is read as `read`, is in the domain if `fine` and names the shard `key`; the buffers b at entry, c at exit, r the answer
-pub record Serves (A : Type 0) (read : Option A) (fine : A → Bool) (key : A → Key) (Call : Node → (a b : Lot) → List ℕ → PeerAnswer → Type 0)
+pub record Serves (A : Type 0) (read : Option A) (fine : A → Bool) (key : A → Key) (Call : Node → (a b : Lot) → List ℕ → PeerAnswer → Type 0) (does : Deed)
     (m : List ℕ) (b c : Buffers) (r : ℕ) : Type 0 where
   pub undecoded : read ≡ none → Turned 21 b c r
   pub outside : (v : A) → read ≡ some v → fine v ≡ false → Turned 22 b c r
-  pub inside : (v : A) → read ≡ some v → fine v ≡ true → AtShard Call (key v) m b c r
+  pub inside : (v : A) → read ≡ some v → fine v ≡ true → AtShard Call does (key v) m b c r
 
 -- 20
+abbrev pub replicates : Deed
+replicates m lent v = calls.replicateWith lent v m
+
 abbrev pub ReplicatesImage : List ℕ → (b c : Buffers) → ℕ → Type 0
-ReplicatesImage m = Serves message.Replicated (message.decodeReplicate m) (λ v. opInDomain (v .op)) (λ v. v .key) ReplicatesAt m
+ReplicatesImage m = Serves message.Replicated (message.decodeReplicate m) (λ v. opInDomain (v .op)) (λ v. v .key) ReplicatesAt replicates m
 
 -- 21
+abbrev pub announces : Deed
+announces m lent v = calls.newEpochWith lent v m
+
 abbrev pub AnnouncesImage : List ℕ → (b c : Buffers) → ℕ → Type 0
-AnnouncesImage m = Serves message.NewEpoch (message.decodeNewEpoch m) (λ v. true) (λ v. v .key) AnnouncesAt m
+AnnouncesImage m = Serves message.NewEpoch (message.decodeNewEpoch m) (λ v. true) (λ v. v .key) AnnouncesAt announces m
 
 -- 22
+abbrev pub copies : Deed
+copies m lent v = calls.copyWith lent v m
+
 abbrev pub CopiesImage : List ℕ → (b c : Buffers) → ℕ → Type 0
-CopiesImage m = Serves message.Copied (message.decodeCopyShard m) (λ v. every entryInDomain (v .entries)) (λ v. v .key) CopiesAt m
+CopiesImage m = Serves message.Copied (message.decodeCopyShard m) (λ v. every entryInDomain (v .entries)) (λ v. v .key) CopiesAt copies m

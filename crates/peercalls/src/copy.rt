@@ -1,7 +1,7 @@
 // 22 (paper 01, 'Who is turned down', CopyShard).
 ghost use Rattle.state.specs.Names.{viewKey};
 ghost use Rattle.peers.specs.Peers.{CopiesAt, CopyNames};
-ghost use Rattle.peercalls.specs.PeerCalls.{AtShard, CopiesImage, buffers};
+ghost use Rattle.peercalls.specs.PeerCalls.{AtShard, CopiesImage, buffers, copies};
 use crate::finish::finish;
 use arrivals::domain::entries_in_domain;
 use lend::named::key_of;
@@ -19,7 +19,7 @@ fn copy_at(
     reply: &mut [u8],
 ) -> u32
     requires { ⌜ CopyNames (now message) (viewKey key) ⌝ }
-    ensures { λ r. ⌜ AtShard CopiesAt (viewKey key) (now (message .entry))
+    ensures { λ r. ⌜ AtShard CopiesAt copies (viewKey key) (now (message .entry))
         (buffers (now (header .entry)) (now (stores .entry)) (now (reply .entry)))
         (buffers (now (header .exit)) (now (stores .exit)) (now (reply .exit))) r ⌝ }
 {

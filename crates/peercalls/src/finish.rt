@@ -4,7 +4,7 @@ ghost use mathlib.Core.Bool.{false};
 ghost use Rattle.lend.specs.Lend.{lot};
 ghost use Rattle.lentimage.specs.Lent.{Puttable};
 ghost use Rattle.peers.specs.Peers.{turnedDown};
-ghost use Rattle.peercalls.specs.PeerCalls.{Replies, buffers, ended, endedWith, outcome};
+ghost use Rattle.peercalls.specs.PeerCalls.{Finished, Replies, buffers, outcome};
 use crate::Outcome;
 use header::Node;
 use lentimage::put::put_images;
@@ -56,9 +56,9 @@ pub fn finish(
 ) -> u32
     requires { ⌜ (turnedDown (a .answer) ≡ false → Puttable (now stores) n (a .node)
         (lot (now epochs) (now offsets) (now ids) (now codes) (now lengths) (now floats) (now keys) (now places)) at) ⌝ }
-    ensures { λ r. ⌜ ended r (buffers (now (header .exit)) (now (stores .exit)) (now (reply .exit)))
-        ≡ endedWith (buffers (now (header .entry)) (now (stores .entry)) (now (reply .entry))) n at
-        (lot (now (epochs .entry)) (now (offsets .entry)) (now (ids .entry)) (now (codes .entry)) (now (lengths .entry)) (now (floats .entry)) (now (keys .entry)) (now (places .entry))) a ⌝ }
+    ensures { λ r. ⌜ Finished (buffers (now (header .entry)) (now (stores .entry)) (now (reply .entry)))
+        (buffers (now (header .exit)) (now (stores .exit)) (now (reply .exit))) n at
+        (lot (now (epochs .entry)) (now (offsets .entry)) (now (ids .entry)) (now (codes .entry)) (now (lengths .entry)) (now (floats .entry)) (now (keys .entry)) (now (places .entry))) a r ⌝ }
 {
     let answer = a.answer;
     match outcome_of(answer) {

@@ -1,7 +1,7 @@
 // 21 (paper 01, 'Who is turned down', NewEpoch).
 ghost use Rattle.state.specs.Names.{viewKey};
 ghost use Rattle.newepoch.specs.Announces.{AnnouncesAt, NewEpochNames};
-ghost use Rattle.peercalls.specs.PeerCalls.{AnnouncesImage, AtShard, buffers};
+ghost use Rattle.peercalls.specs.PeerCalls.{AnnouncesImage, AtShard, announces, buffers};
 use crate::finish::finish;
 use lend::named::key_of;
 use lentimage::pick::pick;
@@ -18,7 +18,7 @@ fn new_epoch_at(
     reply: &mut [u8],
 ) -> u32
     requires { ⌜ NewEpochNames (now message) (viewKey key) ⌝ }
-    ensures { λ r. ⌜ AtShard AnnouncesAt (viewKey key) (now (message .entry))
+    ensures { λ r. ⌜ AtShard AnnouncesAt announces (viewKey key) (now (message .entry))
         (buffers (now (header .entry)) (now (stores .entry)) (now (reply .entry)))
         (buffers (now (header .exit)) (now (stores .exit)) (now (reply .exit))) r ⌝ }
 {

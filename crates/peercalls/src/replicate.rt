@@ -1,7 +1,7 @@
 // 20 (paper 01, 'Who is turned down', Replicate).
 ghost use Rattle.state.specs.Names.{viewKey};
 ghost use Rattle.peers.specs.Peers.{ReplicateNames, ReplicatesAt};
-ghost use Rattle.peercalls.specs.PeerCalls.{AtShard, ReplicatesImage, buffers};
+ghost use Rattle.peercalls.specs.PeerCalls.{AtShard, ReplicatesImage, buffers, replicates};
 use crate::finish::finish;
 use arrivals::domain::op_in_domain;
 use lend::named::key_of;
@@ -19,7 +19,7 @@ fn replicate_at(
     reply: &mut [u8],
 ) -> u32
     requires { ⌜ ReplicateNames (now message) (viewKey key) ⌝ }
-    ensures { λ r. ⌜ AtShard ReplicatesAt (viewKey key) (now (message .entry))
+    ensures { λ r. ⌜ AtShard ReplicatesAt replicates (viewKey key) (now (message .entry))
         (buffers (now (header .entry)) (now (stores .entry)) (now (reply .entry)))
         (buffers (now (header .exit)) (now (stores .exit)) (now (reply .exit))) r ⌝ }
 {

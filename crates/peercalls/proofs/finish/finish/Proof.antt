@@ -1,7 +1,8 @@
 -- `finish::finish` meets its contract. Assumes nothing.
 use borrow.Author.Needs.{needs}
+use mathlib.Core.Path.{refl}
 use Rattle.peercalls.specs.PeerCalls.{buffers}
-use Rattle.peercalls.proofs.OfEnds.{refused, made, kept, done, short}
+use Rattle.peercalls.proofs.OfEnds.{refused, made, unmade, kept, done, short}
 use Rattle.peercalls.proofs.finish.finish.Statement.{statement}
 use Rattle.peercalls.proofs.finish.finish.Tie as tie
 
@@ -31,15 +32,19 @@ put-images-requires c κs =
     c .before .before .before .before .before .before .before .before .before .before .before .before .before .before .before .before .before .before .before .before .before .before .before .pre (made (c .before .before .before .before .before .before .before .before .before .before .before .before .before .before .before .before .before .before .before .before .before .before .before .args .a .answer) _ (c .before .before .before .before .before .before .before .before .before .before .before .outcome-of .ensures) _ (c .before .before .before .before .before .before .before .before .before .w2 .given .1))
 
 returns : tie.Need-returns
-returns c =
-    refused (buffers (c .before .before .before .before .before .before .before .before .before .before .before .before .before .before .before .args .header .now) (c .before .before .before .before .before .before .before .before .before .before .before .before .before .before .before .args .stores .now) (c .before .before .before .before .before .before .before .before .before .before .before .before .before .before .before .args .reply .now)) _ _ (c .before .before .before .before .before .before .before .before .before .before .before .before .before .before .before .args .a .answer) _ (c .before .before .before .outcome-of .ensures) _ (c .before .number .given .1)
+returns c = record {
+  ends = refused (buffers (c .before .before .before .before .before .before .before .before .before .before .before .before .before .before .before .args .header .now) (c .before .before .before .before .before .before .before .before .before .before .before .before .before .before .before .args .stores .now) (c .before .before .before .before .before .before .before .before .before .before .before .before .before .before .before .args .reply .now)) _ _ (c .before .before .before .before .before .before .before .before .before .before .before .before .before .before .before .args .a .answer) _ (c .before .before .before .outcome-of .ensures) _ (c .before .number .given .1);
+  puts = λ f z. unmade (c .before .before .before .before .before .before .before .before .before .before .before .before .before .before .before .args .a .answer) _ (c .before .before .before .outcome-of .ensures) _ (c .before .number .given .1) refl f;
+}
 
 same-length : tie.Need-same-length
 same-length c = search needs
 
 returns-2 : tie.Need-returns-2
-returns-2 c =
-    kept (buffers (c .before .before .before .before .before .before .before .before .before .before .before .before .before .before .before .before .before .before .before .args .header .now) (c .before .before .before .before .before .before .before .before .before .before .before .before .before .before .before .before .before .before .before .args .stores .now) (c .before .before .before .before .before .before .before .before .before .before .before .before .before .before .before .before .before .before .before .args .reply .now)) _ _ (c .before .before .before .before .before .before .before .before .before .before .before .before .before .before .before .before .before .before .before .args .a .answer) _ (c .before .before .before .before .before .before .before .outcome-of .ensures) _ _ _ (c .before .before .put-reply .ensures) (c .before .before .before .before .before .w .given .1)
+returns-2 c = record {
+  ends = kept (buffers (c .before .before .before .before .before .before .before .before .before .before .before .before .before .before .before .before .before .before .before .args .header .now) (c .before .before .before .before .before .before .before .before .before .before .before .before .before .before .before .before .before .before .before .args .stores .now) (c .before .before .before .before .before .before .before .before .before .before .before .before .before .before .before .before .before .before .before .args .reply .now)) _ _ (c .before .before .before .before .before .before .before .before .before .before .before .before .before .before .before .before .before .before .before .args .a .answer) _ (c .before .before .before .before .before .before .before .outcome-of .ensures) _ _ _ (c .before .before .put-reply .ensures) (c .before .before .before .before .before .w .given .1);
+  puts = λ f z. unmade (c .before .before .before .before .before .before .before .before .before .before .before .before .before .before .before .before .before .before .before .args .a .answer) _ (c .before .before .before .before .before .before .before .outcome-of .ensures) _ (c .before .before .before .before .before .w .given .1) refl f;
+}
 
 same-length-2 : tie.Need-same-length-2
 same-length-2 c = search needs
@@ -51,16 +56,20 @@ same-length-4 : tie.Need-same-length-4
 same-length-4 c = search needs
 
 returns-3 : tie.Need-returns-3
-returns-3 c =
-    done (buffers (c .before .before .before .before .before .before .before .before .before .before .before .before .before .before .before .before .before .before .before .before .before .before .before .before .before .before .before .before .args .header .now) (c .before .before .before .before .before .before .before .before .before .before .before .before .before .before .before .before .before .before .before .before .before .before .before .before .before .before .before .before .args .stores .now) (c .before .before .before .before .before .before .before .before .before .before .before .before .before .before .before .before .before .before .before .before .before .before .before .before .before .before .before .before .args .reply .now)) _ _ (c .before .before .before .before .before .before .before .before .before .before .before .before .before .before .before .before .before .before .before .before .before .before .before .before .before .before .before .before .args .a .answer) _ (c .before .before .before .before .before .before .before .before .before .before .before .before .before .before .before .before .outcome-of .ensures) _ _ _ (c .before .before .before .before .before .before .before .before .before .before .before .put-reply2 .ensures) (c .before .before .before .before .before .before .before .before .before .before .before .before .before .before .w2 .given .1) (c .before .before .before .before .before .before .before .before .if1 .taken) _ _
-    (c .before .before .before .before .put-images .ensures .header) (c .before .before .before .before .put-images .ensures .stores)
+returns-3 c = record {
+  ends = done (buffers (c .before .before .before .before .before .before .before .before .before .before .before .before .before .before .before .before .before .before .before .before .before .before .before .before .before .before .before .before .args .header .now) (c .before .before .before .before .before .before .before .before .before .before .before .before .before .before .before .before .before .before .before .before .before .before .before .before .before .before .before .before .args .stores .now) (c .before .before .before .before .before .before .before .before .before .before .before .before .before .before .before .before .before .before .before .before .before .before .before .before .before .before .before .before .args .reply .now)) _ _ (c .before .before .before .before .before .before .before .before .before .before .before .before .before .before .before .before .before .before .before .before .before .before .before .before .before .before .before .before .args .a .answer) _ (c .before .before .before .before .before .before .before .before .before .before .before .before .before .before .before .before .outcome-of .ensures) _ _ _ (c .before .before .before .before .before .before .before .before .before .before .before .put-reply2 .ensures) (c .before .before .before .before .before .before .before .before .before .before .before .before .before .before .w2 .given .1) (c .before .before .before .before .before .before .before .before .if1 .taken) _ _
+      (c .before .before .before .before .put-images .ensures .header) (c .before .before .before .before .put-images .ensures .stores);
+  puts = λ f z. c .before .before .before .before .put-images .ensures;
+}
 
 same-length-5 : tie.Need-same-length-5
 same-length-5 c = search needs
 
 returns-4 : tie.Need-returns-4
-returns-4 c =
-    short (buffers (c .before .before .before .before .before .before .before .before .before .before .before .before .before .before .before .before .before .before .before .before .args .header .now) (c .before .before .before .before .before .before .before .before .before .before .before .before .before .before .before .before .before .before .before .before .args .stores .now) (c .before .before .before .before .before .before .before .before .before .before .before .before .before .before .before .before .before .before .before .before .args .reply .now)) _ _ (c .before .before .before .before .before .before .before .before .before .before .before .before .before .before .before .before .before .before .before .before .args .a .answer) _ (c .before .before .before .before .before .before .before .before .outcome-of .ensures) _ _ _ (c .before .before .before .put-reply2 .ensures) (c .before .before .before .before .before .before .w2 .given .1) (c .if1 .left)
+returns-4 c = record {
+  ends = short (buffers (c .before .before .before .before .before .before .before .before .before .before .before .before .before .before .before .before .before .before .before .before .args .header .now) (c .before .before .before .before .before .before .before .before .before .before .before .before .before .before .before .before .before .before .before .before .args .stores .now) (c .before .before .before .before .before .before .before .before .before .before .before .before .before .before .before .before .before .before .before .before .args .reply .now)) _ _ (c .before .before .before .before .before .before .before .before .before .before .before .before .before .before .before .before .before .before .before .before .args .a .answer) _ (c .before .before .before .before .before .before .before .before .outcome-of .ensures) _ _ _ (c .before .before .before .put-reply2 .ensures) (c .before .before .before .before .before .before .w2 .given .1) (c .if1 .left);
+  puts = λ f z. absurd (c .if1 .left z);
+}
 
 pub finish-spec : {M : Type 1} → statement M
 finish-spec =

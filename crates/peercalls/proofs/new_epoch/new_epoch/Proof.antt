@@ -17,7 +17,7 @@ enum-known-p c = search needs
 
 returns : tie.Need-returns
 returns c =
-    unread _ _ _ _ _ _
+    unread _ _ _ _ _ _ _
     (new-epoch-missed (c .before .before .before .before .before .before .args .message .now)
     (λ q e. let shown = c .before .decode .ensures ∙ e in miss (0 ∷ 1 ∷ 2 ∷ 4 ∷ 5 ∷ 6 ∷ 7 ∷ 8 ∷ 9 ∷ 10 ∷ []) 3 tt (rw shown at (c .match .keys2))))
 

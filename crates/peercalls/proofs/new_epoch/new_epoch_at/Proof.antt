@@ -4,7 +4,9 @@ use borrow.Author.Needs.{needs}
 use borrow.Author.Tests.{not-true, not-false}
 use Rattle.lentimage.specs.Lent.{noLot}
 use Rattle.newepoch.specs.Announces.{AnnouncesAt}
+use Rattle.peercalls.specs.PeerCalls.{announces}
 use Rattle.peercalls.proofs.OfServes.{unlent, may-put, at-shard}
+use Rattle.peercalls.proofs.OfStates.{new-epoch-state}
 use Rattle.peercalls.proofs.new_epoch.new_epoch_at.Statement.{statement}
 use Rattle.peercalls.proofs.new_epoch.new_epoch_at.Tie as tie
 
@@ -44,7 +46,7 @@ same-length-2 c = search needs
 
 returns : tie.Need-returns
 returns c =
-    unlent AnnouncesAt _ _ _ _ _ _ _ (c .before .before .before .before .before .before .before .before .before .before .pick .ensures) (not-true _ (c .if1 .taken))
+    unlent AnnouncesAt announces _ _ _ _ _ _ _ (c .before .before .before .before .before .before .before .before .before .before .pick .ensures) (not-true _ (c .if1 .taken))
 
 slice-aggregate-new-epoch : tie.Need-slice-aggregate-new-epoch
 slice-aggregate-new-epoch c = search needs
@@ -99,7 +101,7 @@ slice-aggregate-finish-8 c = search needs
 
 finish-requires : tie.Need-finish-requires
 finish-requires c κs =
-    λ z. may-put AnnouncesAt _ _ _ (c .before .before .before .before .before .before .before .before .before .before .before .before .before .before .before .before .before .before .before .before .before .before .before .before .before .before .before .before .before .before .before .before .before .before .before .before .before .before .before .before .before .before .before .before .before .before .before .before .args .reply .now) _ _ _ (c .before .before .before .before .before .before .before .before .before .before .before .before .before .before .before .before .before .before .before .before .before .before .before .before .before .before .before .before .before .before .before .before .before .pick .ensures) (not-false _ (c .before .before .before .before .before .before .before .before .before .before .before .before .before .before .before .before .before .before .before .before .before .before .before .if1 .left)) _ _ (c .before .before .before .before .before .before .before .before .before .before .before .before .before .new-epoch .ensures)
+    λ z. may-put AnnouncesAt announces _ _ _ (c .before .before .before .before .before .before .before .before .before .before .before .before .before .before .before .before .before .before .before .before .before .before .before .before .before .before .before .before .before .before .before .before .before .before .before .before .before .before .before .before .before .before .before .before .before .before .before .before .args .reply .now) _ _ _ (c .before .before .before .before .before .before .before .before .before .before .before .before .before .before .before .before .before .before .before .before .before .before .before .before .before .before .before .before .before .before .before .before .before .pick .ensures) (not-false _ (c .before .before .before .before .before .before .before .before .before .before .before .before .before .before .before .before .before .before .before .before .before .before .before .if1 .left)) _ _ (c .before .before .before .before .before .before .before .before .before .before .before .before .before .new-epoch .ensures)
     (λ n x d. d .whole z _ (c .before .before .before .before .before .before .before .before .before .before .before .before .before .before .before .before .before .before .before .before .before .before .before .before .before .before .before .before .before .before .before .before .before .before .before .before .before .before .before .before .before .before .before .before .before .before .before .before .pre))
 
 same-length-3 : tie.Need-same-length-3
@@ -113,8 +115,9 @@ same-length-5 c = search needs
 
 returns-2 : tie.Need-returns-2
 returns-2 c =
-    at-shard AnnouncesAt _ _ _ _ _ _ _ (c .before .before .before .before .before .before .before .before .before .before .before .before .before .before .before .before .before .before .before .before .before .before .before .before .before .before .before .before .before .before .before .before .before .before .before .before .before .before .before .before .pick .ensures) (not-false _ (c .before .before .before .before .before .before .before .before .before .before .before .before .before .before .before .before .before .before .before .before .before .before .before .before .before .before .before .before .before .before .if1 .left)) _ _ (c .before .before .before .before .before .before .before .before .before .before .before .before .before .before .before .before .before .before .before .before .new-epoch .ensures) _ _
+    at-shard AnnouncesAt announces _ _ _ _ _ _ _ (c .before .before .before .before .before .before .before .before .before .before .before .before .before .before .before .before .before .before .before .before .before .before .before .before .before .before .before .before .before .before .before .before .before .before .before .before .before .before .before .before .pick .ensures) (not-false _ (c .before .before .before .before .before .before .before .before .before .before .before .before .before .before .before .before .before .before .before .before .before .before .before .before .before .before .before .before .before .before .if1 .left)) _ _ (c .before .before .before .before .before .before .before .before .before .before .before .before .before .before .before .before .before .before .before .before .new-epoch .ensures) _ _
     (c .before .before .before .before .before .before .finish .ensures)
+    (λ e g z d p. new-epoch-state _ _ _ _ _ _ _ _ e g z p (search needs) (search needs) (c .before .before .before .before .before .before .before .before .before .before .before .before .before .before .before .before .before .before .before .before .before .before .before .before .before .before .before .before .before .before .before .before .before .before .before .before .before .before .before .before .before .before .before .before .before .before .before .before .before .before .before .before .before .before .before .pre) d)
 
 pub new-epoch-at-spec : {M : Type 1} → statement M
 new-epoch-at-spec =

@@ -4,7 +4,9 @@ use borrow.Author.Needs.{needs}
 use borrow.Author.Tests.{not-true, not-false}
 use Rattle.lentimage.specs.Lent.{noLot}
 use Rattle.peers.specs.Peers.{ReplicatesAt}
+use Rattle.peercalls.specs.PeerCalls.{replicates}
 use Rattle.peercalls.proofs.OfServes.{unlent, may-put, at-shard}
+use Rattle.peercalls.proofs.OfStates.{replicate-state}
 use Rattle.peercalls.proofs.replicate.replicate_at.Statement.{statement}
 use Rattle.peercalls.proofs.replicate.replicate_at.Tie as tie
 
@@ -44,7 +46,7 @@ same-length-2 c = search needs
 
 returns : tie.Need-returns
 returns c =
-    unlent ReplicatesAt _ _ _ _ _ _ _ (c .before .before .before .before .before .before .before .before .before .before .pick .ensures) (not-true _ (c .if1 .taken))
+    unlent ReplicatesAt replicates _ _ _ _ _ _ _ (c .before .before .before .before .before .before .before .before .before .before .pick .ensures) (not-true _ (c .if1 .taken))
 
 slice-aggregate-replicate : tie.Need-slice-aggregate-replicate
 slice-aggregate-replicate c = search needs
@@ -99,7 +101,7 @@ slice-aggregate-finish-8 c = search needs
 
 finish-requires : tie.Need-finish-requires
 finish-requires c κs =
-    λ z. may-put ReplicatesAt _ _ _ (c .before .before .before .before .before .before .before .before .before .before .before .before .before .before .before .before .before .before .before .before .before .before .before .before .before .before .before .before .before .before .before .before .before .before .before .before .before .before .before .before .before .before .before .before .before .before .before .before .before .before .before .before .before .before .args .reply .now) _ _ _ (c .before .before .before .before .before .before .before .before .before .before .before .before .before .before .before .before .before .before .before .before .before .before .before .before .before .before .before .before .before .before .before .before .before .before .before .before .before .before .before .pick .ensures) (not-false _ (c .before .before .before .before .before .before .before .before .before .before .before .before .before .before .before .before .before .before .before .before .before .before .before .before .before .before .before .before .before .if1 .left)) _ _ (c .before .before .before .before .before .before .before .before .before .before .before .before .before .before .before .before .before .before .before .replicate .ensures)
+    λ z. may-put ReplicatesAt replicates _ _ _ (c .before .before .before .before .before .before .before .before .before .before .before .before .before .before .before .before .before .before .before .before .before .before .before .before .before .before .before .before .before .before .before .before .before .before .before .before .before .before .before .before .before .before .before .before .before .before .before .before .before .before .before .before .before .before .args .reply .now) _ _ _ (c .before .before .before .before .before .before .before .before .before .before .before .before .before .before .before .before .before .before .before .before .before .before .before .before .before .before .before .before .before .before .before .before .before .before .before .before .before .before .before .pick .ensures) (not-false _ (c .before .before .before .before .before .before .before .before .before .before .before .before .before .before .before .before .before .before .before .before .before .before .before .before .before .before .before .before .before .if1 .left)) _ _ (c .before .before .before .before .before .before .before .before .before .before .before .before .before .before .before .before .before .before .before .replicate .ensures)
     (λ n x d. d .whole z _ (c .before .before .before .before .before .before .before .before .before .before .before .before .before .before .before .before .before .before .before .before .before .before .before .before .before .before .before .before .before .before .before .before .before .before .before .before .before .before .before .before .before .before .before .before .before .before .before .before .before .before .before .before .before .before .pre))
 
 same-length-3 : tie.Need-same-length-3
@@ -113,8 +115,9 @@ same-length-5 c = search needs
 
 returns-2 : tie.Need-returns-2
 returns-2 c =
-    at-shard ReplicatesAt _ _ _ _ _ _ _ (c .before .before .before .before .before .before .before .before .before .before .before .before .before .before .before .before .before .before .before .before .before .before .before .before .before .before .before .before .before .before .before .before .before .before .before .before .before .before .before .before .before .before .before .before .before .before .pick .ensures) (not-false _ (c .before .before .before .before .before .before .before .before .before .before .before .before .before .before .before .before .before .before .before .before .before .before .before .before .before .before .before .before .before .before .before .before .before .before .before .before .if1 .left)) _ _ (c .before .before .before .before .before .before .before .before .before .before .before .before .before .before .before .before .before .before .before .before .before .before .before .before .before .before .replicate .ensures) _ _
+    at-shard ReplicatesAt replicates _ _ _ _ _ _ _ (c .before .before .before .before .before .before .before .before .before .before .before .before .before .before .before .before .before .before .before .before .before .before .before .before .before .before .before .before .before .before .before .before .before .before .before .before .before .before .before .before .before .before .before .before .before .before .pick .ensures) (not-false _ (c .before .before .before .before .before .before .before .before .before .before .before .before .before .before .before .before .before .before .before .before .before .before .before .before .before .before .before .before .before .before .before .before .before .before .before .before .if1 .left)) _ _ (c .before .before .before .before .before .before .before .before .before .before .before .before .before .before .before .before .before .before .before .before .before .before .before .before .before .before .replicate .ensures) _ _
     (c .before .before .before .before .before .before .finish .ensures)
+    (λ e g z d p. replicate-state _ _ _ _ _ _ _ _ e g z p (c .before .before .before .before .before .before .before .before .before .before .before .before .before .before .before .before .before .before .before .before .before .before .before .before .before .before .before .before .before .before .before .before .before .before .before .before .before .before .before .before .before .before .before .before .before .before .before .before .before .before .before .before .before .before .before .before .before .before .before .before .before .pre) d)
 
 pub replicate-at-spec : {M : Type 1} → statement M
 replicate-at-spec =
