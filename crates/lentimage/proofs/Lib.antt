@@ -4,6 +4,7 @@ pub mod OfSlots
 pub mod OfState
 pub mod OfBack
 pub mod OfFamily
+pub mod OfCounted
 pub mod OfExit
 pub mod OfBegun
 pub mod OfAfter

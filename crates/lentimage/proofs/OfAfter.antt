@@ -8,7 +8,7 @@ use mathlib.Core.Logic.{⊎-elim}
 use mathlib.Core.List.{List, _∷_, map}
 use mathlib.Core.Option.{none, some}
 use native.Mathlib.Omega.{arith}
-use lib.Dec.{leb, ltb}
+use lib.Dec.{eqb, leb, ltb}
 use lib.ListN.{length, getD, take, drop, length-map, length-append, length-drop}
 use lib.Seq.{length-take-le}
 use borrow.Author.Tests.{ltb-true, ltb-false, lt-ltb}
@@ -37,9 +37,10 @@ use Rattle.lend.specs.Lend.{Lot, storeOf, keptStore, placeOf, slotOf, lentAt, l
 use Rattle.storeimage.specs.Read.{allReadable}
 use Rattle.lentimage.specs.Lent.{beginOf, keptReadable, lotAt, holds, readable, lotIn, storesPut, Puttable, StoreFits}
 use Rattle.lentimage.specs.State.{storesIn}
-use Rattle.lentimage.proofs.OfFamily.{lentIn, lent-changes}
-use Rattle.lentimage.proofs.OfExit.{entry-view, exit-view}
-use Rattle.lentimage.proofs.OfBegun.{entry-absent, exit-absent, exit-begun}
+use Rattle.lentimage.proofs.OfFamily.{vectorsIn, lentIn, lent-changes}
+use Rattle.lentimage.proofs.OfCounted.{counted, counted-before, afterwards, counted-after}
+use Rattle.lentimage.proofs.OfExit.{entry-view, exit-view, exit-few}
+use Rattle.lentimage.proofs.OfBegun.{entry-absent, exit-absent, absent-few, exit-begun, begun-few}
 
 -- what was found of the images: they lend a state, and the shard's store is well formed
 pub record Lent (s : List ℕ) (n : Node) (k : Key) : Type 0 where
@@ -97,18 +98,36 @@ module _ {A : Type 0} (call : (Key → Bool) → held.Node → Result A held.Nod
   abbrev after : Stores
   after = lentIn (storesIn s) (slotOf n k) b
 
-  -- the state that the images are read as, at exit
-  abbrev pub Becomes : Type 0
-  Becomes = viewNode (storesIn (storesPut s n p b (placeOf n k))) p ≡ call (lentFor (storesIn s) n a) (viewNode (storesIn s) n) .after
+  -- the node that the definition leaves of the state at entry
+  abbrev pub left : held.Node
+  left = call (lentFor (storesIn s) n a) (viewNode (storesIn s) n) .after
+
+  -- it is what the stores at exit say beside the header, and what a family says whose tables have as many vectors as the header counts
+  pub record Becomes : Type 0 where
+    pub state : viewNode (storesIn (storesPut s n p b (placeOf n k))) p ≡ left
+    pub counts : viewNode (afterwards s (slotOf n k) b) p ≡ left
 
   said : viewNode after p ≡ call (lentFor before n a) (viewNode before n) .after
   said = same before after (lent-changes (storesIn s) (slotOf n k) a b)
 
-  becomes : viewNode (storesIn (storesPut s n p b (placeOf n k))) p ≡ viewNode after p → viewNode before n ≡ viewNode (storesIn s) n → Becomes
-  becomes exit entry =
-      exit ∙ said
-      ∙ ap (λ (f : Key → Bool). call f (viewNode before n) .after) (lent-any before (storesIn s) n a)
-      ∙ ap (λ (v : held.Node). call (lentFor (storesIn s) n a) v .after) entry
+  becomes : viewNode (storesIn (storesPut s n p b (placeOf n k))) p ≡ viewNode after p → viewNode before n ≡ viewNode (storesIn s) n
+      → ((i : ℕ) → i < length (used p) → let u = getD (used p) i noKept in
+      eqb (u .slot) (slotOf n k) ≡ true → length (vectorsIn b (u .held .last) (u .stored)) ≡ u .stored)
+      → Becomes
+  becomes exit entry few =
+      let c = counted (storesIn s) in
+      let slot = slotOf n k in
+      record {
+        state =
+            exit ∙ said
+            ∙ ap (λ (f : Key → Bool). call f (viewNode before n) .after) (lent-any before (storesIn s) n a)
+            ∙ ap (λ (v : held.Node). call (lentFor (storesIn s) n a) v .after) entry;
+        counts =
+            counted-after s slot b p few
+            ∙ same (lentIn c slot a) (lentIn c slot b) (lent-changes c slot a b)
+            ∙ ap (λ (f : Key → Bool). call f (viewNode (lentIn c slot a) n) .after) (lent-any (lentIn c slot a) (storesIn s) n a)
+            ∙ ap (λ (v : held.Node). call (lentFor (storesIn s) n a) v .after) (counted-before s n (is-formed s n k l) slot a ∙ entry);
+      }
 
   -- the shard is held, or none of the key begins
   pub same-after : SameSlots n p → slotsFit (used p) ≡ true → Puttable s n p b (placeOf n k)
@@ -122,15 +141,16 @@ module _ {A : Type 0} (call : (Key → Bool) → held.Node → Result A held.Nod
       let fine = is-fine s n k l under in
       let well = is-well s n k l under in
       let x = getD (n .held) (placeOf n k) noKept in
-      becomes
-      (exit-view s n k formed (l .inside) under fine well p b seats fit
-      (subst (CarriesAll (viewNode before n)) (sym said)
-      (carries (lentFor before n a) (viewNode before n) (viewKept before x) (shard-some before n k (l .inside) (placeOf n k) refl under)))
-      (l .room) (l .bytes e) (w .shard e) (f e))
-      (entry-view s n k formed (l .inside) under fine well))
+      let carried : CarriesAll (viewNode before n) (viewNode after p) =
+      subst (CarriesAll (viewNode before n)) (sym said)
+      (carries (lentFor before n a) (viewNode before n) (viewKept before x) (shard-some before n k (l .inside) (placeOf n k) refl under)) in
+      becomes (exit-view s n k formed (l .inside) under fine well p b seats fit carried (l .room) (l .bytes e) (w .shard e) (f e))
+      (entry-view s n k formed (l .inside) under fine well)
+      (exit-few s n k formed (l .inside) under fine well p b seats fit carried (l .room) (l .bytes e) (w .shard e) (f e)))
       (λ e.
       let gone = ltb-false (placeOf n k) (n .count) e in
-      becomes (exit-absent s n k formed (l .inside) gone p b seats) (entry-absent s n k formed (l .inside) gone a))
+      becomes (exit-absent s n k formed (l .inside) gone p b seats) (entry-absent s n k formed (l .inside) gone a)
+      (absent-few s n k formed (l .inside) gone p b seats))
 
   -- the shard of the key begins
   pub begun-after : n .count ≤ placeOf n k → slotsOf p ≡ insertAt (slotsOf n) (lead (belowKey k) (used n)) (lowestFree (used n))
@@ -140,8 +160,7 @@ module _ {A : Type 0} (call : (Key → Bool) → held.Node → Result A held.Nod
       let formed = is-formed s n k l in
       let j = lead (belowKey k) (used n) in
       let v = viewNode before n in
-      becomes
-      (⊎-elim
+      ⊎-elim
       (λ e.
       let slots : Kept → ℕ = λ q. q .slot in
       let same : length (used p) ≡ length (used n) =
@@ -154,6 +173,6 @@ module _ {A : Type 0} (call : (Key → Bool) → held.Node → Result A held.Nod
       ap (λ (q : Key). lead (λ h. keyBelow (h .key) q) (v .held)) (e .1 .key) ∙ map-lead (viewKept before) (λ h. keyBelow (h .key) k) (used n) in
       let stands : nth (viewNode after p .held) j ≡ some g =
       ap (λ (m : held.Node). nth (m .held) j) (said ∙ e .2) ∙ ap (nth _) (sym place) ∙ put-at g (v .held) in
-      exit-begun s n k formed (l .inside) gone p b seats fit g (e .1) stands keys places)
-      (begins (lentFor before n a) v (shard-none before n k (l .inside) (placeOf n k) refl gone)))
-      (entry-absent s n k formed (l .inside) gone a)
+      becomes (exit-begun s n k formed (l .inside) gone p b seats fit g (e .1) stands keys places) (entry-absent s n k formed (l .inside) gone a)
+      (begun-few s n k formed (l .inside) gone p b seats fit g (e .1) stands keys places))
+      (begins (lentFor before n a) v (shard-none before n k (l .inside) (placeOf n k) refl gone))

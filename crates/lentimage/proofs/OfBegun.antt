@@ -80,15 +80,22 @@ module _ (s : List ℕ) (n : Node) (k : Key) (formed : formedNode n ≡ true) (i
 
     -- ---- no shard begins
 
+    same-slot : SameSlots n p → (i : ℕ) → i < length (used p) → eqb (getD (used p) i noKept .slot) slot ≡ false
+    same-slot seats i h =
+        let m : length (used p) ≡ length (used n) =
+        sym (length-map (used p) (λ (q : Kept). q .slot)) ∙ ap length seats ∙ length-map (used n) (λ (q : Kept). q .slot) in
+        let e : getD (used p) i noKept .slot ≡ getD (used n) i noKept .slot = sym (slot-at p i) ∙ ap (λ (l : List ℕ). getD l i 0) seats ∙ slot-at n i in
+        ap (λ (j : ℕ). eqb j slot) e ∙ free i (omega arith)
+
     pub exit-absent : SameSlots n p → viewNode (storesIn (storesPut s n p b (placeOf n k))) p ≡ viewNode after p
     exit-absent seats =
         ap (λ (t : List ℕ). viewNode (storesIn t) p) unwritten
-        ∙ sym (nodes-agree after (storesIn s) p (λ i h.
-        let u = getD (used p) i noKept in
-        let m : length (used p) ≡ length (used n) =
-        sym (length-map (used p) (λ (q : Kept). q .slot)) ∙ ap length seats ∙ length-map (used n) (λ (q : Kept). q .slot) in
-        let e : u .slot ≡ getD (used n) i noKept .slot = sym (slot-at p i) ∙ ap (λ (l : List ℕ). getD l i 0) seats ∙ slot-at n i in
-        other-kept (storesIn s) slot b u (ap (λ (j : ℕ). eqb j slot) e ∙ free i (omega arith))))
+        ∙ sym (nodes-agree after (storesIn s) p (λ i h. other-kept (storesIn s) slot b (getD (used p) i noKept) (same-slot seats i h)))
+
+    -- no shard is in the slot
+    pub absent-few : SameSlots n p → (i : ℕ) → i < length (used p) → let u = getD (used p) i noKept in
+        eqb (u .slot) slot ≡ true → length (vectorsIn b (u .held .last) (u .stored)) ≡ u .stored
+    absent-few seats i h e = not-both (eqb (getD (used p) i noKept .slot) slot) e (same-slot seats i h)
 
     -- ---- one begins
 
@@ -130,14 +137,17 @@ module _ (s : List ℕ) (n : Node) (k : Key) (formed : formedNode n ≡ true) (i
           let e : after .log (y .slot) (y .held .last) ≡ [] = ap (λ (q : held.Held). q .replica .log) (sym is-fresh) ∙ fresh .log in
           sym (after .long (y .slot) (y .held .last)) ∙ ap length e
 
+      no-vectors : vectorsIn b (y .held .last) (y .stored) ≡ []
+      no-vectors =
+          sym (own-vectors (storesIn s) slot b (y .slot) seated (y .held .last) (y .stored))
+          ∙ ap (λ (q : held.Held). q .replica .vectors) (sym is-fresh) ∙ fresh .vectors
+
       no-stored : y .stored ≡ 0
       unfolding vectorsOf
       no-stored =
-          let l = y .held .last in
           let rs = rowsOf (b .keys) (b .places) (y .stored) in
-          let e : vectorsIn b l (y .stored) ≡ [] =
-          sym (own-vectors (storesIn s) slot b (y .slot) seated l (y .stored)) ∙ ap (λ (q : held.Held). q .replica .vectors) (sym is-fresh) ∙ fresh .vectors in
-          no-rows (b .keys) (b .places) (y .stored) keys places (sym (length-map rs (vectorOf (logOf (b .columns) l))) ∙ ap length e)
+          no-rows (b .keys) (b .places) (y .stored) keys places
+          (sym (length-map rs (vectorOf (logOf (b .columns) (y .held .last)))) ∙ ap length no-vectors)
 
       bare : viewKept (storesIn s) y ≡ viewKept after y
       bare = view-bare (storesIn s) y no-last no-stored ∙ sym (view-bare after y no-last no-stored)
@@ -153,3 +163,11 @@ module _ (s : List ℕ) (n : Node) (k : Key) (formed : formedNode n ≡ true) (i
 
       pub exit-begun : viewNode (storesIn (storesPut s n p b (placeOf n k))) p ≡ viewNode after p
       exit-begun = ap (λ (t : List ℕ). viewNode (storesIn t) p) unwritten ∙ nodes-agree (storesIn s) after p begun-kept
+
+      -- it counts no row
+      pub begun-few : (i : ℕ) → i < length (used p) → let u = getD (used p) i noKept in
+          eqb (u .slot) slot ≡ true → length (vectorsIn b (u .held .last) (u .stored)) ≡ u .stored
+      begun-few i h e =
+          let is : i ≡ j = slots-one (used p) fit i j h there (eqb-true (getD (used p) i noKept .slot) slot e ∙ sym seat) in
+          subst (λ (m : ℕ). length (vectorsIn b (getD (used p) m noKept .held .last) (getD (used p) m noKept .stored)) ≡ getD (used p) m noKept .stored) (sym is)
+          (ap length no-vectors ∙ sym no-stored)

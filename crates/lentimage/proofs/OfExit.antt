@@ -23,6 +23,7 @@ use Rattle.shard.specs.View.{logOf}
 use Rattle.shard.specs.Table.{Row, rowsOf, vectorsOf}
 use Rattle.shard.specs.Store.{wellFormedStore}
 use Rattle.shard.proofs.Columns.{log-length}
+use Rattle.shard.proofs.Facts.{facts}
 use Rattle.shard.proofs.Firsts.{firsts-take}
 use Rattle.header.specs.declared.Kept.{Kept}
 use Rattle.header.specs.declared.Node.{Node}
@@ -41,7 +42,8 @@ use Rattle.lentimage.specs.Lent.{noLot, beginOf, lotAt, holds, keptOf, l
 use Rattle.lentimage.specs.State.{storesIn}
 use Rattle.lentimage.proofs.OfPick.{floats-whole}
 use Rattle.lentimage.proofs.OfSlots.{slots-one, slot-at, kept-agree, nodes-agree, view-nth}
-use Rattle.lentimage.proofs.OfFamily.{lentIn, own-log, other-kept, own-kept}
+use Rattle.lentimage.proofs.OfFamily.{vectorsIn, lentIn, own-log, other-kept, own-kept}
+use Rattle.lentimage.proofs.OfCounted.{vectors-length}
 use Rattle.lentimage.proofs.OfBack.{put-rows, put-log, put-beside, slot-log}
 
 formed-last : (x : Kept) → formedHeld (x .held) ≡ true → x .held .last ≤ 1024
@@ -211,3 +213,15 @@ module _ (s : List ℕ) (n : Node) (k : Key) (formed : formedNode n ≡ true) (i
       exit-view =
           ap (λ (t : Bool). viewNode (storesIn (cond t written s)) p) (lt-ltb at (n .count) under)
           ∙ nodes-agree (storesIn written) (after b) p exit-kept
+
+      -- the shard in the slot counts the rows of its columns
+      pub exit-few : (i : ℕ) → i < length (used p) → let u = getD (used p) i noKept in
+          eqb (u .slot) slot ≡ true → length (vectorsIn b (u .held .last) (u .stored)) ≡ u .stored
+      exit-few i h e =
+          let m = many-after in
+          let is : i ≡ at =
+          slots-one (used p) fit i at h (omega arith)
+          (eqb-true (getD (used p) i noKept .slot) slot e ∙ own ∙ sym slot-same ∙ ap (λ (q : Kept). q .slot) (sym row-after)) in
+          subst (λ (q : Kept). length (vectorsIn b (q .held .last) (q .stored)) ≡ q .stored) (sym (ap (λ (j : ℕ). getD (used p) j noKept) is ∙ row-after))
+          (vectors-length (logOf (b .columns) (y .held .last)) (b .keys) (b .places) (y .stored) (w .sized .keys) (w .sized .places)
+          (facts (storeOf b y) (w .well) .stored))

@@ -7,7 +7,8 @@ use mathlib.Core.Option.{none, some}
 use native.Mathlib.Omega.{arith}
 use lib.Dec.{leb}
 use lib.ListN.{length, replicate, length-append, length-replicate}
-use borrow.Author.Tests.{leb-true, leb-false}
+use lib.Seq.{sets}
+use borrow.Author.Tests.{leb-true}
 use Rattle.model.specs.Lists.{_and_, lead}
 use Rattle.model.specs.Keys.{Key}
 use Rattle.model.specs.Layout.Format.{Bytes, numberAt}
@@ -29,10 +30,12 @@ use Rattle.header.proofs.OfLists.{by-case}
 use Rattle.lend.specs.Lend.{Lot, placeOf, slotOf, lentFor, Changes}
 use Rattle.headerimage.specs.Rows.{keptAt}
 use Rattle.headerimage.specs.Image.{noKept, headerLent, nodeAt}
+use Rattle.headerimage.specs.Becomes.{headerImage}
 use Rattle.lentimage.specs.Lent.{holds, readable, lotIn, lendsState, Puttable, Puts}
-use Rattle.lentimage.specs.State.{storesIn, StateAfter}
+use Rattle.lentimage.specs.State.{storesIn, stateAt, StateAfter}
 use Rattle.lentimage.proofs.OfFamily.{lentIn, lent-changes}
-use Rattle.lentimage.proofs.OfAfter.{Lent, lent-any, is-formed, Becomes, same-after, begun-after}
+use Rattle.lentimage.proofs.OfCounted.{counted, counted-all, afterwards}
+use Rattle.lentimage.proofs.OfAfter.{Lent, lent-any, is-formed, left, Becomes, same-after, begun-after}
 
 -- a header is read into eight rows
 rows-eight : (h : List ℕ) → length (nodeAt h .held) ≡ 8
@@ -66,7 +69,7 @@ is-lent h s k e formed bytes =
 module _ {A : Type 0} (does : (Key → Bool) → held.Node → Result A held.Node) (h s h′ s′ : List ℕ) (k : Key) (p : Node) (b : Lot)
     (lends : lendsState h s k ≡ true) (bytes : holds (nodeAt h) k ≡ true → Bytes s)
     (same : (z t : Stores) → Changes z t (slotOf (nodeAt h) k) (lotIn s (nodeAt h) k) b
-        → viewNode t p ≡ does (lentFor z (nodeAt h) (lotIn s (nodeAt h) k)) (viewNode z (nodeAt h)) .after)
+    → viewNode t p ≡ does (lentFor z (nodeAt h) (lotIn s (nodeAt h) k)) (viewNode z (nodeAt h)) .after)
     (unlent : (z t : Stores) → Changes z t (slotOf (nodeAt h) k) (lotIn s (nodeAt h) k) b → lentFor z (nodeAt h) (lotIn s (nodeAt h) k) k ≡ false → ⊥)
     (slots : formedNode (nodeAt h) ≡ true → slotsFit (used p) ≡ true) (puts : Puts h h′ s s′ (nodeAt h) p b (placeOf (nodeAt h) k)) where
   abbrev n : Node
@@ -86,14 +89,26 @@ module _ {A : Type 0} (does : (Key → Bool) → held.Node → Result A held.Nod
   fit : slotsFit (used p) ≡ true
   fit = slots (is-formed s n k lent)
 
-  reads : Becomes does s n k lent p b same → StateAfter A does h s h′ s′ k p
-  reads e = record { state = ap (λ (t : List ℕ). viewNode (storesIn t) p) (puts .stores) ∙ e }
+  reads : Becomes does s n k lent p b same → StateAfter A does h s h′ s′ k (slotsOf p)
+  unfolding lendsState headerLent
+  reads e =
+      let c = puts .becomes (leb-true 10288 (length h) (and-left (leb 10288 (length h)) _ (and-left (headerLent h) _ lends))) in
+      let is : stateAt h′ s′ ≡ left does s n k lent p b same =
+      c .read (storesIn s′) ∙ ap (λ (t : List ℕ). viewNode (storesIn t) p) (puts .stores) ∙ e .state in
+      record {
+        state = is;
+        lent = c .lent;
+        seats = c .seats;
+        bytes =
+            c .bytes (afterwards s (slotOf n k) b) (counted-all (lentIn (counted (storesIn s)) (slotOf n k) b))
+            ∙ ap (λ (v : held.Node). sets h 0 (headerImage v (slotsOf p))) (e .counts ∙ sym is);
+      }
 
   pub same-state : SameSlots n p → Puttable s n p b (placeOf n k)
-      → ((f : Key → Bool) (v : held.Node) (g : held.Held) → shardOf v k ≡ some g → CarriesAll v (does f v .after)) → StateAfter A does h s h′ s′ k p
+      → ((f : Key → Bool) (v : held.Node) (g : held.Held) → shardOf v k ≡ some g → CarriesAll v (does f v .after)) → StateAfter A does h s h′ s′ k (slotsOf p)
   same-state seats w carries = reads (same-after does s n k lent p b same seats fit w (puts .fits) carries)
 
   pub begun-state : n .count ≤ placeOf n k → slotsOf p ≡ insertAt (slotsOf n) (lead (belowKey k) (used n)) (lowestFree (used n))
       → 0 < length (b .keys) → 0 < length (b .places)
-      → ((f : Key → Bool) (v : held.Node) → shardOf v k ≡ none → PutIn v k (does f v .after)) → StateAfter A does h s h′ s′ k p
+      → ((f : Key → Bool) (v : held.Node) → shardOf v k ≡ none → PutIn v k (does f v .after)) → StateAfter A does h s h′ s′ k (slotsOf p)
   begun-state gone seats keys places begins = reads (begun-after does s n k lent p b same gone seats fit keys places begins)

@@ -19,7 +19,8 @@ use Rattle.header.specs.declared.Kept.{Kept}
 use Rattle.header.specs.declared.Node.{Node}
 use Rattle.header.specs.View.{noKept}
 use Rattle.lend.specs.Lend.{Lot, storeOf, placeOf}
-use Rattle.headerimage.specs.Image.{headerLent, nodeAt, headerWritten}
+use Rattle.headerimage.specs.Image.{headerLent, nodeAt}
+use Rattle.headerimage.specs.Becomes.{HeaderWrites}
 use Rattle.storeimage.specs.Write.{EntriesWritten, RowsWritten}
 use Rattle.lentimage.specs.Lent.{beginOf, keptReadable, keptOf, readable, lendsState, storePut, Writable, Puttable, StorePuts, Puts}
 
@@ -43,10 +44,11 @@ store-put s t u x y b from q e r = record { image = rw (r .image, e .image, q) r
 
 -- ---- the whole
 
-module _ (h h′ s s′ : List ℕ) (n p : Node) (b : Lot) (at : ℕ) (e : h′ ≡ headerWritten h p) where
+module _ (h h′ s s′ : List ℕ) (n p : Node) (b : Lot) (at : ℕ) (e : HeaderWrites h h′ p) where
   pub puts-kept : at < n .count → StorePuts s s′ (getD (n .held) at noKept) (getD (p .held) at noKept) b → Puts h h′ s s′ n p b at
   puts-kept under q = record {
-    header = e;
+    header = e .image;
+    becomes = e .becomes;
     stores =
         q .image
         ∙ sym (ap (λ (t : Bool). cond t (storePut s (getD (n .held) at noKept) (getD (p .held) at noKept) b) s) (lt-ltb at (n .count) under));
@@ -55,7 +57,8 @@ module _ (h h′ s s′ : List ℕ) (n p : Node) (b : Lot) (at : ℕ) (e : h′ 
 
   pub puts-absent : n .count ≤ at → s′ ≡ s → Puts h h′ s s′ n p b at
   puts-absent gone q = record {
-    header = e;
+    header = e .image;
+    becomes = e .becomes;
     stores = q ∙ sym (ap (λ (t : Bool). cond t (storePut s (getD (n .held) at noKept) (getD (p .held) at noKept) b) s) (le-ltb at (n .count) gone));
     fits = λ t. not-both _ t (le-ltb at (n .count) gone);
   }

@@ -19,6 +19,7 @@ use Rattle.header.specs.declared.Node.{Node}
 use Rattle.header.specs.View.{noKept}
 use Rattle.lend.specs.Lend.{Lot, lot, storeOf, placeOf}
 use Rattle.headerimage.specs.Image.{headerLent, nodeAt, headerWritten}
+use Rattle.headerimage.specs.Becomes.{HeaderBecomes}
 use Rattle.storeimage.specs.Image.{storeSize, keysIn, placesIn}
 use Rattle.storeimage.specs.Read.{columnsAt, allReadable}
 use Rattle.storeimage.specs.Write.{logPut, rowsPut, Fits, RowFits}
@@ -132,5 +133,6 @@ pub record StorePuts (s t : List ℕ) (x y : Kept) (b : Lot) : Type 0 where
 
 pub record Puts (h h′ s s′ : List ℕ) (n p : Node) (b : Lot) (at : ℕ) : Type 0 where
   pub header : h′ ≡ headerWritten h p
+  pub becomes : 10288 ≤ length h → HeaderBecomes h h′ p
   pub stores : s′ ≡ storesPut s n p b at
   pub fits : ltb at (n .count) ≡ true → StoreFits (getD (p .held) at noKept) b

@@ -2,18 +2,20 @@
 -- only.
 use Prim.Native.Nat.{ℕ, _*_}
 use mathlib.Core.Path.{_≡_, refl}
-use mathlib.Core.Bool.{Bool}
+use mathlib.Core.Bool.{Bool, true}
 use mathlib.Core.List.{List}
+use lib.Seq.{sets}
 use Rattle.model.specs.Keys.{Key}
 use Rattle.model.specs.Node.Held as held
 use Rattle.model.specs.Node.Shards.{Result}
 use Rattle.shard.specs.View.{firsts}
 use Rattle.shard.specs.Table.{zipped, rowsOf, vectorsOf}
 use Rattle.shard.proofs.Firsts.{firsts-length}
-use Rattle.header.specs.declared.Node.{Node}
 use Rattle.header.specs.View.{Stores, viewNode}
+use Rattle.header.specs.Seats.{slotsOf}
 use Rattle.lend.specs.Lend.{lentFor}
-use Rattle.headerimage.specs.Image.{nodeAt}
+use Rattle.headerimage.specs.Image.{headerLent, nodeAt}
+use Rattle.headerimage.specs.Becomes.{headerImage}
 use Rattle.storeimage.specs.Image.{storeSize, entryAt, logAt, rowsAt}
 use Rattle.lentimage.specs.Lent.{lotIn}
 
@@ -31,7 +33,10 @@ storesIn s = record {
 abbrev pub stateAt : (header stores : List ℕ) → held.Node
 stateAt h s = viewNode (storesIn s) (nodeAt h)
 
--- a call at the shard of a key was lent its state by the images h and s, and left h′ and s′ with the header p: they are read as the node that
--- the call's definition leaves of what h and s are read as
-pub record StateAfter (A : Type 0) (does : (Key → Bool) → held.Node → Result A held.Node) (h s h′ s′ : List ℕ) (key : Key) (p : Node) : Type 0 where
-  pub state : viewNode (storesIn s′) p ≡ does (lentFor (storesIn s) (nodeAt h) (lotIn s (nodeAt h) key)) (stateAt h s) .after
+-- a call at the shard of a key was lent its state by the images h and s, and left h′ and s′, with the shards in these slots: they are read as
+-- the node that the call's definition leaves of what h and s are read as, and every byte of the header says that node and the slots
+pub record StateAfter (A : Type 0) (does : (Key → Bool) → held.Node → Result A held.Node) (h s h′ s′ : List ℕ) (key : Key) (slots : List ℕ) : Type 0 where
+  pub state : stateAt h′ s′ ≡ does (lentFor (storesIn s) (nodeAt h) (lotIn s (nodeAt h) key)) (stateAt h s) .after
+  pub lent : headerLent h′ ≡ true
+  pub seats : slotsOf (nodeAt h′) ≡ slots
+  pub bytes : h′ ≡ sets h 0 (headerImage (stateAt h′ s′) slots)
