@@ -8,31 +8,40 @@ use lib.ListN.{length}
 use lib.Seq.{sets}
 use borrow.Author.Tests.{le-leb, lt-leb}
 use Rattle.model.specs.Keys.{Key}
+use Rattle.model.specs.Refusals.{Refusal, unknownShard, notPrimary, noLease, tooFewInSync, undecodable, outsideDomain, noRoom, malformed, lastEpoch, noWorker}
 use Rattle.model.specs.Layout.Format.{bytesOf}
 use Rattle.model.specs.Layout.Message as message
 use Rattle.model.specs.Layout.Parts.{WireOp}
 use Rattle.model.specs.Node.Wire.{opInDomain}
-use Rattle.model.specs.Node.Calls.{lateTime}
+use Rattle.model.specs.Node.Client as client
+use Rattle.model.specs.Node.Calls.{lateTime, writeWith}
 use Rattle.model.proofs.Lists.{not-both, none-some}
+use Rattle.retained.proofs.OfCalls.{write-retains}
+use Rattle.retained.proofs.OfLent.{write-unlent}
 use Rattle.rpc.specs.declared.WritePart.{WritePart}
 use Rattle.rpc.proofs.Decoded.{write-decoded}
 use Rattle.arrivals.specs.Parts.{opIn}
 use Rattle.arrivals.proofs.OfMessages.{write-op}
 use Rattle.lend.specs.Named.{keyIn}
 use Rattle.header.specs.declared.Node.{Node}
+use Rattle.header.specs.Seats.{slotsOf}
+use Rattle.header.specs.View.{Stores, viewNode}
+use Rattle.header.specs.Answers.{Told, told}
 use Rattle.headerimage.specs.Image.{nodeAt, headerWritten}
-use Rattle.lend.specs.Lend.{Lot, placeOf}
+use Rattle.lend.specs.Lend.{Lot, placeOf, slotOf, lentFor, Changes}
 use Rattle.lentimage.specs.Lent.{lendsState, lotIn, storesPut, Picks, Puttable, Puts}
 use Rattle.lentimage.specs.declared.Picked.{Picked}
+use Rattle.lentimage.specs.State.{StateAfter}
 use Rattle.lentimage.proofs.OfPut.{puttable}
+use Rattle.lentimage.proofs.OfLent.{same-state}
 use Rattle.clientwrites.specs.declared.WriteReply.{WriteReply}
 use Rattle.clientwrites.specs.declared.WriteReply.the-variants as R
 use Rattle.clientwrites.specs.declared.WriteAnswer.{WriteAnswer}
-use Rattle.clientwrites.specs.ClientWrites.{turnedDown, IsWrite, WriteNames, WritesAt}
+use Rattle.clientwrites.specs.ClientWrites.{refusalWord, writeWord, turnedDown, IsWrite, WriteNames, WritesAt}
 use Rattle.clientwrites.proofs.OfNamed.{write-key}
 use Rattle.clientcalls.specs.Count.{numberPut}
 use Rattle.clientcalls.specs.Searched.{lendsCall}
-use Rattle.clientcalls.specs.Written.{Buffers, buffers, WriteEnded, ended, acceptedIn, endedAs, writeEnded, WriteServed, WritesShard, WritesRead, WritesBytes}
+use Rattle.clientcalls.specs.Written.{Buffers, buffers, WriteEnded, ended, acceptedIn, endedAs, writeEnded, WriteFinished, WriteServed, WritesShard, WritesRead, WritesBytes}
 use Rattle.clientcalls.proofs.OfSearched.{lends-short, lends-long}
 
 -- ---- by the answer
@@ -68,10 +77,29 @@ module _ (h s a : List ℕ) (n : Node) (at : ℕ) (l : Lot) (w : WriteAnswer) wh
   pub told-refused : (x : ℕ) → w .answer ≡ R.Refused x → ended x b ≡ writeEnded b n at l w
   told-refused x q = as-told (R.Refused x) q _ refl
 
+-- .. and whether the images were written
+pub not-accepted : (x y : WriteReply) → x ≡ y → turnedDown y ≡ true → {P : Type 0} → turnedDown x ≡ false → P
+not-accepted x y q t f = not-both (turnedDown x) (ap turnedDown q ∙ t) f
+
 pub accepted-stands : (x : WriteReply) (o : ℕ) → x ≡ R.Accepted (record { 0 = o }) → turnedDown x ≡ false
 accepted-stands x o q = ap turnedDown q
 
 -- ---- at the shard of a key
+
+abbrev RefusesAs : client.WriteAnswer → Type 0
+RefusesAs v = (r : Refusal) × (v ≡ client.writeRefused r)
+
+refusal-turned : (r : Refusal) → turnedDown (refusalWord r) ≡ true
+refusal-turned unknownShard = refl
+refusal-turned (notPrimary e) = refl
+refusal-turned noLease = refl
+refusal-turned tooFewInSync = refl
+refusal-turned undecodable = refl
+refusal-turned outsideDomain = refl
+refusal-turned noRoom = refl
+refusal-turned malformed = refl
+refusal-turned lastEpoch = refl
+refusal-turned noWorker = refl
 
 module _ (h s a : List ℕ) (k : Key) (b : Lot) (l : Picked) (d : Picks h s k b l) (clock least : ℕ) (m : List ℕ) where
   pub shard-unlent : l .found ≡ false → WritesShard (buffers h s a) k clock least m (ended 24 (buffers h s a))
@@ -92,17 +120,45 @@ module _ (h s a : List ℕ) (k : Key) (b : Lot) (l : Picked) (d : Picks h s k b 
         (subst (λ (n : Node). Puttable s n (w .node) x (placeOf (nodeAt h) k)) (sym (d .read lends))
         (puttable h s k (w .node) x lends (called .whole t k names)))
 
-    pub shard-lent : (e : WriteEnded) → e ≡ writeEnded (buffers h s a) (l .node) (l .at) x w → WritesShard (buffers h s a) k clock least m e
-    shard-lent e q = record {
+    -- at the slot of the shard
+    said : WriteNames m k → (z t : Stores) → Changes z t (slotOf (nodeAt h) k) (lotIn s (nodeAt h) k) x
+        → record { answer = w .answer; node = viewNode t (w .node) }
+        ≡ told writeWord (writeWith (lentFor z (nodeAt h) (lotIn s (nodeAt h) k)) (viewNode z (nodeAt h)) clock least m)
+    said names z t c = called .same z t (slotOf (nodeAt h) k) (λ v e. ap (slotOf (nodeAt h)) (names v e)) c
+
+    -- an accepted write was not refused
+    unrefused : (v : client.WriteAnswer) → RefusesAs v → w .answer ≡ writeWord v → turnedDown (w .answer) ≡ false → ⊥
+    unrefused v r e f = not-both (turnedDown (w .answer)) (ap turnedDown (e ∙ ap writeWord (r .1)) ∙ refusal-turned (r .0)) f
+
+    shard-state : WriteNames m k → (h′ s′ : List ℕ) → turnedDown (w .answer) ≡ false → Puts h h′ s s′ (nodeAt h) (w .node) x (placeOf (nodeAt h) k)
+        → StateAfter client.WriteAnswer (λ lent v. writeWith lent v clock least m) h s h′ s′ k (slotsOf (w .node))
+    shard-state names h′ s′ f puts =
+        let n = nodeAt h in
+        let y = lotIn s n k in
+        same-state (λ lent v. writeWith lent v clock least m) h s h′ s′ k (w .node) x lends (d .bytes lends)
+        (λ z t c. ap (λ (v : Told WriteReply). v .node) (said names z t c))
+        (λ z t c e.
+        unrefused (writeWith (lentFor z n y) (viewNode z n) clock least m .answer)
+        (write-unlent (viewNode z n) (lentFor z n y) clock least m (λ v q. subst (λ (j : Key). lentFor z n y j ≡ false) (names v q) e))
+        (ap (λ (v : Told WriteReply). v .answer) (said names z t c)) f)
+        (called .slots) puts (called .seats) (puttable h s k (w .node) x lends (called .whole f k names))
+        (λ g v j q. write-retains v g clock least m)
+
+    pub shard-lent : WriteNames m k → (e : WriteEnded) → WriteFinished (buffers h s a) (l .node) (l .at) x w e → WritesShard (buffers h s a) k clock least m e
+    shard-lent names e q = record {
       unlent = λ y. not-both _ lends y;
       lent = λ y. record {
         left = x;
         told = w;
         call = called;
         is =
-            q
+            q .is
             ∙ ap (λ (n : Node). writeEnded (buffers h s a) n (l .at) x w) (d .read lends)
             ∙ ap (λ (i : ℕ). writeEnded (buffers h s a) (nodeAt h) i x w) (d .at lends);
+        state = λ f z.
+            shard-state names (e .left .header) (e .left .stores) f
+            (subst (λ (i : ℕ). Puts h (e .left .header) s (e .left .stores) (nodeAt h) (w .node) x i) (d .at lends)
+            (subst (λ (n : Node). Puts h (e .left .header) s (e .left .stores) n (w .node) x (l .at)) (d .read lends) (q .puts f z)));
       };
     }
 

@@ -10,15 +10,18 @@ use Rattle.model.specs.Keys.{Key}
 use Rattle.model.specs.Layout.Format.{bytesOf}
 use Rattle.model.specs.Layout.Message as message
 use Rattle.model.specs.Node.Wire.{opInDomain}
-use Rattle.model.specs.Node.Calls.{lateTime}
+use Rattle.model.specs.Node.Client as client
+use Rattle.model.specs.Node.Calls.{lateTime, writeWith}
 use Rattle.header.specs.declared.Node.{Node}
+use Rattle.header.specs.Seats.{slotsOf}
 use Rattle.headerimage.specs.Image.{nodeAt, headerWritten}
 use Rattle.lend.specs.Lend.{Lot, placeOf}
-use Rattle.lentimage.specs.Lent.{lendsState, lotIn, storesPut}
+use Rattle.lentimage.specs.Lent.{lendsState, lotIn, storesPut, Puts}
+use Rattle.lentimage.specs.State.{StateAfter}
 use Rattle.clientwrites.specs.declared.WriteReply.{WriteReply}
 use Rattle.clientwrites.specs.declared.WriteReply.the-variants as R
 use Rattle.clientwrites.specs.declared.WriteAnswer.{WriteAnswer}
-use Rattle.clientwrites.specs.ClientWrites.{WritesAt}
+use Rattle.clientwrites.specs.ClientWrites.{turnedDown, WritesAt}
 use Rattle.clientcalls.specs.Count.{countPut, answerLent, numberPut}
 use Rattle.clientcalls.specs.Searched.{lendsCall}
 
@@ -53,14 +56,22 @@ endedAs b h s (R.Refused x) = ended x b
 abbrev pub writeEnded : Buffers → (n : Node) (at : ℕ) → Lot → WriteAnswer → WriteEnded
 writeEnded b n at l w = endedAs b (headerWritten (b .header) (w .node)) (storesPut (b .stores) n (w .node) l at) (w .answer)
 
+-- internal: what the caller gets; an accepted write whose offset was told has written what it left
+pub record WriteFinished (b : Buffers) (n : Node) (at : ℕ) (l : Lot) (w : WriteAnswer) (e : WriteEnded) : Type 0 where
+  pub is : e ≡ writeEnded b n at l w
+  pub puts : turnedDown (w .answer) ≡ false → e .number ≡ 0 → Puts (b .header) (e .left .header) (b .stores) (e .left .stores) n (w .node) l at
+
 -- ---- the call
 
--- past 24: some columns and answer that the call leaves on the state which the bytes lend, and what the caller gets of them
+-- past 24: some columns and answer that the call leaves on the state which the bytes lend, and what the caller gets of them. Accepted, and its
+-- offset told, the images that it leaves are read as the node after
 pub record WriteServed (b : Buffers) (key : Key) (clock least : ℕ) (m : List ℕ) (e : WriteEnded) : Type 0 where
   pub left : Lot
   pub told : WriteAnswer
   pub call : WritesAt (nodeAt (b .header)) (lotIn (b .stores) (nodeAt (b .header)) key) left clock least m 0 told
   pub is : e ≡ writeEnded b (nodeAt (b .header)) (placeOf (nodeAt (b .header)) key) left told
+  pub state : turnedDown (told .answer) ≡ false → e .number ≡ 0
+      → StateAfter client.WriteAnswer (λ lent v. writeWith lent v clock least m) (b .header) (b .stores) (e .left .header) (e .left .stores) key (slotsOf (told .node))
 
 -- at the shard of a key: 24 where the images lend no state
 pub record WritesShard (b : Buffers) (key : Key) (clock least : ℕ) (m : List ℕ) (e : WriteEnded) : Type 0 where

@@ -4,7 +4,7 @@ ghost use mathlib.Core.Bool.{false};
 ghost use Rattle.lend.specs.Lend.{lot};
 ghost use Rattle.lentimage.specs.Lent.{Puttable};
 ghost use Rattle.clientwrites.specs.ClientWrites.{turnedDown};
-ghost use Rattle.clientcalls.specs.Written.{buffers, ended, writeEnded};
+ghost use Rattle.clientcalls.specs.Written.{buffers, ended, WriteFinished};
 use crate::count::put_number;
 use clientwrites::WriteAnswer;
 use clientwrites::WriteReply;
@@ -31,10 +31,9 @@ pub fn put_written(
 ) -> u8
     requires { ⌜ (turnedDown (told .answer) ≡ false → Puttable (now stores) n (told .node)
         (lot (now epochs) (now offsets) (now ids) (now codes) (now lengths) (now floats) (now keys) (now places)) at) ⌝ }
-    ensures { λ r. ⌜ ended r (buffers (now (header .exit)) (now (stores .exit)) (now (answer .exit)))
-        ≡ writeEnded (buffers (now (header .entry)) (now (stores .entry)) (now (answer .entry))) n at
+    ensures { λ r. ⌜ WriteFinished (buffers (now (header .entry)) (now (stores .entry)) (now (answer .entry))) n at
         (lot (now (epochs .entry)) (now (offsets .entry)) (now (ids .entry)) (now (codes .entry)) (now (lengths .entry)) (now (floats .entry))
-        (now (keys .entry)) (now (places .entry))) told ⌝ }
+        (now (keys .entry)) (now (places .entry))) told (ended r (buffers (now (header .exit)) (now (stores .exit)) (now (answer .exit)))) ⌝ }
 {
     let reply = told.answer;
     match reply {
