@@ -118,12 +118,14 @@ mapped-back : {A B : Type 0} (view : A → B) (image : B → A) → ((x : B) →
 mapped-back view image law [] = refl
 mapped-back view image law (x ∷ l) = rw (law x, mapped-back view image law l)
 
+-- the rows in use of a table that is written
+pub take-table : {A B : Type 0} (image : B → A) (limit : ℕ) (past : A) (l : List B) → take (length l) (padded limit past (map image l)) ≡ map image l
+take-table image limit past l =
+    ap (λ (n : ℕ). take n (padded limit past (map image l))) (sym (length-map l image)) ∙ take-padded limit past (map image l)
+
 view-table : {A B : Type 0} (view : A → B) (image : B → A) → ((x : B) → view (image x) ≡ x) → (limit : ℕ) (past : A) (l : List B)
     → map view (take (length l) (padded limit past (map image l))) ≡ l
-view-table view image law limit past l =
-    ap (λ (n : ℕ). map view (take n (padded limit past (map image l)))) (sym (length-map l image))
-    ∙ ap (map view) (take-padded limit past (map image l))
-    ∙ mapped-back view image law l
+view-table view image law limit past l = ap (map view) (take-table image limit past l) ∙ mapped-back view image law l
 
 pub view-map : (x : tables.Map) → viewMap (imageMap x) ≡ x
 view-map x =
