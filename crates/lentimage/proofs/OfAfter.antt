@@ -11,13 +11,13 @@ use native.Mathlib.Omega.{arith}
 use lib.Dec.{eqb, leb, ltb}
 use lib.ListN.{length, getD, take, drop, length-map, length-append, length-drop}
 use lib.Seq.{length-take-le}
-use borrow.Author.Tests.{ltb-true, ltb-false, lt-ltb}
+use borrow.Author.Tests.{ltb-true, ltb-false, lt-ltb, le-ltb}
 use Rattle.model.specs.Lists.{_and_, nth, lead}
 use Rattle.model.specs.Keys.{Key, keyBelow}
 use Rattle.model.specs.Layout.Format.{Bytes}
 use Rattle.model.specs.Node.Held as held
 use Rattle.model.specs.Node.Shards.{Result, shardOf, withHeld}
-use Rattle.model.proofs.Lists.{and-left, and-right}
+use Rattle.model.proofs.Lists.{not-both, and-left, and-right}
 use Rattle.retained.specs.Retained.{CarriesAll}
 use Rattle.retained.proofs.OfBegin.{Fresh, PutIn, put-at}
 use Rattle.node.specs.View.{insertAt}
@@ -35,12 +35,12 @@ use Rattle.header.proofs.OfFormed.{formed-lent}
 use Rattle.header.proofs.OfShards.{shard-none, shard-some}
 use Rattle.lend.specs.Lend.{Lot, storeOf, keptStore, placeOf, slotOf, lentAt, lentFor, Changes}
 use Rattle.storeimage.specs.Read.{allReadable}
-use Rattle.lentimage.specs.Lent.{beginOf, keptReadable, lotAt, holds, readable, lotIn, storesPut, Puttable, StoreFits}
-use Rattle.lentimage.specs.State.{storesIn}
+use Rattle.lentimage.specs.Lent.{beginOf, keptReadable, lotAt, holds, keptOf, readable, lotIn, storesPut, Puttable, StoreFits}
+use Rattle.lentimage.specs.State.{storesIn, storeWith}
 use Rattle.lentimage.proofs.OfFamily.{vectorsIn, lentIn, lent-changes}
 use Rattle.lentimage.proofs.OfCounted.{counted, counted-before, afterwards, counted-after}
-use Rattle.lentimage.proofs.OfExit.{entry-view, exit-view, exit-few}
-use Rattle.lentimage.proofs.OfBegun.{entry-absent, exit-absent, absent-few, exit-begun, begun-few}
+use Rattle.lentimage.proofs.OfExit.{entry-view, exit-view, exit-few, exit-store}
+use Rattle.lentimage.proofs.OfBegun.{unwritten, entry-absent, exit-absent, absent-few, exit-begun, begun-few}
 
 -- what was found of the images: they lend a state, and the shard's store is well formed
 pub record Lent (s : List ℕ) (n : Node) (k : Key) : Type 0 where
@@ -106,6 +106,9 @@ module _ {A : Type 0} (call : (Key → Bool) → held.Node → Result A held.Nod
   pub record Becomes : Type 0 where
     pub state : viewNode (storesIn (storesPut s n p b (placeOf n k))) p ≡ left
     pub counts : viewNode (afterwards s (slotOf n k) b) p ≡ left
+    pub store : holds n k ≡ true → (g : held.Held) → shardOf left k ≡ some g
+        → storesPut s n p b (placeOf n k) ≡ storeWith s (keptOf n k) (g .replica .log)
+    pub none : holds n k ≡ false → storesPut s n p b (placeOf n k) ≡ s
 
   said : viewNode after p ≡ call (lentFor before n a) (viewNode before n) .after
   said = same before after (lent-changes (storesIn s) (slotOf n k) a b)
@@ -113,15 +116,19 @@ module _ {A : Type 0} (call : (Key → Bool) → held.Node → Result A held.Nod
   becomes : viewNode (storesIn (storesPut s n p b (placeOf n k))) p ≡ viewNode after p → viewNode before n ≡ viewNode (storesIn s) n
       → ((i : ℕ) → i < length (used p) → let u = getD (used p) i noKept in
       eqb (u .slot) (slotOf n k) ≡ true → length (vectorsIn b (u .held .last) (u .stored)) ≡ u .stored)
-      → Becomes
-  becomes exit entry few =
+      → (holds n k ≡ true → (g : held.Held) → shardOf (viewNode after p) k ≡ some g → storesPut s n p b (placeOf n k) ≡ storeWith s (keptOf n k) (g .replica .log))
+      → (holds n k ≡ false → storesPut s n p b (placeOf n k) ≡ s) → Becomes
+  becomes exit entry few store unwritten =
       let c = counted (storesIn s) in
       let slot = slotOf n k in
+      let tells : viewNode after p ≡ left =
+      said
+      ∙ ap (λ (f : Key → Bool). call f (viewNode before n) .after) (lent-any before (storesIn s) n a)
+      ∙ ap (λ (v : held.Node). call (lentFor (storesIn s) n a) v .after) entry in
       record {
-        state =
-            exit ∙ said
-            ∙ ap (λ (f : Key → Bool). call f (viewNode before n) .after) (lent-any before (storesIn s) n a)
-            ∙ ap (λ (v : held.Node). call (lentFor (storesIn s) n a) v .after) entry;
+        state = exit ∙ tells;
+        store = λ e g q. store e g (ap (λ (v : held.Node). shardOf v k) tells ∙ q);
+        none = unwritten;
         counts =
             counted-after s slot b p few
             ∙ same (lentIn c slot a) (lentIn c slot b) (lent-changes c slot a b)
@@ -146,11 +153,14 @@ module _ {A : Type 0} (call : (Key → Bool) → held.Node → Result A held.Nod
       (carries (lentFor before n a) (viewNode before n) (viewKept before x) (shard-some before n k (l .inside) (placeOf n k) refl under)) in
       becomes (exit-view s n k formed (l .inside) under fine well p b seats fit carried (l .room) (l .bytes e) (w .shard e) (f e))
       (entry-view s n k formed (l .inside) under fine well)
-      (exit-few s n k formed (l .inside) under fine well p b seats fit carried (l .room) (l .bytes e) (w .shard e) (f e)))
+      (exit-few s n k formed (l .inside) under fine well p b seats fit carried (l .room) (l .bytes e) (w .shard e) (f e))
+      (λ z. exit-store s n k formed (l .inside) under fine well p b seats fit carried (l .room) (l .bytes e) (w .shard e) (f e))
+      (λ z. not-both (holds n k) e z))
       (λ e.
       let gone = ltb-false (placeOf n k) (n .count) e in
       becomes (exit-absent s n k formed (l .inside) gone p b seats) (entry-absent s n k formed (l .inside) gone a)
-      (absent-few s n k formed (l .inside) gone p b seats))
+      (absent-few s n k formed (l .inside) gone p b seats)
+      (λ z. not-both (holds n k) z e) (λ z. unwritten s n k formed (l .inside) gone p b))
 
   -- the shard of the key begins
   pub begun-after : n .count ≤ placeOf n k → slotsOf p ≡ insertAt (slotsOf n) (lead (belowKey k) (used n)) (lowestFree (used n))
@@ -174,5 +184,6 @@ module _ {A : Type 0} (call : (Key → Bool) → held.Node → Result A held.Nod
       let stands : nth (viewNode after p .held) j ≡ some g =
       ap (λ (m : held.Node). nth (m .held) j) (said ∙ e .2) ∙ ap (nth _) (sym place) ∙ put-at g (v .held) in
       becomes (exit-begun s n k formed (l .inside) gone p b seats fit g (e .1) stands keys places) (entry-absent s n k formed (l .inside) gone a)
-      (begun-few s n k formed (l .inside) gone p b seats fit g (e .1) stands keys places))
+      (begun-few s n k formed (l .inside) gone p b seats fit g (e .1) stands keys places)
+      (λ z. not-both (holds n k) z (le-ltb (placeOf n k) (n .count) gone)) (λ z. unwritten s n k formed (l .inside) gone p b))
       (begins (lentFor before n a) v (shard-none before n k (l .inside) (placeOf n k) refl gone))

@@ -73,7 +73,7 @@ module _ (s : List ℕ) (n : Node) (k : Key) (formed : formedNode n ≡ true) (i
     abbrev after : Stores
     after = lentIn (storesIn s) slot b
 
-    unwritten : storesPut s n p b (placeOf n k) ≡ s
+    pub unwritten : storesPut s n p b (placeOf n k) ≡ s
     unwritten =
         ap (λ (t : Bool). cond t (storePut s (getD (n .held) (placeOf n k) noKept) (getD (p .held) (placeOf n k) noKept) b) s)
         (le-ltb (placeOf n k) (n .count) gone)

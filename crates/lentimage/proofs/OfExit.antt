@@ -11,16 +11,18 @@ use lib.Dec.{eqb, leb}
 use lib.ListN.{length, getD, take, length-map, length-take}
 use lib.Seq.{length-take-le, getD-take}
 use borrow.Author.Tests.{eqb-true, eqb-false, eq-eqb, lt-ltb, leb-true}
-use Rattle.model.specs.Lists.{_and_, nth}
+use Rattle.model.specs.Lists.{_and_, nth, lead}
 use Rattle.model.specs.Keys.{Key}
 use Rattle.model.specs.Log.{Log, Vectors}
 use Rattle.model.specs.Layout.Format.{Bytes}
 use Rattle.model.specs.Node.Held as held
+use Rattle.model.specs.Node.Shards.{shardOf}
 use Rattle.model.proofs.Lists.{and-left, and-right, nth-same}
 use Rattle.retained.specs.Retained.{Retains, Carries, CarriesAll}
+use Rattle.retained.proofs.OfPlaces.{others, found-carried}
 use Rattle.node.specs.Formed.{formedHeld}
 use Rattle.shard.specs.View.{logOf}
-use Rattle.shard.specs.Table.{Row, rowsOf, vectorsOf}
+use Rattle.shard.specs.Table.{Row, rowsOf, playRows, vectorsOf}
 use Rattle.shard.specs.Store.{wellFormedStore}
 use Rattle.shard.proofs.Columns.{log-length}
 use Rattle.shard.proofs.Facts.{facts}
@@ -30,16 +32,17 @@ use Rattle.header.specs.declared.Node.{Node}
 use Rattle.header.specs.View.{Stores, viewKept, viewNode, used, noKept}
 use Rattle.header.specs.Formed.{formedNode, slotsFit}
 use Rattle.header.specs.Seats.{slotsOf, SameSlots}
-use Rattle.header.proofs.OfLists.{by-case}
+use Rattle.header.proofs.OfLists.{by-case, map-lead}
 use Rattle.header.proofs.OfFormed.{header-apart, shard-formed}
 use Rattle.lend.specs.Lend.{Lot, storeOf, placeOf, slotOf}
 use Rattle.lend.proofs.OfLend.{slot-held}
 use Rattle.storeimage.specs.Image.{entryAt, logAt, rowsAt, keysIn, placesIn}
 use Rattle.storeimage.specs.Read.{allReadable}
+use Rattle.storeimage.specs.Write.{logPut, rowsPut}
 use Rattle.storeimage.proofs.OfRead.{image-log}
 use Rattle.storeimage.proofs.OfImage.{table-same}
 use Rattle.lentimage.specs.Lent.{noLot, beginOf, lotAt, holds, keptOf, lotIn, storePut, storesPut, Writable, StoreFits}
-use Rattle.lentimage.specs.State.{storesIn}
+use Rattle.lentimage.specs.State.{storesIn, storeWith}
 use Rattle.lentimage.proofs.OfPick.{floats-whole}
 use Rattle.lentimage.proofs.OfSlots.{slots-one, slot-at, kept-agree, nodes-agree, view-nth}
 use Rattle.lentimage.proofs.OfFamily.{vectorsIn, lentIn, own-log, other-kept, own-kept}
@@ -225,3 +228,28 @@ module _ (s : List ℕ) (n : Node) (k : Key) (formed : formedNode n ≡ true) (i
           subst (λ (q : Kept). length (vectorsIn b (q .held .last) (q .stored)) ≡ q .stored) (sym (ap (λ (j : ℕ). getD (used p) j noKept) is ∙ row-after))
           (vectors-length (logOf (b .columns) (y .held .last)) (b .keys) (b .places) (y .stored) (w .sized .keys) (w .sized .places)
           (facts (storeOf b y) (w .well) .stored))
+
+      -- ---- the bytes of the store
+
+      found : (g : held.Held) → shardOf (viewNode (after b) p) k ≡ some g → g ≡ viewKept (after b) y
+      found g e =
+          let m = many in
+          let o = many-after in
+          let c = length-map (used n) (viewKept before) in
+          let place : lead (others k) (viewNode before n .held) ≡ at = map-lead (viewKept before) (others k) (used n) in
+          nth-same (viewNode (after b) p .held) at g (viewKept (after b) y)
+          (subst (λ (i : ℕ). nth (viewNode (after b) p .held) i ≡ some g) place
+          (found-carried k (viewNode before n) (viewNode (after b) p) g carried (omega (arith, place)) e))
+          (view-nth (after b) p at (omega arith) ∙ ap (λ (q : Kept). some (viewKept (after b) q)) row-after)
+
+      pub exit-store : (g : held.Held) → shardOf (viewNode (after b) p) k ≡ some g → storesPut s n p b at ≡ storeWith s x (g .replica .log)
+      unfolding storePut storeWith
+      exit-store g e =
+          let l = logOf (b .columns) (y .held .last) in
+          let is : g .replica .log ≡ l =
+          ap (λ (q : held.Held). q .replica .log) (found g e)
+          ∙ own-log (storesIn s) slot b (y .slot) (eq-eqb (y .slot) slot (slot-same ∙ sym own)) (y .held .last) in
+          ap (λ (t : Bool). cond t (storePut s x y b) s) (lt-ltb at (n .count) under)
+          ∙ ap (rowsPut (logPut s (beginOf x) from l) (beginOf x)) (facts (storeOf b y) (w .well) .rows)
+          ∙ ap (λ (i : ℕ). rowsPut (logPut s (beginOf x) (min (x .held .last) i) l) (beginOf x) (playRows l)) (sym (log-length (b .columns) (y .held .last)))
+          ∙ ap (λ (z : Log). rowsPut (logPut s (beginOf x) (min (x .held .last) (length z)) z) (beginOf x) (playRows z)) (sym is)

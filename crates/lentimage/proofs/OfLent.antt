@@ -102,6 +102,8 @@ module _ {A : Type 0} (does : (Key → Bool) → held.Node → Result A held.Nod
         bytes =
             c .bytes (afterwards s (slotOf n k) b) (counted-all (lentIn (counted (storesIn s)) (slotOf n k) b))
             ∙ ap (λ (v : held.Node). sets h 0 (headerImage v (slotsOf p))) (e .counts ∙ sym is);
+        store = λ q g f. puts .stores ∙ e .store q g (sym (ap (λ (v : held.Node). shardOf v k) is) ∙ f);
+        none = λ q. puts .stores ∙ e .none q;
       }
 
   pub same-state : SameSlots n p → Puttable s n p b (placeOf n k)

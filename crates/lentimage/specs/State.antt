@@ -1,23 +1,28 @@
 -- The whole state of a node as two byte images have it (docs/IMAGES.md): the header, and the log and the vectors of each store. Definitions
 -- only.
-use Prim.Native.Nat.{ℕ, _*_}
+use Prim.Native.Nat.{ℕ, _*_, min}
 use mathlib.Core.Path.{_≡_, refl}
-use mathlib.Core.Bool.{Bool, true}
+use mathlib.Core.Bool.{Bool, true, false}
 use mathlib.Core.List.{List}
+use mathlib.Core.Option.{some}
+use lib.ListN.{length}
 use lib.Seq.{sets}
 use Rattle.model.specs.Keys.{Key}
+use Rattle.model.specs.Log.{Log}
 use Rattle.model.specs.Node.Held as held
-use Rattle.model.specs.Node.Shards.{Result}
+use Rattle.model.specs.Node.Shards.{Result, shardOf}
 use Rattle.shard.specs.View.{firsts}
-use Rattle.shard.specs.Table.{zipped, rowsOf, vectorsOf}
+use Rattle.shard.specs.Table.{zipped, rowsOf, playRows, vectorsOf}
 use Rattle.shard.proofs.Firsts.{firsts-length}
+use Rattle.header.specs.declared.Kept.{Kept}
 use Rattle.header.specs.View.{Stores, viewNode}
 use Rattle.header.specs.Seats.{slotsOf}
 use Rattle.lend.specs.Lend.{lentFor}
 use Rattle.headerimage.specs.Image.{headerLent, nodeAt}
 use Rattle.headerimage.specs.Becomes.{headerImage}
 use Rattle.storeimage.specs.Image.{storeSize, entryAt, logAt, rowsAt}
-use Rattle.lentimage.specs.Lent.{lotIn}
+use Rattle.storeimage.specs.Write.{logPut, rowsPut}
+use Rattle.lentimage.specs.Lent.{beginOf, holds, keptOf, lotIn}
 
 -- what the bytes of eight stores hold, by slot: the log of so many entries, and the vectors that so many rows of the table name
 unfoldable pub storesIn : List ℕ → Stores
@@ -29,14 +34,22 @@ storesIn s = record {
   bare = λ slot. refl;
 }
 
+-- the store of a held shard with another log: the entries past those that both have, and the table of the log played
+unfoldable pub storeWith : List ℕ → Kept → Log → List ℕ
+storeWith s x l = rowsPut (logPut s (beginOf x) (min (x .held .last) (length l)) l) (beginOf x) (playRows l)
+
 -- the state that the bytes are
 abbrev pub stateAt : (header stores : List ℕ) → held.Node
 stateAt h s = viewNode (storesIn s) (nodeAt h)
 
 -- a call at the shard of a key was lent its state by the images h and s, and left h′ and s′, with the shards in these slots: they are read as
--- the node that the call's definition leaves of what h and s are read as, and every byte of the header says that node and the slots
+-- the node that the call's definition leaves of what h and s are read as; every byte of the header says that node and the slots, and every byte
+-- of the stores the log that the shard then has
 pub record StateAfter (A : Type 0) (does : (Key → Bool) → held.Node → Result A held.Node) (h s h′ s′ : List ℕ) (key : Key) (slots : List ℕ) : Type 0 where
   pub state : stateAt h′ s′ ≡ does (lentFor (storesIn s) (nodeAt h) (lotIn s (nodeAt h) key)) (stateAt h s) .after
   pub lent : headerLent h′ ≡ true
   pub seats : slotsOf (nodeAt h′) ≡ slots
   pub bytes : h′ ≡ sets h 0 (headerImage (stateAt h′ s′) slots)
+  pub store : holds (nodeAt h) key ≡ true → (g : held.Held) → shardOf (stateAt h′ s′) key ≡ some g
+      → s′ ≡ storeWith s (keptOf (nodeAt h) key) (g .replica .log)
+  pub none : holds (nodeAt h) key ≡ false → s′ ≡ s

@@ -9,6 +9,7 @@ use Rattle.model.specs.Layout.Format.{Bytes}
 use Rattle.model.specs.Node.Backup.{BackupAnswer}
 use Rattle.model.proofs.Lists.{not-both, none-some, some-same}
 use Rattle.header.specs.declared.Node.{Node}
+use Rattle.header.specs.Seats.{slotsOf}
 use Rattle.headerimage.specs.Image.{nodeAt}
 use Rattle.lend.specs.Lend.{Lot, placeOf, Whole}
 use Rattle.lentimage.specs.declared.Picked.{Picked}
@@ -48,7 +49,7 @@ module _ (Call : Node → (a b : Lot) → List ℕ → PeerAnswer → Type 0) (d
     abbrev pub StateLaw : Buffers → Type 0
     StateLaw c = lendsState h s k ≡ true → (holds (nodeAt h) k ≡ true → Bytes s) → turnedDown (a .answer) ≡ false
         → Call (nodeAt h) (lotIn s (nodeAt h) k) y m a → Puts h (c .header) s (c .stores) (nodeAt h) (a .node) y (placeOf (nodeAt h) k)
-        → StateAfter BackupAnswer (does m) h s (c .header) (c .stores) k (a .node)
+        → StateAfter BackupAnswer (does m) h s (c .header) (c .stores) k (slotsOf (a .node))
 
     pub at-shard : (c : Buffers) (r : ℕ) → Finished (buffers h s t) c (l .node) (l .at) y a r → StateLaw c → AtShard Call does k m (buffers h s t) c r
     at-shard c r q state = record {

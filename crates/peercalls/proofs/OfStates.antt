@@ -61,7 +61,7 @@ module _ (m h s h′ s′ : List ℕ) (k : Key) (y : Lot) (a : PeerAnswer) (lend
 
   -- ---- 20
 
-  pub replicate-state : ReplicateNames m k → ReplicatesAt n x y m a → StateAfter BackupAnswer (replicates m) h s h′ s′ k (a .node)
+  pub replicate-state : ReplicateNames m k → ReplicatesAt n x y m a → StateAfter BackupAnswer (replicates m) h s h′ s′ k (slotsOf (a .node))
   replicate-state names d =
       let slot : ReplicateSlot n m (slotOf n k) = λ v e. ap (slotOf n) (names v e) in
       same-state (replicates m) h s h′ s′ k (a .node) y lends bytes (said (replicates m) _ _ _ d slot)
@@ -72,7 +72,7 @@ module _ (m h s h′ s′ : List ℕ) (k : Key) (y : Lot) (a : PeerAnswer) (lend
 
   -- ---- 22
 
-  pub copy-state : CopyNames m k → CopiesAt n x y m a → StateAfter BackupAnswer (copies m) h s h′ s′ k (a .node)
+  pub copy-state : CopyNames m k → CopiesAt n x y m a → StateAfter BackupAnswer (copies m) h s h′ s′ k (slotsOf (a .node))
   copy-state names d =
       let slot : CopySlot n m (slotOf n k) = λ v e. ap (slotOf n) (names v e) in
       same-state (copies m) h s h′ s′ k (a .node) y lends bytes (said (copies m) _ _ _ d slot)
@@ -84,7 +84,7 @@ module _ (m h s h′ s′ : List ℕ) (k : Key) (y : Lot) (a : PeerAnswer) (lend
   -- ---- 21
 
   pub new-epoch-state : 0 < length (y .keys) → 0 < length (y .places) → NewEpochNames m k → AnnouncesAt n x y m a
-      → StateAfter BackupAnswer (announces m) h s h′ s′ k (a .node)
+      → StateAfter BackupAnswer (announces m) h s h′ s′ k (slotsOf (a .node))
   unfolding slotsThen
   new-epoch-state keys places names d =
       let slot : NewEpochSlot n m (slotOf n k) = λ v e. ap (slotOf n) (names v e) in

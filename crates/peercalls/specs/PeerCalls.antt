@@ -21,6 +21,7 @@ use Rattle.rpcw.specs.declared.Reply.the-variants as R
 use Rattle.rpcw.specs.declared.Reply.{Reply}
 use Rattle.rpcw.specs.Written.{replyGiven}
 use Rattle.header.specs.declared.Node.{Node}
+use Rattle.header.specs.Seats.{slotsOf}
 use Rattle.headerimage.specs.Image.{nodeAt, headerWritten}
 use Rattle.lend.specs.Lend.{Lot, placeOf}
 use Rattle.lentimage.specs.Lent.{lendsState, lotIn, storesPut, Puts}
@@ -104,7 +105,7 @@ pub record Passed (Call : Node → (a b : Lot) → List ℕ → PeerAnswer → T
   pub called : Call (nodeAt (b .header)) (lotIn (b .stores) (nodeAt (b .header)) key) columns m after
   pub ends : ended r c ≡ endedWith b (nodeAt (b .header)) (placeOf (nodeAt (b .header)) key) columns after
   pub state : turnedDown (after .answer) ≡ false → r ≡ 0
-      → StateAfter BackupAnswer (does m) (b .header) (b .stores) (c .header) (c .stores) key (after .node)
+      → StateAfter BackupAnswer (does m) (b .header) (b .stores) (c .header) (c .stores) key (slotsOf (after .node))
 
 -- at the shard of a key: 24 where the bytes lend no state
 pub record AtShard (Call : Node → (a b : Lot) → List ℕ → PeerAnswer → Type 0) (does : Deed) (key : Key) (m : List ℕ) (b c : Buffers) (r : ℕ) : Type 0 where

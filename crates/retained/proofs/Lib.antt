@@ -1,4 +1,5 @@
 pub mod OfLogs
 pub mod OfCalls
+pub mod OfPlaces
 pub mod OfLent
 pub mod OfBegin

@@ -25,27 +25,27 @@ use Rattle.retained.proofs.OfLogs.{append-retains, store-retains, store
 -- ---- one shard
 
 pub carries-same : (h : Held) → Carries h h
-carries-same h = record { log = refl; most = λ m. m }
+carries-same h = record { key = refl; log = refl; most = λ m. m }
 
 write-carries : (lease : Bool) (least epoch : ℕ) (op : Op) (h : Held) → Carries h (writeHeld lease least epoch op h .after)
 write-carries lease least epoch op h =
     write-after (Carries h) h (carries-same h) lease least epoch op
-    (λ e. record { log = append-retains (h .replica) op; most = λ m. not-over (append (h .replica) op) e })
+    (λ e. record { key = refl; log = append-retains (h .replica) op; most = λ m. not-over (append (h .replica) op) e })
 
 replicate-carries : (epoch offset : ℕ) (op : Op) (h : Held) → Carries h (replicateHeld epoch offset op h .after)
 replicate-carries epoch offset op h =
     replicate-after (Carries h) h (carries-same h) epoch offset op
-    (λ e. record { log = store-retains (h .replica) epoch _; most = λ m. not-over (store (h .replica) epoch (record { epoch = epoch; offset = offset; op = op }) .replica) e })
+    (λ e. record { key = refl; log = store-retains (h .replica) epoch _; most = λ m. not-over (store (h .replica) epoch (record { epoch = epoch; offset = offset; op = op }) .replica) e })
 
 new-epoch-carries : (epoch end : ℕ) (t : List End) (h : Held) → Carries h (newEpochHeld epoch end t h .after)
 new-epoch-carries epoch end t h =
     new-epoch-after (Carries h) h (carries-same h) epoch end t
-    (λ p q. record { log = adopted-retains (h .replica) epoch end t; most = λ m. let a = adopted-length (h .replica) epoch end t in omega arith })
+    (λ p q. record { key = refl; log = adopted-retains (h .replica) epoch end t; most = λ m. let a = adopted-length (h .replica) epoch end t in omega arith })
 
 copy-carries : (epoch : ℕ) (es : List Entry) (h : Held) → Carries h (copyHeld epoch es h .after)
 copy-carries epoch es h =
     copy-after (Carries h) h (carries-same h) epoch es
-    (λ e. record { log = store-all-retains (h .replica) epoch es; most = λ m. not-over (storeAll (h .replica) epoch es) e })
+    (λ e. record { key = refl; log = store-all-retains (h .replica) epoch es; most = λ m. not-over (storeAll (h .replica) epoch es) e })
 
 -- ---- a node
 

@@ -15,6 +15,7 @@ Retains l m = let both = min (length l) (length m) in take both m ≡ take both 
 
 -- a held shard, h before and g after; a log within its limit stays so
 pub record Carries (h g : Held) : Type 0 where
+  pub key : g .key ≡ h .key
   pub log : Retains (h .replica .log) (g .replica .log)
   pub most : lastOffset (h .replica) ≤ maxEntries → lastOffset (g .replica) ≤ maxEntries
 
