@@ -3,6 +3,7 @@ pub mod OfPut
 pub mod OfSlots
 pub mod OfState
 pub mod OfBack
+pub mod OfAgain
 pub mod OfFamily
 pub mod OfCounted
 pub mod OfExit

@@ -36,7 +36,7 @@ use Rattle.header.proofs.OfShards.{shard-none, shard-some}
 use Rattle.lend.specs.Lend.{Lot, storeOf, keptStore, placeOf, slotOf, lentAt, lentFor, Changes}
 use Rattle.storeimage.specs.Read.{allReadable}
 use Rattle.lentimage.specs.Lent.{beginOf, keptReadable, lotAt, holds, keptOf, readable, lotIn, storesPut, Puttable, StoreFits}
-use Rattle.lentimage.specs.State.{storesIn, storeWith}
+use Rattle.lentimage.specs.State.{storesIn, StoreAfter}
 use Rattle.lentimage.proofs.OfFamily.{vectorsIn, lentIn, lent-changes}
 use Rattle.lentimage.proofs.OfCounted.{counted, counted-before, afterwards, counted-after}
 use Rattle.lentimage.proofs.OfExit.{entry-view, exit-view, exit-few, exit-store}
@@ -106,8 +106,7 @@ module _ {A : Type 0} (call : (Key → Bool) → held.Node → Result A held.Nod
   pub record Becomes : Type 0 where
     pub state : viewNode (storesIn (storesPut s n p b (placeOf n k))) p ≡ left
     pub counts : viewNode (afterwards s (slotOf n k) b) p ≡ left
-    pub store : holds n k ≡ true → (g : held.Held) → shardOf left k ≡ some g
-        → storesPut s n p b (placeOf n k) ≡ storeWith s (keptOf n k) (g .replica .log)
+    pub store : holds n k ≡ true → (g : held.Held) → shardOf left k ≡ some g → StoreAfter s (storesPut s n p b (placeOf n k)) (keptOf n k) g
     pub none : holds n k ≡ false → storesPut s n p b (placeOf n k) ≡ s
 
   said : viewNode after p ≡ call (lentFor before n a) (viewNode before n) .after
@@ -116,7 +115,7 @@ module _ {A : Type 0} (call : (Key → Bool) → held.Node → Result A held.Nod
   becomes : viewNode (storesIn (storesPut s n p b (placeOf n k))) p ≡ viewNode after p → viewNode before n ≡ viewNode (storesIn s) n
       → ((i : ℕ) → i < length (used p) → let u = getD (used p) i noKept in
       eqb (u .slot) (slotOf n k) ≡ true → length (vectorsIn b (u .held .last) (u .stored)) ≡ u .stored)
-      → (holds n k ≡ true → (g : held.Held) → shardOf (viewNode after p) k ≡ some g → storesPut s n p b (placeOf n k) ≡ storeWith s (keptOf n k) (g .replica .log))
+      → (holds n k ≡ true → (g : held.Held) → shardOf (viewNode after p) k ≡ some g → StoreAfter s (storesPut s n p b (placeOf n k)) (keptOf n k) g)
       → (holds n k ≡ false → storesPut s n p b (placeOf n k) ≡ s) → Becomes
   becomes exit entry few store unwritten =
       let c = counted (storesIn s) in

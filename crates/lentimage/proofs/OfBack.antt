@@ -34,7 +34,7 @@ entries-length [] s base i = refl
 entries-length (e ∷ es) s base i =
     entries-length es (entryPut s base i e) base (i + 1) ∙ rw (length-set, length-set, length-sets, length-sets, length-sets, length-sets)
 
-fits-drop : (n : ℕ) (l : Log) → All Fits l → All Fits (drop n l)
+pub fits-drop : (n : ℕ) (l : Log) → All Fits l → All Fits (drop n l)
 fits-drop zero l f = f
 fits-drop (suc n) [] f = tt
 fits-drop (suc n) (x ∷ l) f = fits-drop n l (f .1)
@@ -59,7 +59,7 @@ module _ (s : List ℕ) (x y : Kept) (b : Lot) (there : 1392640 ≤ length s) (w
   rows-long : length rows ≡ y .stored
   rows-long = let r = writable-rows x y b w in rows-length (b .keys) (b .places) (y .stored) (r .1) (r .2)
 
-  few-rows : length rows ≤ 1024
+  pub few-rows : length rows ≤ 1024
   few-rows = omega (arith, rows-long, writable-rows x y b w .0)
 
   few-entries : y .held .last ≤ 1024

@@ -36,18 +36,19 @@ use Rattle.header.proofs.OfLists.{by-case, map-lead}
 use Rattle.header.proofs.OfFormed.{header-apart, shard-formed}
 use Rattle.lend.specs.Lend.{Lot, storeOf, placeOf, slotOf}
 use Rattle.lend.proofs.OfLend.{slot-held}
-use Rattle.storeimage.specs.Image.{entryAt, logAt, rowsAt, keysIn, placesIn}
+use Rattle.storeimage.specs.Image.{entryAt, logAt, rowsAt, keysIn, placesIn, wellFormedImage}
 use Rattle.storeimage.specs.Read.{allReadable}
 use Rattle.storeimage.specs.Write.{logPut, rowsPut}
 use Rattle.storeimage.proofs.OfRead.{image-log}
 use Rattle.storeimage.proofs.OfImage.{table-same}
 use Rattle.lentimage.specs.Lent.{noLot, beginOf, lotAt, holds, keptOf, lotIn, storePut, storesPut, Writable, StoreFits}
-use Rattle.lentimage.specs.State.{storesIn, storeWith}
+use Rattle.lentimage.specs.State.{storesIn, storeWith, StoreAfter}
 use Rattle.lentimage.proofs.OfPick.{floats-whole}
 use Rattle.lentimage.proofs.OfSlots.{slots-one, slot-at, kept-agree, nodes-agree, view-nth}
-use Rattle.lentimage.proofs.OfFamily.{vectorsIn, lentIn, own-log, other-kept, own-kept}
+use Rattle.lentimage.proofs.OfFamily.{vectorsIn, lentIn, own-log, own-vectors, other-kept, own-kept}
 use Rattle.lentimage.proofs.OfCounted.{vectors-length}
 use Rattle.lentimage.proofs.OfBack.{put-rows, put-log, put-beside, slot-log}
+use Rattle.lentimage.proofs.OfAgain.{read-listed, put-again}
 
 formed-last : (x : Kept) → formedHeld (x .held) ≡ true → x .held .last ≤ 1024
 unfolding formedHeld
@@ -242,14 +243,28 @@ module _ (s : List ℕ) (n : Node) (k : Key) (formed : formedNode n ≡ true) (i
           (found-carried k (viewNode before n) (viewNode (after b) p) g carried (omega (arith, place)) e))
           (view-nth (after b) p at (omega arith) ∙ ap (λ (q : Kept). some (viewKept (after b) q)) row-after)
 
-      pub exit-store : (g : held.Held) → shardOf (viewNode (after b) p) k ≡ some g → storesPut s n p b at ≡ storeWith s x (g .replica .log)
+      pub exit-store : (g : held.Held) → shardOf (viewNode (after b) p) k ≡ some g → StoreAfter s (storesPut s n p b at) x g
       unfolding storePut storeWith
       exit-store g e =
           let l = logOf (b .columns) (y .held .last) in
-          let is : g .replica .log ≡ l =
-          ap (λ (q : held.Held). q .replica .log) (found g e)
-          ∙ own-log (storesIn s) slot b (y .slot) (eq-eqb (y .slot) slot (slot-same ∙ sym own)) (y .held .last) in
-          ap (λ (t : Bool). cond t (storePut s x y b) s) (lt-ltb at (n .count) under)
-          ∙ ap (rowsPut (logPut s (beginOf x) from l) (beginOf x)) (facts (storeOf b y) (w .well) .rows)
-          ∙ ap (λ (i : ℕ). rowsPut (logPut s (beginOf x) (min (x .held .last) i) l) (beginOf x) (playRows l)) (sym (log-length (b .columns) (y .held .last)))
-          ∙ ap (λ (z : Log). rowsPut (logPut s (beginOf x) (min (x .held .last) (length z)) z) (beginOf x) (playRows z)) (sym is)
+          let q = eq-eqb (y .slot) slot (slot-same ∙ sym own) in
+          let is : g .replica .log ≡ l = ap (λ (u : held.Held). u .replica .log) (found g e) ∙ own-log (storesIn s) slot b (y .slot) q (y .held .last) in
+          let vs : g .replica .vectors ≡ vectorsIn b (y .held .last) (y .stored) =
+          ap (λ (u : held.Held). u .replica .vectors) (found g e) ∙ own-vectors (storesIn s) slot b (y .slot) q (y .held .last) (y .stored) in
+          let put : storesPut s n p b at ≡ storePut s x y b = ap (λ (t : Bool). cond t (storePut s x y b) s) (lt-ltb at (n .count) under) in
+          let long : length (g .replica .log) ≡ y .held .last = ap length is ∙ log-length (b .columns) (y .held .last) in
+          let many : length (g .replica .vectors) ≡ y .stored =
+          ap length vs
+          ∙ vectors-length l (b .keys) (b .places) (y .stored) (w .sized .keys) (w .sized .places) (facts (storeOf b y) (w .well) .stored) in
+          record {
+            bytes =
+                put
+                ∙ ap (rowsPut (logPut s (beginOf x) from l) (beginOf x)) (facts (storeOf b y) (w .well) .rows)
+                ∙ ap (λ (i : ℕ). rowsPut (logPut s (beginOf x) (min (x .held .last) i) l) (beginOf x) (playRows l)) (sym (log-length (b .columns) (y .held .last)))
+                ∙ ap (λ (z : Log). rowsPut (logPut s (beginOf x) (min (x .held .last) (length z)) z) (beginOf x) (playRows z)) (sym is);
+            well =
+                ap (λ (t : List ℕ). wellFormedImage t (beginOf x) (length (g .replica .log)) (length (g .replica .vectors))) put
+                ∙ ap (λ (i : ℕ). wellFormedImage (storePut s x y b) (beginOf x) i (length (g .replica .vectors))) long
+                ∙ ap (wellFormedImage (storePut s x y b) (beginOf x) (y .held .last)) many
+                ∙ put-again s x y b there w f stand (read-listed s x well);
+          }

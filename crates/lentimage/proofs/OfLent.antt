@@ -1,6 +1,6 @@
 -- What `pick` found of the images and the test of the call found of the state is what the laws of the state at exit ask for. Assumes nothing.
 use Prim.Native.Nat.{ℕ, _-_, _≤_, _<_}
-use mathlib.Core.Path.{_≡_, sym, ap, _∙_}
+use mathlib.Core.Path.{_≡_, sym, ap, subst, _∙_}
 use mathlib.Core.Bool.{Bool, true, false, cond}
 use mathlib.Core.List.{List}
 use mathlib.Core.Option.{none, some}
@@ -31,8 +31,8 @@ use Rattle.lend.specs.Lend.{Lot, placeOf, slotOf, lentFor, Changes}
 use Rattle.headerimage.specs.Rows.{keptAt}
 use Rattle.headerimage.specs.Image.{noKept, headerLent, nodeAt}
 use Rattle.headerimage.specs.Becomes.{headerImage}
-use Rattle.lentimage.specs.Lent.{holds, readable, lotIn, lendsState, Puttable, Puts}
-use Rattle.lentimage.specs.State.{storesIn, stateAt, StateAfter}
+use Rattle.lentimage.specs.Lent.{holds, keptOf, readable, lotIn, lendsState, Puttable, Puts}
+use Rattle.lentimage.specs.State.{storesIn, stateAt, StoreAfter, StateAfter}
 use Rattle.lentimage.proofs.OfFamily.{lentIn, lent-changes}
 use Rattle.lentimage.proofs.OfCounted.{counted, counted-all, afterwards}
 use Rattle.lentimage.proofs.OfAfter.{Lent, lent-any, is-formed, left, Becomes, same-after, begun-after}
@@ -102,7 +102,8 @@ module _ {A : Type 0} (does : (Key → Bool) → held.Node → Result A held.Nod
         bytes =
             c .bytes (afterwards s (slotOf n k) b) (counted-all (lentIn (counted (storesIn s)) (slotOf n k) b))
             ∙ ap (λ (v : held.Node). sets h 0 (headerImage v (slotsOf p))) (e .counts ∙ sym is);
-        store = λ q g f. puts .stores ∙ e .store q g (sym (ap (λ (v : held.Node). shardOf v k) is) ∙ f);
+        store = λ q g f.
+            subst (λ (u : List ℕ). StoreAfter s u (keptOf n k) g) (sym (puts .stores)) (e .store q g (sym (ap (λ (v : held.Node). shardOf v k) is) ∙ f));
         none = λ q. puts .stores ∙ e .none q;
       }
 

@@ -20,7 +20,7 @@ use Rattle.header.specs.Seats.{slotsOf}
 use Rattle.lend.specs.Lend.{lentFor}
 use Rattle.headerimage.specs.Image.{headerLent, nodeAt}
 use Rattle.headerimage.specs.Becomes.{headerImage}
-use Rattle.storeimage.specs.Image.{storeSize, entryAt, logAt, rowsAt}
+use Rattle.storeimage.specs.Image.{storeSize, entryAt, logAt, rowsAt, wellFormedImage}
 use Rattle.storeimage.specs.Write.{logPut, rowsPut}
 use Rattle.lentimage.specs.Lent.{beginOf, holds, keptOf, lotIn}
 
@@ -38,6 +38,11 @@ storesIn s = record {
 unfoldable pub storeWith : List ℕ → Kept → Log → List ℕ
 storeWith s x l = rowsPut (logPut s (beginOf x) (min (x .held .last) (length l)) l) (beginOf x) (playRows l)
 
+-- s′ the stores with that of the shard x as the shard is then in g: its bytes, and that it passes the test of a store again (24)
+pub record StoreAfter (s s′ : List ℕ) (x : Kept) (g : held.Held) : Type 0 where
+  pub bytes : s′ ≡ storeWith s x (g .replica .log)
+  pub well : wellFormedImage s′ (beginOf x) (length (g .replica .log)) (length (g .replica .vectors)) ≡ true
+
 -- the state that the bytes are
 abbrev pub stateAt : (header stores : List ℕ) → held.Node
 stateAt h s = viewNode (storesIn s) (nodeAt h)
@@ -50,6 +55,5 @@ pub record StateAfter (A : Type 0) (does : (Key → Bool) → held.Node → Resu
   pub lent : headerLent h′ ≡ true
   pub seats : slotsOf (nodeAt h′) ≡ slots
   pub bytes : h′ ≡ sets h 0 (headerImage (stateAt h′ s′) slots)
-  pub store : holds (nodeAt h) key ≡ true → (g : held.Held) → shardOf (stateAt h′ s′) key ≡ some g
-      → s′ ≡ storeWith s (keptOf (nodeAt h) key) (g .replica .log)
+  pub store : holds (nodeAt h) key ≡ true → (g : held.Held) → shardOf (stateAt h′ s′) key ≡ some g → StoreAfter s s′ (keptOf (nodeAt h) key) g
   pub none : holds (nodeAt h) key ≡ false → s′ ≡ s
