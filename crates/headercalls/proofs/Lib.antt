@@ -1,5 +1,6 @@
 pub mod OfAsked
 pub mod OfLeaves
+pub mod OfStays
 pub mod OfCalls
 pub mod OfFresh
 pub mod OfWaits

@@ -4,13 +4,12 @@ use mathlib.Core.Bool.{Bool, true, false, not}
 use mathlib.Core.Path.{_≡_, refl, sym, ap, _∙_}
 use mathlib.Core.List.{List}
 use native.Mathlib.Omega.{arith}
-use lib.Dec.{leb, ltb}
+use lib.Dec.{ltb}
 use lib.ListN.{length, take, drop}
 use lib.Seq.{take-all}
 use borrow.Author.Tests.{leb-true, not-false}
 use Rattle.model.specs.Lists.{_and_, _or_}
 use Rattle.model.specs.Limits.{maxName, maxTime}
-use Rattle.model.specs.Keys.{Key}
 use Rattle.model.specs.Node.Calls.{lateTime}
 use Rattle.model.proofs.LayoutLaws.Tests.{and-left, false-not-true}
 use Rattle.rpcw.specs.Written.{textFits}

@@ -38,9 +38,10 @@ use Rattle.headercalls.specs.Asked.{keyNamed, imageAfter, Becomes}
 use Rattle.headercalls.specs.Grants.{grantNumber, isGranted, granted, GrantsImage}
 use Rattle.headercalls.specs.Acks.{sentAt, noReply, ackNumber, isAcked, acked, AcksImage}
 use Rattle.headercalls.specs.Settles.{proposalAt, outcomeNumber, isSettled, settled, SettlesImage}
-use Rattle.headercalls.specs.Waits.{WaitPut, waited, WaitsImage}
+use Rattle.headercalls.specs.Waits.{Left, isWaited, WaitPut, waited, WaitsImage}
 use Rattle.headercalls.specs.Shows.{isShown, ShowPut, shownAfter, ShowsImage}
 use Rattle.headercalls.proofs.OfLeaves.{leaves-slots, leaves-shown, shown-formed}
+use Rattle.headercalls.proofs.OfStays.{stays-of, unwritten, grant-stays, wait-stays, ack-stays, outcome-stays, shown-stays, wait-unwritten, show-unwritten}
 
 module _ (s : List ℕ) (l : Lent) (read : l ≡ lentHeader s) where
   pub as-lent : (b : Bool) → l .found ≡ b → headerLent s ≡ b
@@ -58,17 +59,23 @@ module _ (s : List ℕ) (l : Lent) (read : l ≡ lentHeader s) where
         → GrantsNode (l .node) i sent lease after → Keeps (l .node) (after .node)
         → (x : GrantAnswer) → after .answer ≡ x → r ≡ grantNumber x → t ≡ imageAfter (isGranted x) s (after .node)
         → (isGranted x ≡ true → Becomes s t (after .node)) → GrantsImage s t i sent lease r
-    grants-image t i sent lease r after call keeps x e a b g = record {
-      after = after;
-      call = on-lent (λ n. GrantsNode n i sent lease after) call;
-      keeps = on-lent (λ n. Keeps n (after .node)) keeps;
-      answer = a ∙ ap grantNumber (sym e);
-      image = b ∙ ap (λ (y : GrantAnswer). imageAfter (isGranted y) s (after .node)) (sym e);
-      leaves = λ d.
-          leaves-slots s t (as-lent true found) (after .node) (g (ap isGranted (sym e) ∙ d)) (λ st. granted s i sent lease st .after)
-          (λ st. ap (λ (w : Told GrantAnswer). w .node) (on-lent (λ n. GrantsNode n i sent lease after) call st))
-          (on-lent (λ n. Keeps n (after .node)) keeps);
-    }
+    grants-image t i sent lease r after call keeps x e a b g =
+        let on = on-lent (λ n. GrantsNode n i sent lease after) call in
+        let stay = on-lent (λ n. Keeps n (after .node)) keeps in
+        let put = b ∙ ap (λ (y : GrantAnswer). imageAfter (isGranted y) s (after .node)) (sym e) in
+        record {
+          after = after;
+          call = on;
+          keeps = stay;
+          answer = a ∙ ap grantNumber (sym e);
+          image = put;
+          leaves = λ d.
+              leaves-slots s t (as-lent true found) (after .node) (g (ap isGranted (sym e) ∙ d)) (λ st. granted s i sent lease st .after)
+              (λ st. ap (λ (w : Told GrantAnswer). w .node) (on st)) stay;
+          stays = λ d.
+              stays-of s t (unwritten s t (after .node) (isGranted (after .answer)) put d) (λ st. granted s i sent lease st .after)
+              (λ st. grant-stays s st i sent lease (ap (λ (w : Told GrantAnswer). isGranted (w .answer)) (sym (on st)) ∙ d));
+        }
 
     module _ (name : List ℕ) (shard : ℕ) (k : Key) (key : k ≡ keyNamed name shard) where
       pub settles-image : (t : List ℕ) (epoch peer command applied r : ℕ) (w : Proposal) → w ≡ proposalAt command → (after : NodeSettled)
@@ -80,15 +87,19 @@ module _ (s : List ℕ) (l : Lent) (read : l ≡ lentHeader s) where
           (subst (λ v. SettlesNode (nodeAt s) k epoch peer v (eqb applied 1) after) what
           (on-lent (λ n. SettlesNode n k epoch peer w (eqb applied 1) after) call)) in
           let stay = on-lent (λ n. Keeps n (after .node)) keeps in
+          let put = b ∙ ap (λ (y : OutcomeAnswer). imageAfter (isSettled y) s (after .node)) (sym e) in
           record {
             after = after;
             call = on;
             keeps = stay;
             answer = a ∙ ap outcomeNumber (sym e);
-            image = b ∙ ap (λ (y : OutcomeAnswer). imageAfter (isSettled y) s (after .node)) (sym e);
+            image = put;
             leaves = λ d.
                 leaves-slots s t (as-lent true found) (after .node) (g (ap isSettled (sym e) ∙ d))
                 (λ st. settled s name shard epoch peer command applied st .after) (λ st. ap (λ (w : Told OutcomeAnswer). w .node) (on st)) stay;
+            stays = λ d.
+                stays-of s t (unwritten s t (after .node) (isSettled (after .answer)) put d) (λ st. settled s name shard epoch peer command applied st .after)
+                (λ st. outcome-stays s st name shard epoch peer command applied (ap (λ (w : Told OutcomeAnswer). isSettled (w .answer)) (sym (on st)) ∙ d));
           }
 
       pub acks-image : (t reply : List ℕ) (epoch peer step r : ℕ) (w : Sent) → w ≡ sentAt step → (after : NodeAcked)
@@ -100,15 +111,19 @@ module _ (s : List ℕ) (l : Lent) (read : l ≡ lentHeader s) where
           (subst (λ v. HearsReply (nodeAt s) k epoch peer v reply after) sent
           (on-lent (λ n. HearsReply n k epoch peer w reply after) call)) in
           let stay = on-lent (λ n. Keeps n (after .node)) keeps in
+          let put = b ∙ ap (λ (y : AckAnswer). imageAfter (isAcked y) s (after .node)) (sym e) in
           record {
             after = after;
             call = on;
             keeps = stay;
             answer = a ∙ ap ackNumber (sym e);
-            image = b ∙ ap (λ (y : AckAnswer). imageAfter (isAcked y) s (after .node)) (sym e);
+            image = put;
             leaves = λ d.
                 leaves-slots s t (as-lent true found) (after .node) (g (ap isAcked (sym e) ∙ d))
                 (λ st. acked s name reply shard epoch peer step st .after) (λ st. ap (λ (w : Told AckAnswer). w .node) (on st)) stay;
+            stays = λ d.
+                stays-of s t (unwritten s t (after .node) (isAcked (after .answer)) put d) (λ st. acked s name reply shard epoch peer step st .after)
+                (λ st. ack-stays s st name shard epoch reply peer step (ap (λ (w : Told AckAnswer). isAcked (w .answer)) (sym (on st)) ∙ d));
           }
 
       pub waits-image : (t p q a b : List ℕ) (epoch offset now timeout r : ℕ) (after : NodeWaited)
@@ -126,6 +141,10 @@ module _ (s : List ℕ) (l : Lent) (read : l ≡ lentHeader s) where
             leaves = λ d.
                 leaves-slots s t (as-lent true found) (after .node) (e .becomes d)
                 (λ st. waited s name shard epoch offset now timeout st .after) (λ st. ap (λ (w : WaitTold). w .node) (on st)) stay;
+            stays = λ d.
+                stays-of s t (ap (λ (x : Left). x .header) (e .buffers) ∙ wait-unwritten (after .answer) s p a _ (after .node) d)
+                (λ st. waited s name shard epoch offset now timeout st .after)
+                (λ st. wait-stays s st name shard epoch offset now timeout (ap (λ (w : WaitTold). isWaited (w .answer)) (sym (on st)) ∙ d));
           }
 
 -- ---- the map that was read
@@ -153,6 +172,10 @@ module _ (m : List ℕ) (l : map.Lent) (read : l ≡ lentMap m) where
             let formed = shown-formed (nodeAt s) (mapAt m) fresh after on (and-left (isShown (after .answer)) _ d) in
             leaves-shown s t (as-lent s h is true found) (after .node) (e .becomes d) (shownAfter s m fresh)
             (λ st. ap (λ (w : ShownTold). w .node) (on .same st)) (on .seats formed);
+        stays = λ d.
+            stays-of s t (ap (λ (x : Left). x .header) (e .buffers) ∙ show-unwritten (after .answer) s p a _ (after .node) d)
+            (shownAfter s m fresh)
+            (λ st. shown-stays s st m fresh (ap (λ (w : ShownTold). isShown (w .answer)) (sym (on .same st)) ∙ d));
       }
 
 pub lent-first : (a b : Bool) → a ≡ false → (a and b) ≡ false

@@ -22,3 +22,8 @@ pub record Leaves (s t : List ℕ) (after : Stores → held.Node) (slots : Store
 -- a call that begins no shard and ends none: each has the slot that it had
 abbrev pub LeavesSlots : (s t : List ℕ) → (after : Stores → held.Node) → Type 0
 LeavesSlots s t after = Leaves s t after (λ st. slotsOf (nodeAt s))
+
+-- a refused call: no byte changes, and the model's node after it is the node before, as which the image is read
+pub record Stays (s t : List ℕ) (after : Stores → held.Node) : Type 0 where
+  pub bytes : t ≡ s
+  pub read : (st : Stores) → viewNode st (nodeAt t) ≡ after st

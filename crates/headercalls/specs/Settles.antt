@@ -21,7 +21,7 @@ use Rattle.header.specs.Seats.{Keeps}
 use Rattle.header.specs.Answers.{proposalOf, SettlesNode}
 use Rattle.headerimage.specs.Image.{headerLent, nodeAt}
 use Rattle.headercalls.specs.Asked.{keyNamed, unreadName, Asked, imageAfter}
-use Rattle.headercalls.specs.Leaves.{LeavesSlots}
+use Rattle.headercalls.specs.Leaves.{LeavesSlots, Stays}
 
 -- the commands' codes as in a request: 17 Shrink, 18 Expand (hexadecimal)
 abbrev pub proposalAt : ℕ → Proposal
@@ -52,6 +52,7 @@ pub record SettlesImage (s t name : List ℕ) (shard epoch peer command applied 
   pub answer : r ≡ outcomeNumber (after .answer)
   pub image : t ≡ imageAfter (isSettled (after .answer)) s (after .node)
   pub leaves : isSettled (after .answer) ≡ true → LeavesSlots s t (λ st. settled s name shard epoch peer command applied st .after)
+  pub stays : isSettled (after .answer) ≡ false → Stays s t (λ st. settled s name shard epoch peer command applied st .after)
 
 abbrev pub Settles : (s t name : List ℕ) → (shard epoch peer command applied r : ℕ) → Type 0
 Settles s t name shard epoch peer command applied r =

@@ -9,6 +9,7 @@ use Rattle.model.specs.Lists.{_and_}
 use Rattle.model.specs.Layout.Format.{bytesOf, encode, concatMap}
 use Rattle.model.specs.Layout.Parts.{keyF, keyValue, metricCode}
 use Rattle.model.specs.Node.Held as held
+use Rattle.model.specs.Node.Shards.{Result}
 use Rattle.model.specs.Node.Shown as show
 use Rattle.model.specs.Node.Calls as calls
 use Rattle.state.specs.View.{viewMap}
@@ -29,7 +30,7 @@ use Rattle.image.specs.Shape.{Stored}
 use Rattle.headerimage.specs.Image.{headerLent, nodeAt}
 use Rattle.mapimage.specs.Image.{mapLent, mapAt}
 use Rattle.headercalls.specs.Asked.{Asked, Becomes}
-use Rattle.headercalls.specs.Leaves.{Leaves}
+use Rattle.headercalls.specs.Leaves.{Leaves, Stays}
 use Rattle.headercalls.specs.Waits.{Left, left, rowsRoom, rowsPut}
 
 -- a worker to start, 54 bytes: its key as on the wire, the peer, the epoch, the metric's code
@@ -66,10 +67,13 @@ pub record ShowPut (s t p q a b : List ℕ) (x : NodeShown) (r : ℕ) : Type 0 w
   pub buffers : left r t q b ≡ showLeft s p a x
   pub becomes : showWrites p a x ≡ true → Becomes s t (x .node)
 
--- the model's node after the map, of the header and the map that the bytes are read as, and the slots of its shards
+-- the model's map shown, on the header and the map that the bytes are read as; the node after it, and the slots of its shards
+abbrev pub shownCall : (s m : List ℕ) → (fresh : ℕ) → Stores → Result show.ShownAnswer held.Node
+shownCall s m fresh st =
+    calls.shownWith (lentNode st (nodeAt s) and wellFormedLent (mapAt m)) (viewNode st (nodeAt s)) fresh (viewMap (mapAt m))
+
 abbrev pub shownAfter : (s m : List ℕ) → (fresh : ℕ) → Stores → held.Node
-shownAfter s m fresh st =
-    calls.shownWith (lentNode st (nodeAt s) and wellFormedLent (mapAt m)) (viewNode st (nodeAt s)) fresh (viewMap (mapAt m)) .after
+shownAfter s m fresh st = shownCall s m fresh st .after
 
 abbrev pub shownSlots : (s m : List ℕ) → (fresh : ℕ) → Stores → List ℕ
 shownSlots s m fresh st = slotsAfter (viewNode st (nodeAt s)) (slotsOf (nodeAt s)) (shownAfter s m fresh st)
@@ -80,6 +84,7 @@ pub record ShowsImage (s t m p q a b : List ℕ) (fresh r : ℕ) : Type 0 where
   pub call : HearsMap (nodeAt s) (mapAt m) fresh after
   pub buffers : left r t q b ≡ showLeft s p a after
   pub leaves : showWrites p a after ≡ true → Leaves s t (shownAfter s m fresh) (shownSlots s m fresh)
+  pub stays : isShown (after .answer) ≡ false → Stays s t (shownAfter s m fresh)
 
 abbrev pub Shows : (s t m p q a b : List ℕ) → (fresh r : ℕ) → Type 0
 Shows s t m p q a b fresh r =

@@ -1,5 +1,4 @@
 // An image after a call.
-ghost use mathlib.Core.Path.{_≡_};
 ghost use Rattle.headercalls.specs.Asked.{After};
 use header::Node;
 use headerimage::write_header;
