@@ -1,5 +1,7 @@
 pub mod OfNumbers
 pub mod OfLent
+pub mod Kept
+pub mod OfFormed
 pub mod OfApply
 pub mod OfEmpty
 pub mod OfLists

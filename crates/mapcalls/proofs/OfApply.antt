@@ -4,20 +4,25 @@ use mathlib.Core.Path.{_≡_, refl, sym, ap, subst, _∙_}
 use mathlib.Core.Bool.{Bool, true, false, cond}
 use mathlib.Core.List.{List}
 use mathlib.Core.Option.{Option, none}
+use lib.ListN.{length}
+use lib.Dec.{leb}
 use native.Mathlib.Omega.{arith}
-use borrow.Author.Tests.{lt-leb, le-leb, ne-eqb}
+use borrow.Author.Tests.{lt-leb, le-leb, leb-true, ne-eqb}
 use Rattle.model.specs.Map.Calls.{reasonNumber}
 use Rattle.model.specs.Layout.Parts.{whenever}
 use Rattle.model.specs.Layout.Request.{Request, decodeRequest}
-use Rattle.model.proofs.Lists.{not-both}
+use Rattle.model.proofs.Lists.{and-left, not-both}
 use Rattle.state.specs.View.{answerOf, viewRequest}
 use Rattle.state.specs.declared.ShardMap.{ShardMap}
 use Rattle.requests.specs.Read.{LoadedAll}
 use Rattle.requests.specs.declared.Loaded.{Loaded}
+use Rattle.mapcheck.specs.Lent.{wellFormedLent}
 use Rattle.settle.specs.declared.Settled.{Settled}
 use Rattle.apply.specs.Calls.{AppliesBytes, applyLent}
-use Rattle.mapimage.specs.Image.{mapAt, mapLent, mapWritten}
-use Rattle.mapcalls.specs.Calls.{unlentOf, unlentNumber, noted, AppliesTo}
+use Rattle.mapimage.specs.Image.{codesListed, mapAt, mapLent, mapStored, MapWrites}
+use Rattle.mapcalls.specs.Calls.{unlentOf, unlentNumber, noted, appliedTo, AppliesImage, AppliesTo}
+use Rattle.mapcalls.proofs.Kept.{unnoted-keeps}
+use Rattle.mapcalls.proofs.OfFormed.{image-formed}
 
 -- ---- which answers are remembered
 
@@ -51,16 +56,23 @@ unlent-way s bytes r f e = record {
   lent = λ t. not-both (mapLent s) t f;
 }
 
-module _ (s t bytes : List ℕ) (r : ℕ) (a : Settled) (given : mapLent s ≡ true) (called : AppliesBytes (mapAt s) bytes a)
-    (answer : r ≡ reasonNumber (answerOf (a .verdict))) (image : t ≡ cond (noted r) (mapWritten s (a .map)) s) where
-  undecoded-number : decodeRequest bytes ≡ none → r ≡ 21
-  undecoded-number n = answer ∙ ap reasonNumber (called .answer) ∙ ap (λ (o : Option Request). reasonNumber (applyLent (mapAt s) o .answer)) n
+-- an image that lends a map is whole
+room : (s : List ℕ) → mapLent s ≡ true → 26536 ≤ length s
+unfolding mapLent
+room s e = leb-true 26536 (length s) (and-left (leb 26536 (length s)) (codesListed s) e)
 
-  pub applied-way : AppliesTo s t bytes r
-  applied-way = record {
-    undecoded = λ n. (undecoded-number n, image ∙ ap (λ (k : ℕ). cond (noted k) (mapWritten s (a .map)) s) (undecoded-number n));
+module _ (s t bytes : List ℕ) (r : ℕ) (given : mapLent s ≡ true) (answer : r ≡ reasonNumber (appliedTo s bytes .answer)) where
+  undecoded-number : decodeRequest bytes ≡ none → r ≡ 21
+  undecoded-number n = answer ∙ ap (λ (o : Option Request). reasonNumber (applyLent (mapAt s) o .answer)) n
+
+  applied-way : AppliesImage s t bytes r → AppliesTo s t bytes r
+  applied-way x = record {
+    undecoded = λ n. (
+      undecoded-number n,
+      x .image ∙ ap (λ (k : ℕ). cond (noted k) (mapStored s (appliedTo s bytes .map)) s) (undecoded-number n),
+    );
     unlent = λ q n f. not-both (mapLent s) given f;
-    lent = λ _. record { after = a; called = called; answer = answer; image = image };
+    lent = λ _. x;
   }
 
 module _ (s bytes : List ℕ) (r : ℕ) (m : ShardMap) (a : Settled) (given : mapLent s ≡ true) (same : m ≡ mapAt s)
@@ -68,9 +80,28 @@ module _ (s bytes : List ℕ) (r : ℕ) (m : ShardMap) (a : Settled) (given : ma
   called-at : AppliesBytes (mapAt s) bytes a
   called-at = subst (λ (x : ShardMap). AppliesBytes x bytes a) same called
 
-  -- not remembered: no byte changes
-  pub kept-way : noted r ≡ false → AppliesTo s s bytes r
-  kept-way n = applied-way s s bytes r a given called-at answer (sym (ap (λ (b : Bool). cond b (mapWritten s (a .map)) s) n))
+  answer-at : r ≡ reasonNumber (appliedTo s bytes .answer)
+  answer-at = answer ∙ ap reasonNumber (called-at .answer)
 
-  pub written-way : (t : List ℕ) → noted r ≡ true → t ≡ mapWritten s (a .map) → AppliesTo s t bytes r
-  written-way t n e = applied-way s t bytes r a given called-at answer (e ∙ sym (ap (λ (b : Bool). cond b (mapWritten s (a .map)) s) n))
+  -- not remembered: no byte changes, and the map is as it was
+  pub kept-way : noted r ≡ false → AppliesTo s s bytes r
+  kept-way n = applied-way s s bytes r given answer-at (record {
+    answer = answer-at;
+    image = sym (ap (λ (b : Bool). cond b (mapStored s (appliedTo s bytes .map)) s) n);
+    lent = given;
+    read = sym (unnoted-keeps (mapAt s) (decodeRequest bytes) (sym (ap noted answer-at) ∙ n));
+    formed = λ w. w;
+  })
+
+  -- remembered: the map after is written
+  pub written-way : (t : List ℕ) → noted r ≡ true → MapWrites s t (a .map) → AppliesTo s t bytes r
+  written-way t n w =
+      let b = w .becomes (room s given) in
+      let e = called-at .map in
+      applied-way s t bytes r given answer-at (record {
+        answer = answer-at;
+        image = b .bytes ∙ ap (mapStored s) e ∙ sym (ap (λ (b : Bool). cond b (mapStored s (appliedTo s bytes .map)) s) n);
+        lent = b .lent;
+        read = b .read ∙ e;
+        formed = λ f. ap wellFormedLent (b .held) ∙ image-formed (a .map) (called-at .counted f) (called-at .formed f);
+      })

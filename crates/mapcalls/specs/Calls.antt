@@ -9,12 +9,13 @@ use lib.ListN.{length}
 use lib.Dec.{eqb, leb, ltb}
 use Rattle.model.specs.Refusals.{Refusal, undecodable, malformed, numberOf}
 use Rattle.model.specs.Map.Tables.{emptyMap}
+use Rattle.model.specs.Map.Apply.{Applied}
 use Rattle.model.specs.Map.Calls.{reasonNumber}
 use Rattle.model.specs.Layout.Request.{Request, decodeRequest}
-use Rattle.state.specs.View.{answerOf, viewMap}
-use Rattle.settle.specs.declared.Settled.{Settled}
-use Rattle.apply.specs.Calls.{AppliesBytes}
-use Rattle.mapimage.specs.Image.{mapAt, mapLent, mapWritten, noMap}
+use Rattle.state.specs.View.{viewMap}
+use Rattle.mapcheck.specs.Lent.{wellFormedLent}
+use Rattle.apply.specs.Calls.{applyLent}
+use Rattle.mapimage.specs.Image.{mapAt, mapLent, mapStored, MapBecomes}
 
 -- a refusal: its number, and the bytes as they were
 abbrev pub Refuses : Refusal → (s t : List ℕ) → ℕ → Type 0
@@ -34,13 +35,18 @@ unlentNumber bytes = unlentOf (decodeRequest bytes)
 abbrev pub noted : ℕ → Bool
 noted r = cond (eqb r 1) false (leb r 16)
 
--- apply's own contract on the map that the bytes are read as; the map after it is written back where it remembers the answer, and
--- otherwise no byte changes
+-- apply's own definition, on the map that the bytes are read as: its answer, and the map after
+abbrev pub appliedTo : (s bytes : List ℕ) → Applied
+appliedTo s bytes = applyLent (mapAt s) (decodeRequest bytes)
+
+-- where the map remembers the answer, the map after is stored in its one form, and otherwise no byte changes: so every byte at exit is given by
+-- the bytes at entry. The bytes at exit lend the map after, well formed where the map at entry was
 pub record AppliesImage (s t bytes : List ℕ) (r : ℕ) : Type 0 where
-  pub after : Settled
-  pub called : AppliesBytes (mapAt s) bytes after
-  pub answer : r ≡ reasonNumber (answerOf (after .verdict))
-  pub image : t ≡ cond (noted r) (mapWritten s (after .map)) s
+  pub answer : r ≡ reasonNumber (appliedTo s bytes .answer)
+  pub image : t ≡ cond (noted r) (mapStored s (appliedTo s bytes .map)) s
+  pub lent : mapLent t ≡ true
+  pub read : viewMap (mapAt t) ≡ appliedTo s bytes .map
+  pub formed : wellFormedLent (mapAt s) ≡ true → wellFormedLent (mapAt t) ≡ true
 
 -- 21 before the image is looked at, then 24 for a buffer that lends no map
 pub record AppliesTo (s t bytes : List ℕ) (r : ℕ) : Type 0 where
@@ -50,12 +56,10 @@ pub record AppliesTo (s t bytes : List ℕ) (r : ℕ) : Type 0 where
 
 -- ---- an empty map
 
--- a map without rows at version 0, in an image that lends it
+-- a map without rows at version 0
 pub record EmptiesImage (s t : List ℕ) (r : ℕ) : Type 0 where
   pub answer : r ≡ 0
-  pub image : t ≡ mapWritten s noMap
-  pub lent : mapLent t ≡ true
-  pub map : viewMap (mapAt t) ≡ emptyMap
+  pub becomes : MapBecomes s t emptyMap
 
 pub record Empties (s t : List ℕ) (r : ℕ) : Type 0 where
   pub short : ltb (length s) 26536 ≡ true → Refuses malformed s t r

@@ -3,7 +3,8 @@
 ghost use mathlib.Core.Path.{_≡_};
 ghost use Prim.Native.Nat.{_≤_};
 ghost use lib.ListN.{length};
-ghost use Rattle.mapimage.specs.Image.{mapPut, noMap};
+ghost use Rattle.model.specs.Map.Tables.{emptyMap};
+ghost use Rattle.mapimage.specs.Image.{mapStored};
 ghost use Rattle.mapcalls.specs.Calls.{AppliesTo, Empties, unlentNumber};
 ghost use Rattle.mapcalls.specs.Places.{Places, Replaces};
 use crate::lists::answer_lists;
@@ -25,7 +26,7 @@ mod replaced;
 // Version and counts of a map without rows.
 fn put_empty(map: &mut [u8])
     requires { ⌜ 26536 ≤ length (now map) ⌝ }
-    ensures { λ r. ⌜ now (map .exit) ≡ mapPut (now (map .entry)) noMap ⌝ }
+    ensures { λ r. ⌜ now (map .exit) ≡ mapStored (now (map .entry)) emptyMap ⌝ }
 {
     num::put8(map, 0, 0);
     num::put8(map, 8, 0);

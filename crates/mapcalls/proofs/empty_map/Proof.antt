@@ -14,7 +14,7 @@ same-length : tie.Need-same-length
 same-length c = search needs
 
 returns-2 : tie.Need-returns-2
-returns-2 c = empty-way (c .before .before .before .before .before .before .args .map .now) _ (c .before .before .before .before .if1 .left) (c .before .before .put-empty .kept .0) (c .before .before .put-empty .ensures)
+returns-2 c = empty-way (c .before .before .before .before .before .before .args .map .now) _ (c .before .before .before .before .if1 .left) (c .before .before .put-empty .ensures)
 
 pub empty-map-spec : {M : Type 1} → statement M
 empty-map-spec = tie.close (tie.spec returns put-empty-requires same-length returns-2)
