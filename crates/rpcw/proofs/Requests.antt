@@ -1,15 +1,15 @@
 -- Requests: the bytes before a command's operands, and the operands. Assumes nothing.
-use Prim.Native.Nat.{ℕ, suc, _+_, _%_, _≤_, _<_}
+use Prim.Native.Nat.{ℕ, suc, _+_, _%_, _≤_}
 use mathlib.Core.Path.{_≡_, refl, sym, ap, _∙_}
-use mathlib.Core.List.{List, [], _∷_, _++_, append-assoc}
-use lib.ListN.{length, getD, set, length-append}
+use mathlib.Core.List.{List, [], _∷_, _++_}
+use lib.ListN.{length, length-append}
 use lib.Seq.{sets}
 use native.Mathlib.Omega.{arith}
-use Rattle.model.specs.Keys.{Key}
-use Rattle.model.specs.Layout.Format.{Bytes, Format, Value, text, _▸_, bytesOf, concatMap, encode}
-use Rattle.model.specs.Layout.Parts.{u64, keyF, nameF, addressF, keyValue}
+use Rattle.model.specs.Layout.Format.{Bytes, text, bytesOf, concatMap, encode}
+use Rattle.model.specs.Layout.Parts.{keyF, nameF}
 use Rattle.model.specs.Layout.Request.{addF, ownershipF, registerF, benchF, addReplica, bench, dropCollection, encodeRequest, markDead, register}
-use Rattle.rpcw.specs.Requests.{requestGiven, changeGiven, changeCode, requestHead}
+use Rattle.rpcw.specs.Requests.{requestGiven, changeGiven, changeCode}
+use Rattle.rpcput.specs.Fields.{requestHead}
 use Rattle.rpcw.specs.Written.{keyGiven}
 use Rattle.rpcw.specs.declared.Change.{Change}
 use Rattle.rpcw.specs.declared.Change.the-variants.{Remove, Promote, Shrink, Expand}
@@ -25,10 +25,6 @@ module _ (i c s k : ℕ) (o : List ℕ) where
 
   pub request-put : (l : List ℕ) → sets (sets l 0 (requestHead i c s k)) 26 o ≡ sets l 0 requestBytes
   request-put l = sets-then l 0 26 (requestHead i c s k) o refl
-
-pub request-head-put : (l : List ℕ) (i c s k : ℕ)
-    → set (sets (sets (sets (set l 0 1) 1 (bytesOf 8 i)) 9 (bytesOf 8 c)) 17 (bytesOf 8 s)) 25 k ≡ sets l 0 (requestHead i c s k)
-request-head-put l i c s k = refl
 
 -- ---- operands
 

@@ -1,8 +1,6 @@
 -- The requests of 01 as a writer is handed them.
 use Prim.Native.Nat.{ℕ}
-use mathlib.Core.List.{List, [], _∷_, _++_}
 use Rattle.model.specs.Keys.{Key}
-use Rattle.model.specs.Layout.Format.{bytesOf}
 use Rattle.model.specs.Layout.Request.{Command, removeReplica, promotePrimary, shrinkInSync, expandInSync, Request}
 use Rattle.rpcw.specs.declared.Change.{Change}
 use Rattle.rpcw.specs.declared.Change.the-variants.{Remove, Promote, Shrink, Expand}
@@ -22,7 +20,3 @@ changeCode Remove = 0x15
 changeCode Promote = 0x16
 changeCode Shrink = 0x17
 changeCode Expand = 0x18
-
--- the bytes before a command's operands
-abbrev pub requestHead : (index client seq c : ℕ) → List ℕ
-requestHead index client seq c = 0x01 ∷ (bytesOf 8 index ++ (bytesOf 8 client ++ (bytesOf 8 seq ++ (c ∷ []))))

@@ -1,16 +1,13 @@
 -- What a writer answers and leaves in the buffer: all of a message's bytes from the start, or nothing. A value that the
 -- layout cannot carry is `Unfit`: a text too long or with a byte outside 20 to 7E, a count outside its limits.
-use Prim.Native.Nat.{ℕ, _+_, _*_}
+use Prim.Native.Nat.{ℕ}
 use mathlib.Core.Path.{_≡_}
-use mathlib.Core.Bool.{Bool, true, false, cond}
+use mathlib.Core.Bool.{Bool, cond}
 use mathlib.Core.List.{List}
 use lib.ListN.{length}
 use lib.Seq.{sets}
 use lib.Dec.{leb}
-use Rattle.model.specs.Lists.{_and_}
-use Rattle.model.specs.Layout.Format.{encode, inRange}
-use Rattle.model.specs.Layout.Parts.{opF, opValue, WireOp, wireUpsert, wireDelete}
-use Rattle.model.specs.Keys.{Key}
+use Rattle.model.specs.Layout.Parts.{WireOp}
 use Rattle.model.specs.Layout.Message.{Replicated, Write, Query}
 use Rattle.model.specs.Layout.Message as message
 use Rattle.model.specs.declared.Epoch.{Epoch}
@@ -19,31 +16,8 @@ use Rattle.rpcw.specs.declared.Reply.{Reply}
 use Rattle.rpcw.specs.declared.Reply.the-variants.{Stored, Gap, StaleEpoch, Adopted}
 use Rattle.rpcw.specs.declared.Wrote.{Wrote}
 use Rattle.rpcw.specs.declared.Wrote.the-variants.{Bytes, Short, Unfit}
-
--- a name or an address that the layout carries
-unfoldable pub textFits : ℕ → List ℕ → Bool
-textFits c v = leb (length v) c and inRange 0x20 0x7E v
-
--- a count within its limits
-unfoldable pub countFits : (lo hi n : ℕ) → Bool
-countFits lo hi n = leb lo n and leb n hi
-
--- an operation as a writer is handed it: an Upsert with its vector's bits, or a Delete
-abbrev pub wireOf : Bool → ℕ → List ℕ → WireOp
-wireOf true id bits = wireUpsert id bits
-wireOf false id bits = wireDelete id
-
-abbrev pub opBytes : Bool → ℕ → List ℕ → List ℕ
-opBytes upsert id bits = encode opF (opValue (wireOf upsert id bits))
-
--- an operation that the layout carries, by how many components it has, and how many bytes it takes
-abbrev pub opFits : Bool → ℕ → Bool
-opFits true n = countFits 1 32 n
-opFits false n = true
-
-abbrev pub opSize : Bool → ℕ → ℕ
-opSize true n = 10 + 4 * n
-opSize false n = 9
+unfoldable pub use Rattle.rpcput.specs.Fields.{textFits, countFits}
+pub use Rattle.rpcput.specs.Fields.{wireOf, opBytes, opFits, opSize, keyGiven}
 
 -- the answer for n bytes and a buffer of w
 abbrev pub answered : (fit : Bool) (n w : ℕ) → Wrote
@@ -59,9 +33,6 @@ pub record Written (fit : Bool) (bs before after : List ℕ) (r : Wrote) : Type 
   pub bytes : after ≡ left fit bs before
 
 -- ---- messages as a writer is handed them
-
-abbrev pub keyGiven : List ℕ → ℕ → Key
-keyGiven name shard = record { collection = name; shard = shard }
 
 abbrev pub replicateGiven : List ℕ → ℕ → Epoch → Offset → WireOp → Replicated
 replicateGiven name shard epoch offset op =

@@ -1,101 +1,20 @@
-// The writer of 01 with the command 10: a placement handed over as columns (specs/Placed.antt).
-ghost use mathlib.Core.Path.{_≡_};
-ghost use mathlib.Core.Bool.{true};
-ghost use Prim.Native.Nat.{_+_, _*_, _≤_};
-ghost use lib.ListN.{length};
-ghost use lib.Seq.{sets};
+// The writer of 01 with the command 10: a placement handed over as columns (`rpcput` specs/Placed.antt).
 ghost use Rattle.model.specs.Lists.{_and_};
 ghost use Rattle.model.specs.Layout.Request.{encodeRequest};
-ghost use Rattle.rpcw.specs.Placed.{createGiven, createHead, listsBytes, listsFit, listsLong, listsSize};
+ghost use Rattle.rpcput.specs.Placed.{createGiven, listsFit, listsLong};
 ghost use Rattle.rpcw.specs.Requests.{requestGiven};
-ghost use Rattle.rpcw.specs.Written.{Written, countFits, textFits};
+ghost use Rattle.rpcw.specs.Written.{Written};
+ghost use Rattle.rpcput.specs.Fields.{countFits, textFits};
 use crate::Wrote;
-use crate::entry::put_list;
-use crate::fit::count_fits;
-use crate::fit::text_fits;
-use crate::put::put_byte;
-use crate::put::put_text;
-use crate::request::put_request_head;
-use crate::table::metric_code;
 use model::Metric;
-
-// Internal: whether each of the first n lists has at most 8 nodes.
-fn lists_fit(counts: &[u8], n: usize) -> bool
-    requires { ⌜ n ≤ length (now counts) ⌝ }
-    ensures { λ r. ⌜ r ≡ listsFit (now (counts .entry)) n 0 ⌝ }
-{
-    let mut i = 0;
-    while i < n {
-        if 8 < counts[i] {
-            return false;
-        }
-        i += 1;
-    }
-    true
-}
-
-// Internal: the bytes that the first n lists take.
-fn lists_size(counts: &[u8], n: usize) -> usize
-    requires { ⌜ (n ≤ length (now counts)) × (n ≤ 16) × (listsFit (now counts) n 0 ≡ true) ⌝ }
-    ensures { λ r. ⌜ r ≡ listsSize (now (counts .entry)) n 0 ⌝ }
-{
-    let mut total: usize = 0;
-    let mut i = 0;
-    while i < n {
-        let len = counts[i] as usize;
-        total += 1 + 8 * len;
-        i += 1;
-    }
-    total
-}
-
-// Internal: whether both columns have n lists, the nodes 8 for each.
-fn lists_long(counts: &[u8], nodes: &[u64], n: usize) -> bool
-    requires { ⌜ n ≤ 16 ⌝ }
-    ensures { λ r. ⌜ r ≡ listsLong (now (counts .entry)) (now (nodes .entry)) n ⌝ }
-{
-    if counts.len() < n {
-        return false;
-    }
-    8 * n <= nodes.len()
-}
-
-// Internal: the first n lists, one after the other.
-fn put_lists(out: &mut [u8], at: usize, counts: &[u8], nodes: &[u64], n: usize)
-    requires { ⌜ (at + listsSize (now counts) n 0 ≤ length (now out)) × (n ≤ length (now counts)) × (8 * n ≤ length (now nodes)) × (listsFit (now counts) n 0 ≡ true) × (n ≤ 16) ⌝ }
-    ensures { λ r. ⌜ now (out .exit) ≡ sets (now (out .entry)) at (listsBytes (now (counts .entry)) (now (nodes .entry)) n 0) ⌝ }
-{
-    let mut p = at;
-    let mut i = 0;
-    while i < n {
-        let len = counts[i] as usize;
-        let from = 8 * i;
-        put_list(out, p, &nodes[from..from + len]);
-        p += 1 + 8 * len;
-        i += 1;
-    }
-}
-
-// Internal: the operands before the lists: name, dimension, metric, shards, replication and how many lists follow.
-fn put_create_head(
-    out: &mut [u8],
-    name: &[u8],
-    dimension: u32,
-    metric: Metric,
-    shards: u32,
-    replication: u32,
-    n: u8,
-)
-    requires { ⌜ (73 ≤ length (now out)) × (length (now name) ≤ 32) ⌝ }
-    ensures { λ r. ⌜ now (out .exit) ≡ sets (now (out .entry)) 26 (createHead (now (name .entry)) dimension metric shards replication n) ⌝ }
-{
-    put_text(out, 26, 32, name);
-    num::put4(out, 59, dimension);
-    put_byte(out, 63, metric_code(metric));
-    num::put4(out, 64, shards);
-    num::put4(out, 68, replication);
-    put_byte(out, 72, n);
-}
+use rpcput::fit::count_fits;
+use rpcput::fit::text_fits;
+use rpcput::lists::lists_fit;
+use rpcput::lists::lists_long;
+use rpcput::lists::lists_size;
+use rpcput::lists::put_create_head;
+use rpcput::lists::put_lists;
+use rpcput::put::put_request_head;
 
 // 10 Create: name, dimension, metric, shards, replication, the first n lists of the columns.
 pub fn write_create(

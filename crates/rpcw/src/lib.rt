@@ -1,13 +1,12 @@
 // The message layout of paper 01, 'Bytes on the wire': the writer. Every kind is written into a lent buffer, whole
 // or not at all: a buffer that is too short is answered so and left as it was, and so is a value that the layout
 // cannot carry (specs/Written.antt). What is written is model's `encode` of the kind. The lists of 10, the table of 21
-// and the entries of 22 are handed over as columns.
+// and the entries of 22 are handed over as columns. What fits, and the stores of the fields, are crate `rpcput`.
 use model::Epoch;
 use model::Offset;
 
 pub mod copy;
 pub mod create;
-mod entry;
 pub mod fit;
 pub mod message;
 pub mod put;

@@ -4,19 +4,20 @@ ghost use mathlib.Core.Bool.{true};
 ghost use lib.ListN.{length};
 ghost use Rattle.model.specs.Lists.{_and_};
 ghost use Rattle.model.specs.Layout.Message.{encodeReplicate, encodeReply, encodeSearch, encodeWrite};
-ghost use Rattle.rpcw.specs.Written.{Written, countFits, opFits, replicateGiven, replyCode, replyGiven, replyNumber, searchGiven, textFits, wireOf, writeGiven};
+ghost use Rattle.rpcw.specs.Written.{Written, replicateGiven, replyCode, replyGiven, replyNumber, searchGiven, writeGiven};
+ghost use Rattle.rpcput.specs.Fields.{countFits, opFits, textFits, wireOf};
 use crate::Reply;
 use crate::Wrote;
-use crate::fit::count_fits;
-use crate::fit::op_fits;
-use crate::fit::op_size;
-use crate::fit::text_fits;
-use crate::put::put_byte;
-use crate::put::put_head;
-use crate::put::put_op;
-use crate::put::put_words4;
 use model::Epoch;
 use model::Offset;
+use rpcput::fit::count_fits;
+use rpcput::fit::op_fits;
+use rpcput::fit::op_size;
+use rpcput::fit::text_fits;
+use rpcput::put::put_byte;
+use rpcput::put::put_head;
+use rpcput::put::put_op;
+use rpcput::put::put_words4;
 
 // 20: key epoch offset op.
 pub fn write_replicate(

@@ -1,35 +1,21 @@
 // The writers of 01, one a command; Create's is in create.rt.
 ghost use mathlib.Core.Path.{_≡_};
 ghost use mathlib.Core.Bool.{true};
-ghost use Prim.Native.Nat.{_≤_};
 ghost use lib.ListN.{length};
-ghost use lib.Seq.{sets};
-ghost use Rattle.model.specs.Lists.{_and_};
 ghost use Rattle.model.specs.Layout.Request.{addReplica, bench, dropCollection, encodeRequest, markDead, register};
-ghost use Rattle.rpcw.specs.Requests.{changeCode, changeGiven, requestGiven, requestHead};
-ghost use Rattle.rpcw.specs.Written.{Written, countFits, keyGiven, textFits};
+ghost use Rattle.rpcw.specs.Requests.{changeCode, changeGiven, requestGiven};
+ghost use Rattle.rpcw.specs.Written.{Written};
+ghost use Rattle.rpcput.specs.Fields.{countFits, keyGiven, textFits};
 use crate::Change;
 use crate::Wrote;
-use crate::fit::count_fits;
-use crate::fit::text_fits;
-use crate::put::put_byte;
-use crate::put::put_bytes;
-use crate::put::put_key;
-use crate::put::put_text;
 use model::DataNodeId;
 use model::Epoch;
-
-// Internal: code, index, client, seq and the command's code: 26 bytes.
-pub fn put_request_head(out: &mut [u8], index: u64, client: u64, seq: u64, c: u8)
-    requires { ⌜ 26 ≤ length (now out) ⌝ }
-    ensures { λ r. ⌜ now (out .exit) ≡ sets (now (out .entry)) 0 (requestHead index client seq c) ⌝ }
-{
-    put_byte(out, 0, 1);
-    num::put8(out, 1, index);
-    num::put8(out, 9, client);
-    num::put8(out, 17, seq);
-    put_byte(out, 25, c);
-}
+use rpcput::fit::count_fits;
+use rpcput::fit::text_fits;
+use rpcput::put::put_bytes;
+use rpcput::put::put_key;
+use rpcput::put::put_request_head;
+use rpcput::put::put_text;
 
 // 11 Drop: name.
 pub fn write_drop(out: &mut [u8], index: u64, client: u64, seq: u64, name: &[u8]) -> Wrote

@@ -12,9 +12,9 @@ use borrow.Author.Tests.{not-true, not-false}
 use mathlib.Core.List.{map}
 use Rattle.model.specs.Layout.Message.{encodeCopyShard}
 use Rattle.model.specs.Layout.Parts.{entryValue}
-use Rattle.rpcw.specs.Rows.{rowsFit, rowsGiven, longEnough, copyGiven}
+use Rattle.rpcput.specs.Rows.{rowsFit, rowsGiven, longEnough, copyGiven}
 use Rattle.rpcw.proofs.Writes.{text-short, fits-count, headBytes, message-length, message-put, no-first, no-second}
-use Rattle.rpcw.proofs.Rows.{long, copy-put, copy-length, long-bits, rows-small}
+use Rattle.rpcput.proofs.Rows.{long, copy-put, copy-length, long-bits, rows-small}
 use Rattle.rpcw.proofs.copy.write_copy_shard.Statement.{statement}
 use Rattle.rpcw.proofs.copy.write_copy_shard.Tie as tie
 

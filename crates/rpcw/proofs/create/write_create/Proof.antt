@@ -5,10 +5,11 @@ use mathlib.Core.Bool.{true}
 use native.Mathlib.Omega.{arith}
 use borrow.Author.Needs.{needs}
 use borrow.Author.Tests.{not-true, not-false}
-use Rattle.rpcw.specs.Placed.{listsFit, listsLong}
+use Rattle.rpcput.specs.Placed.{listsFit, listsLong}
 use Rattle.rpcw.specs.Written.{textFits, countFits}
 use Rattle.rpcw.proofs.Writes.{text-short, fits-count, unfit, no-first, no-second}
-use Rattle.rpcw.proofs.Placed.{lists-small, long-counts, long-nodes, create-short, create-wrote}
+use Rattle.rpcput.proofs.Placed.{lists-small, long-counts, long-nodes}
+use Rattle.rpcw.proofs.Placed.{create-short, create-wrote}
 use Rattle.rpcw.proofs.create.write_create.Statement.{statement}
 use Rattle.rpcw.proofs.create.write_create.Tie as tie
 

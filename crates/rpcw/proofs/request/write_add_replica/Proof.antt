@@ -9,7 +9,8 @@ use Rattle.rpcw.specs.Written.{textFits}
 use Rattle.rpcw.proofs.Writes.{unfit, short, wrote}
 use borrow.Author.Tests.{not-true, not-false}
 use Rattle.model.specs.Layout.Request.{addReplica, encodeRequest, addF}
-use Rattle.rpcw.specs.Requests.{requestGiven, requestHead}
+use Rattle.rpcw.specs.Requests.{requestGiven}
+use Rattle.rpcput.specs.Fields.{requestHead}
 use Rattle.rpcw.specs.Written.{keyGiven}
 use Rattle.rpcw.proofs.Writes.{text-short}
 use Rattle.rpcw.proofs.Requests.{request-length, request-put, add-put, add-length, add-bytes}

@@ -9,7 +9,8 @@ use Rattle.rpcw.specs.Written.{countFits}
 use Rattle.rpcw.proofs.Writes.{unfit, short, wrote}
 use borrow.Author.Tests.{not-true, not-false}
 use Rattle.model.specs.Layout.Request.{bench, encodeRequest, benchF}
-use Rattle.rpcw.specs.Requests.{requestGiven, requestHead}
+use Rattle.rpcw.specs.Requests.{requestGiven}
+use Rattle.rpcput.specs.Fields.{requestHead}
 use Rattle.rpcw.proofs.Writes.{fits-count}
 use Rattle.rpcw.proofs.Requests.{request-length, request-put, bench-put, bench-length, bench-bytes}
 use Rattle.rpcw.proofs.request.write_bench.Statement.{statement}

@@ -9,7 +9,8 @@ use Rattle.rpcw.specs.Written.{textFits}
 use Rattle.rpcw.proofs.Writes.{unfit, short, wrote}
 use borrow.Author.Tests.{not-true, not-false}
 use Rattle.model.specs.Layout.Request.{encodeRequest, ownershipF}
-use Rattle.rpcw.specs.Requests.{requestGiven, changeGiven, changeCode, requestHead}
+use Rattle.rpcw.specs.Requests.{requestGiven, changeGiven, changeCode}
+use Rattle.rpcput.specs.Fields.{requestHead}
 use Rattle.rpcw.specs.Written.{keyGiven}
 use Rattle.rpcw.proofs.Writes.{text-short}
 use Rattle.rpcw.proofs.Requests.{request-length, request-put, change-put, change-length, change-bytes}

@@ -9,7 +9,8 @@ use borrow.Author.Needs.{needs}
 use Rattle.model.specs.Layout.Format.{bytesOf}
 use Rattle.rpcw.proofs.Writes.{short, wrote}
 use Rattle.model.specs.Layout.Request.{encodeRequest, markDead}
-use Rattle.rpcw.specs.Requests.{requestGiven, requestHead}
+use Rattle.rpcw.specs.Requests.{requestGiven}
+use Rattle.rpcput.specs.Fields.{requestHead}
 use Rattle.rpcw.proofs.Requests.{request-length, request-put, dead-put, dead-bytes}
 use Rattle.rpcw.proofs.request.write_mark_dead.Statement.{statement}
 use Rattle.rpcw.proofs.request.write_mark_dead.Tie as tie

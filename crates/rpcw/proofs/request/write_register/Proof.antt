@@ -9,7 +9,8 @@ use Rattle.rpcw.specs.Written.{textFits}
 use Rattle.rpcw.proofs.Writes.{unfit, short, wrote}
 use borrow.Author.Tests.{not-true, not-false}
 use Rattle.model.specs.Layout.Request.{encodeRequest, register, registerF}
-use Rattle.rpcw.specs.Requests.{requestGiven, requestHead}
+use Rattle.rpcw.specs.Requests.{requestGiven}
+use Rattle.rpcput.specs.Fields.{requestHead}
 use Rattle.rpcw.proofs.Writes.{text-short}
 use Rattle.rpcw.proofs.Requests.{request-length, request-put, register-put, register-length, register-bytes}
 use Rattle.rpcw.proofs.request.write_register.Statement.{statement}

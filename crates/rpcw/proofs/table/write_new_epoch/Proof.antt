@@ -15,9 +15,9 @@ use Rattle.rpcw.proofs.Writes.{unfit, short, wrote}
 use borrow.Author.Tests.{not-true, not-false}
 use Rattle.model.specs.Layout.Message.{encodeNewEpoch}
 use Rattle.model.specs.Layout.Parts.{metricCode, endValue}
-use Rattle.rpcw.specs.Tables.{endsGiven, newEpochGiven}
+use Rattle.rpcput.specs.Tables.{endsGiven, newEpochGiven}
 use Rattle.rpcw.proofs.Writes.{text-short, fits-count, headBytes, message-length, message-put, no-first, no-second}
-use Rattle.rpcw.proofs.Pairs.{new-epoch-put, new-epoch-length}
+use Rattle.rpcput.proofs.Pairs.{new-epoch-put, new-epoch-length}
 use mathlib.Core.List.{map}
 use Rattle.rpcw.proofs.table.write_new_epoch.Statement.{statement}
 use Rattle.rpcw.proofs.table.write_new_epoch.Tie as tie

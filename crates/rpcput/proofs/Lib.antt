@@ -1,0 +1,5 @@
+pub mod Writes
+pub mod Pairs
+pub mod Entries
+pub mod Rows
+pub mod Placed

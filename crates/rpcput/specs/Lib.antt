@@ -1,0 +1,5 @@
+pub mod Fields
+pub mod Tables
+pub mod Entries
+pub mod Rows
+pub mod Placed
