@@ -23,6 +23,7 @@ use Rattle.header.specs.declared.NodeWaited.{NodeWaited}
 use Rattle.header.specs.declared.NodeAcked.{NodeAcked}
 use Rattle.header.specs.Answers.{Told, GrantsNode, SettlesNode, WaitTold, WaitsNode}
 use Rattle.header.specs.Seats.{Keeps}
+use Rattle.header.proofs.OfLists.{by-case}
 use Rattle.hears.specs.declared.Heard.{Heard}
 use Rattle.hears.specs.declared.Heard.the-variants as H
 use Rattle.hears.specs.Hears.{heardOf, HearsMap, HearsReply}
@@ -38,9 +39,10 @@ use Rattle.headercalls.specs.Asked.{keyNamed, imageAfter, Becomes}
 use Rattle.headercalls.specs.Grants.{grantNumber, isGranted, granted, GrantsImage}
 use Rattle.headercalls.specs.Acks.{sentAt, noReply, ackNumber, isAcked, acked, AcksImage}
 use Rattle.headercalls.specs.Settles.{proposalAt, outcomeNumber, isSettled, settled, SettlesImage}
-use Rattle.headercalls.specs.Waits.{Left, isWaited, WaitPut, waited, WaitsImage}
+use Rattle.headercalls.specs.Waits.{Left, isWaited, waitWrites, WaitPut, waited, WaitsImage}
 use Rattle.headercalls.specs.Shows.{isShown, ShowPut, shownAfter, ShowsImage}
-use Rattle.headercalls.proofs.OfLeaves.{leaves-slots, leaves-shown, shown-formed}
+use Rattle.headercalls.proofs.OfLeaves.{lent-long, leaves-slots, leaves-shown, shown-formed}
+use Rattle.headercalls.proofs.OfKept.{formed-put, formed-left, wait-left}
 use Rattle.headercalls.proofs.OfStays.{stays-of, unwritten, grant-stays, wait-stays, ack-stays, outcome-stays, shown-stays, wait-unwritten, show-unwritten}
 
 module _ (s : List ℕ) (l : Lent) (read : l ≡ lentHeader s) where
@@ -75,6 +77,9 @@ module _ (s : List ℕ) (l : Lent) (read : l ≡ lentHeader s) where
           stays = λ d.
               stays-of s t (unwritten s t (after .node) (isGranted (after .answer)) put d) (λ st. granted s i sent lease st .after)
               (λ st. grant-stays s st i sent lease (ap (λ (w : Told GrantAnswer). isGranted (w .answer)) (sym (on st)) ∙ d));
+          formed = by-case (isGranted (after .answer))
+              (λ d. formed-put s t _ (after .node) (g (ap isGranted (sym e) ∙ d) (lent-long s (as-lent true found))) stay (λ st. ap (λ (w : Told GrantAnswer). w .node) (on st)))
+              (λ d. formed-left s t _ (unwritten s t (after .node) (isGranted (after .answer)) put d));
         }
 
     module _ (name : List ℕ) (shard : ℕ) (k : Key) (key : k ≡ keyNamed name shard) where
@@ -100,6 +105,9 @@ module _ (s : List ℕ) (l : Lent) (read : l ≡ lentHeader s) where
             stays = λ d.
                 stays-of s t (unwritten s t (after .node) (isSettled (after .answer)) put d) (λ st. settled s name shard epoch peer command applied st .after)
                 (λ st. outcome-stays s st name shard epoch peer command applied (ap (λ (w : Told OutcomeAnswer). isSettled (w .answer)) (sym (on st)) ∙ d));
+            formed = by-case (isSettled (after .answer))
+                (λ d. formed-put s t _ (after .node) (g (ap isSettled (sym e) ∙ d) (lent-long s (as-lent true found))) stay (λ st. ap (λ (w : Told OutcomeAnswer). w .node) (on st)))
+                (λ d. formed-left s t _ (unwritten s t (after .node) (isSettled (after .answer)) put d));
           }
 
       pub acks-image : (t reply : List ℕ) (epoch peer step r : ℕ) (w : Sent) → w ≡ sentAt step → (after : NodeAcked)
@@ -124,6 +132,9 @@ module _ (s : List ℕ) (l : Lent) (read : l ≡ lentHeader s) where
             stays = λ d.
                 stays-of s t (unwritten s t (after .node) (isAcked (after .answer)) put d) (λ st. acked s name reply shard epoch peer step st .after)
                 (λ st. ack-stays s st name shard epoch reply peer step (ap (λ (w : Told AckAnswer). isAcked (w .answer)) (sym (on st)) ∙ d));
+            formed = by-case (isAcked (after .answer))
+                (λ d. formed-put s t _ (after .node) (g (ap isAcked (sym e) ∙ d) (lent-long s (as-lent true found))) stay (λ st. ap (λ (w : Told AckAnswer). w .node) (on st)))
+                (λ d. formed-left s t _ (unwritten s t (after .node) (isAcked (after .answer)) put d));
           }
 
       pub waits-image : (t p q a b : List ℕ) (epoch offset now timeout r : ℕ) (after : NodeWaited)
@@ -145,6 +156,9 @@ module _ (s : List ℕ) (l : Lent) (read : l ≡ lentHeader s) where
                 stays-of s t (ap (λ (x : Left). x .header) (e .buffers) ∙ wait-unwritten (after .answer) s p a _ (after .node) d)
                 (λ st. waited s name shard epoch offset now timeout st .after)
                 (λ st. wait-stays s st name shard epoch offset now timeout (ap (λ (w : WaitTold). isWaited (w .answer)) (sym (on st)) ∙ d));
+            formed = by-case (waitWrites p a after)
+                (λ d. formed-put s t _ (after .node) (e .becomes d (lent-long s (as-lent true found))) stay (λ st. ap (λ (w : WaitTold). w .node) (on st)))
+                (λ d. formed-left s t _ (ap (λ (x : Left). x .header) (e .buffers) ∙ wait-left (after .answer) s p a _ (after .node) d));
           }
 
 -- ---- the map that was read

@@ -1,13 +1,16 @@
 -- A fresh node's image. Assumes nothing.
 use Prim.Native.Nat.{ℕ, _≤_, _<_}
+use mathlib.Core.Bool.{true}
 use mathlib.Core.Path.{_≡_, refl, _∙_}
 use mathlib.Core.List.{List, []}
 use lib.ListN.{length}
 use native.Mathlib.Omega.{arith}
+use Rattle.model.specs.Lists.{_and_, every, rising}
 use Rattle.model.specs.Node.Held as held
 use Rattle.serve.specs.declared.Expiry.the-variants.{Never}
 use Rattle.header.specs.declared.Kept.{Kept}
 use Rattle.header.specs.declared.Node.{Node}
+use Rattle.header.specs.Formed.{slotsFit, formedNode}
 use Rattle.image.specs.Codes.{idOf}
 use Rattle.headerimage.specs.Image.{headerPut, headerWritten}
 use Rattle.headerimage.specs.Becomes.{HeaderWrites}
@@ -33,6 +36,10 @@ module _ (s : List ℕ) (id incarnation : ℕ) (room : 10288 ≤ length s) where
   unfolding headerWritten headerPut
   put-free free = refl
 
+  bare : (free : List Kept) → formedNode (withFree id incarnation free) ≡ true
+  unfolding formedNode _and_ rising every slotsFit
+  bare free = refl
+
   pub fresh-made : (t : List ℕ) (r : ℕ) (free : List Kept) → r ≡ 0 → HeaderWrites s t (withFree id incarnation free)
       → Freshens s t id incarnation r
   fresh-made t r free a e = record {
@@ -41,5 +48,6 @@ module _ (s : List ℕ) (id incarnation : ℕ) (room : 10288 ≤ length s) where
       answer = a;
       image = e .image ∙ put-free free;
       leaves = leaves-of s t (withFree id incarnation free) (e .becomes room) (λ st. held.emptyNode id incarnation) (λ st. refl) (λ st. []) (λ st. refl);
+      formed = e .becomes room .formed (bare free);
     };
   }

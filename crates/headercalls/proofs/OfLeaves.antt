@@ -41,7 +41,7 @@ leaves-of s t n b after e slots k = record {
 }
 
 -- an image that lends a header is long enough to be written
-lent-long : (s : List ℕ) → headerLent s ≡ true → 10288 ≤ length s
+pub lent-long : (s : List ℕ) → headerLent s ≡ true → 10288 ≤ length s
 unfolding headerLent
 lent-long s e = leb-true 10288 (length s) (and-left (leb 10288 (length s)) (codesListed s) e)
 

@@ -24,7 +24,7 @@ use Rattle.header.specs.Seats.{Keeps}
 use Rattle.hears.specs.Hears.{HearsReply}
 use Rattle.headerimage.specs.Image.{headerLent, nodeAt}
 use Rattle.headercalls.specs.Asked.{keyNamed, unreadName, Asked, imageAfter}
-use Rattle.headercalls.specs.Leaves.{LeavesSlots, Stays}
+use Rattle.headercalls.specs.Leaves.{LeavesSlots, Stays, StaysFormed}
 
 -- the steps' codes: 2 align, 3 replicate, 4 copy
 abbrev pub sentAt : ℕ → Sent
@@ -67,6 +67,7 @@ pub record AcksImage (s t name reply : List ℕ) (shard epoch peer step r : ℕ)
   pub image : t ≡ imageAfter (isAcked (after .answer)) s (after .node)
   pub leaves : isAcked (after .answer) ≡ true → LeavesSlots s t (λ st. acked s name reply shard epoch peer step st .after)
   pub stays : isAcked (after .answer) ≡ false → Stays s t (λ st. acked s name reply shard epoch peer step st .after)
+  pub formed : StaysFormed s t (λ st. acked s name reply shard epoch peer step st .after)
 
 abbrev pub Acks : (s t name reply : List ℕ) → (shard epoch peer step r : ℕ) → Type 0
 Acks s t name reply shard epoch peer step r =

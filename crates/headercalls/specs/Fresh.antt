@@ -1,13 +1,15 @@
 -- What a fresh node promises: every byte of its image, and that the image is read as the model's new node. Definitions only.
 use Prim.Native.Nat.{ℕ, _≤_, _<_}
+use mathlib.Core.Bool.{true}
 use mathlib.Core.Path.{_≡_}
 use mathlib.Core.List.{List, []}
 use lib.ListN.{length}
 use Rattle.model.specs.Node.Held as held
 use Rattle.serve.specs.declared.Expiry.the-variants.{Never}
 use Rattle.header.specs.declared.Node.{Node}
+use Rattle.header.specs.Formed.{formedNode}
 use Rattle.image.specs.Codes.{idOf}
-use Rattle.headerimage.specs.Image.{noNode, headerWritten}
+use Rattle.headerimage.specs.Image.{noNode, nodeAt, headerWritten}
 use Rattle.headercalls.specs.Leaves.{Leaves}
 
 -- no shard, no lease, no map known
@@ -25,6 +27,7 @@ pub record FreshImage (s t : List ℕ) (id incarnation r : ℕ) : Type 0 where
   pub answer : r ≡ 0
   pub image : t ≡ headerWritten s (freshNode id incarnation)
   pub leaves : Leaves s t (λ st. held.emptyNode id incarnation) (λ st. [])
+  pub formed : formedNode (nodeAt t) ≡ true
 
 -- the image holds s before and t after
 pub record Freshens (s t : List ℕ) (id incarnation r : ℕ) : Type 0 where

@@ -18,7 +18,7 @@ use Rattle.header.specs.Formed.{lentNode}
 use Rattle.header.specs.Seats.{Keeps}
 use Rattle.headerimage.specs.Image.{headerLent, nodeAt}
 use Rattle.headercalls.specs.Asked.{Asked, imageAfter}
-use Rattle.headercalls.specs.Leaves.{LeavesSlots, Stays}
+use Rattle.headercalls.specs.Leaves.{LeavesSlots, Stays, StaysFormed}
 
 abbrev pub grantNumber : GrantAnswer → ℕ
 grantNumber G.Granted = 0
@@ -41,6 +41,7 @@ pub record GrantsImage (s t : List ℕ) (incarnation sent lease r : ℕ) : Type 
   pub image : t ≡ imageAfter (isGranted (after .answer)) s (after .node)
   pub leaves : isGranted (after .answer) ≡ true → LeavesSlots s t (λ st. granted s incarnation sent lease st .after)
   pub stays : isGranted (after .answer) ≡ false → Stays s t (λ st. granted s incarnation sent lease st .after)
+  pub formed : StaysFormed s t (λ st. granted s incarnation sent lease st .after)
 
 abbrev pub Grants : (s t : List ℕ) → (incarnation sent lease r : ℕ) → Type 0
 Grants s t incarnation sent lease r =

@@ -6,7 +6,9 @@ use mathlib.Core.Path.{_≡_}
 use mathlib.Core.List.{List}
 use lib.Seq.{sets}
 use Rattle.model.specs.Node.Held as held
+use Rattle.model.specs.Node.WellFormed.{wellFormedHeader}
 use Rattle.header.specs.View.{Stores, viewNode}
+use Rattle.header.specs.Formed.{formedNode}
 use Rattle.header.specs.Seats.{slotsOf}
 use Rattle.headerimage.specs.Image.{headerLent, nodeAt}
 use Rattle.headerimage.specs.Becomes.{Counted, headerImage}
@@ -27,3 +29,7 @@ LeavesSlots s t after = Leaves s t after (λ st. slotsOf (nodeAt s))
 pub record Stays (s t : List ℕ) (after : Stores → held.Node) : Type 0 where
   pub bytes : t ≡ s
   pub read : (st : Stores) → viewNode st (nodeAt t) ≡ after st
+
+-- a header that is well formed is well formed after, if the model's node after is: the next call does not find it malformed
+abbrev pub StaysFormed : (s t : List ℕ) → (after : Stores → held.Node) → Type 0
+StaysFormed s t after = formedNode (nodeAt s) ≡ true → (st : Stores) → wellFormedHeader (after st) ≡ true → formedNode (nodeAt t) ≡ true

@@ -24,7 +24,7 @@ use Rattle.header.specs.Formed.{lentNode}
 use Rattle.header.specs.Seats.{Keeps}
 use Rattle.headerimage.specs.Image.{headerLent, nodeAt, headerWritten}
 use Rattle.headercalls.specs.Asked.{keyNamed, unreadName, Asked, Becomes}
-use Rattle.headercalls.specs.Leaves.{LeavesSlots, Stays}
+use Rattle.headercalls.specs.Leaves.{LeavesSlots, Stays, StaysFormed}
 
 -- no name, or a time above 2^62
 abbrev pub unreadWait : List ℕ → (now timeout : ℕ) → Bool
@@ -109,6 +109,7 @@ pub record WaitsImage (s t p q a b name : List ℕ) (shard epoch offset now time
   pub buffers : left r t q b ≡ waitLeft s p a after
   pub leaves : waitWrites p a after ≡ true → LeavesSlots s t (λ st. waited s name shard epoch offset now timeout st .after)
   pub stays : isWaited (after .answer) ≡ false → Stays s t (λ st. waited s name shard epoch offset now timeout st .after)
+  pub formed : StaysFormed s t (λ st. waited s name shard epoch offset now timeout st .after)
 
 abbrev pub Waits : (s t p q a b name : List ℕ) → (shard epoch offset now timeout r : ℕ) → Type 0
 Waits s t p q a b name shard epoch offset now timeout r =
