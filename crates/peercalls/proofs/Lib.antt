@@ -1,4 +1,3 @@
-mod OfEnds
 mod OfServes
 mod OfStates
 mod OfMessages

@@ -22,7 +22,8 @@ use Rattle.peers.specs.Peers.{ReplicatesAt, CopiesAt}
 use Rattle.peers.proofs.OfNamed.{replicate-key, copy-key}
 use Rattle.newepoch.specs.Announces.{AnnouncesAt}
 use Rattle.newepoch.proofs.OfNamed.{new-epoch-key}
-use Rattle.peercalls.specs.PeerCalls.{Buffers, AtShard, replicates, announces, copies, ReplicatesImage, AnnouncesImage, CopiesImage}
+use Rattle.peerends.specs.Ends.{Buffers}
+use Rattle.peercalls.specs.PeerCalls.{AtShard, replicates, announces, copies, ReplicatesImage, AnnouncesImage, CopiesImage}
 use Rattle.peercalls.proofs.OfServes.{outside, inside}
 
 -- ---- Replicate

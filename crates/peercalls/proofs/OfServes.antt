@@ -18,7 +18,8 @@ use Rattle.lentimage.specs.State.{StateAfter}
 use Rattle.lentimage.proofs.OfPut.{puttable}
 use Rattle.peers.specs.declared.PeerAnswer.{PeerAnswer}
 use Rattle.peers.specs.Peers.{turnedDown}
-use Rattle.peercalls.specs.PeerCalls.{Buffers, buffers, endedWith, Finished, Deed, AtShard, Serves}
+use Rattle.peerends.specs.Ends.{Buffers, buffers, endedWith, Finished}
+use Rattle.peercalls.specs.PeerCalls.{Deed, AtShard, Serves}
 
 -- ---- at the shard of a key
 

@@ -2,9 +2,9 @@
 ghost use Rattle.state.specs.Names.{viewKey};
 ghost use Rattle.newepoch.specs.Announces.{AnnouncesAt, NewEpochNames};
 ghost use Rattle.peercalls.specs.PeerCalls.{AnnouncesImage, AtShard, announces, buffers};
-use crate::finish::finish;
 use lend::named::key_of;
 use lentimage::pick::pick;
+use peerends::finish;
 use rpc::Message;
 use rpc::decode;
 use state::ShardKey;

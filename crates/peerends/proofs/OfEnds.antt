@@ -17,9 +17,9 @@ use Rattle.rpcw.proofs.Writes.{reply-bytes}
 use Rattle.peers.specs.declared.PeerReply.{PeerReply}
 use Rattle.peers.specs.declared.PeerReply.the-variants as P
 use Rattle.peers.specs.Peers.{turnedDown}
-use Rattle.peercalls.specs.declared.Outcome.{Outcome}
-use Rattle.peercalls.specs.declared.Outcome.the-variants as O
-use Rattle.peercalls.specs.PeerCalls.{Buffers, buffers, Ended, ended, sends, endedAs, outcome, Replies}
+use Rattle.peerends.specs.declared.Outcome.{Outcome}
+use Rattle.peerends.specs.declared.Outcome.the-variants as O
+use Rattle.peerends.specs.Ends.{Buffers, buffers, Ended, ended, sends, endedAs, outcome, Replies}
 
 -- ---- the reply
 

@@ -1,17 +1,24 @@
-// What follows a primary's call: the reply and the state are written, or nothing is. Internal.
+// What follows a primary's call over the images that a host owns (docs/IMAGES.md): the reply and the state are written, or nothing is.
+// Internal: what the entry points of `peercalls` share.
 ghost use mathlib.Core.Path.{_≡_};
 ghost use mathlib.Core.Bool.{false};
 ghost use Rattle.lend.specs.Lend.{lot};
 ghost use Rattle.lentimage.specs.Lent.{Puttable};
 ghost use Rattle.peers.specs.Peers.{turnedDown};
-ghost use Rattle.peercalls.specs.PeerCalls.{Finished, Replies, buffers, outcome};
-use crate::Outcome;
+ghost use Rattle.peerends.specs.Ends.{Finished, Replies, buffers, outcome};
 use header::Node;
 use lentimage::put::put_images;
 use peers::PeerAnswer;
 use peers::PeerReply;
 use rpcw::Reply;
 use rpcw::message::write_reply;
+
+// What a call's answer asks for. A refusal, or a reply: beside a state that stays as it was, or one that the call made.
+pub enum Outcome {
+    Refused(u8),
+    Kept(Reply),
+    Changed(Reply),
+}
 
 // What an answer asks for: StaleEpoch leaves the state as it was.
 fn outcome_of(a: PeerReply) -> Outcome

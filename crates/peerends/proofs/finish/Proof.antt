@@ -1,10 +1,10 @@
--- `finish::finish` meets its contract. Assumes nothing.
+-- `finish` meets its contract. Assumes nothing.
 use borrow.Author.Needs.{needs}
 use mathlib.Core.Path.{refl}
-use Rattle.peercalls.specs.PeerCalls.{buffers}
-use Rattle.peercalls.proofs.OfEnds.{refused, made, unmade, kept, done, short}
-use Rattle.peercalls.proofs.finish.finish.Statement.{statement}
-use Rattle.peercalls.proofs.finish.finish.Tie as tie
+use Rattle.peerends.specs.Ends.{buffers}
+use Rattle.peerends.proofs.OfEnds.{refused, made, unmade, kept, done, short}
+use Rattle.peerends.proofs.finish.Statement.{statement}
+use Rattle.peerends.proofs.finish.Tie as tie
 
 outcome-of-requires : tie.Need-outcome-of-requires
 outcome-of-requires c κs = search needs

@@ -1,9 +1,9 @@
--- `finish::put_reply` meets its contract. Assumes nothing.
+-- `put_reply` meets its contract. Assumes nothing.
 use native.Mathlib.Omega.{arith}
 use borrow.Author.Needs.{needs}
-use Rattle.peercalls.proofs.OfEnds.{no-room, room}
-use Rattle.peercalls.proofs.finish.put_reply.Statement.{statement}
-use Rattle.peercalls.proofs.finish.put_reply.Tie as tie
+use Rattle.peerends.proofs.OfEnds.{no-room, room}
+use Rattle.peerends.proofs.put_reply.Statement.{statement}
+use Rattle.peerends.proofs.put_reply.Tie as tie
 
 returns : tie.Need-returns
 returns c = no-room (c .before .before .args .w) (c .before .before .args .reply .now) (omega arith)

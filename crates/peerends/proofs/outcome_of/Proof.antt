@@ -1,9 +1,9 @@
--- `finish::outcome_of` meets its contract. Assumes nothing.
+-- `outcome_of` meets its contract. Assumes nothing.
 use mathlib.Core.Path.{sym, ap}
 use borrow.Author.Needs.{needs}
-use Rattle.peercalls.specs.PeerCalls.{outcome}
-use Rattle.peercalls.proofs.finish.outcome_of.Statement.{statement}
-use Rattle.peercalls.proofs.finish.outcome_of.Tie as tie
+use Rattle.peerends.specs.Ends.{outcome}
+use Rattle.peerends.proofs.outcome_of.Statement.{statement}
+use Rattle.peerends.proofs.outcome_of.Tie as tie
 
 enum-known-a : tie.Need-enum-known-a
 enum-known-a c = search needs
