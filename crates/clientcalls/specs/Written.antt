@@ -1,5 +1,6 @@
 -- What a client's Write promises over the images of a node (paper 01, 'Who is turned down', Write; docs/IMAGES.md): the refusals in their
--- order, and then what the call on the state that the bytes lend told. Every byte of every buffer at exit is given. Definitions only.
+-- order, and then what the call on the state that the bytes lend told. Every byte of every buffer at exit is given, and what the images are
+-- then read as. Definitions only.
 use Prim.Native.Nat.{ℕ}
 use mathlib.Core.Path.{_≡_}
 use mathlib.Core.Bool.{true, false, cond}
