@@ -24,8 +24,8 @@ use Rattle.lentimage.specs.Lent.{lendsState, lotIn, Picks}
 use Rattle.lentimage.specs.declared.Picked.{Picked}
 use Rattle.clientsearches.specs.Searches.{IsSearch}
 use Rattle.clientsearches.proofs.OfNamed.{search-key}
-use Rattle.clientcalls.specs.Count.{countLent}
-use Rattle.clientcalls.specs.Found.{SearchEnded, ended, SearchServed}
+use Rattle.clientends.specs.Count.{countLent}
+use Rattle.clientends.specs.Found.{SearchEnded, ended, SearchServed}
 use Rattle.clientcalls.specs.Searched.{lendsCall, SearchesShard, SearchesQuery, SearchesBytes}
 
 -- ---- the count that is lent

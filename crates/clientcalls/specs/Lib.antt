@@ -1,5 +1,2 @@
-pub mod Count
-pub mod Hits
-pub mod Found
 pub mod Searched
 pub mod Written

@@ -12,8 +12,8 @@ use Rattle.model.specs.Node.Wire.{vectorInDomain}
 use Rattle.model.specs.Node.Calls.{lateTime}
 use Rattle.headerimage.specs.Image.{nodeAt}
 use Rattle.lentimage.specs.Lent.{lendsState, lotIn}
-use Rattle.clientcalls.specs.Count.{countLent, countPut}
-use Rattle.clientcalls.specs.Found.{SearchEnded, ended, SearchServed}
+use Rattle.clientends.specs.Count.{countLent, countPut}
+use Rattle.clientends.specs.Found.{SearchEnded, ended, SearchServed}
 
 -- 24: a count, and the images of a state
 abbrev pub lendsCall : (count header stores : List ℕ) → Key → Bool

@@ -2,16 +2,12 @@
 // calls is lent apart from the node's state, so that a call refused for a malformed state counts too. Neither asks anything of its caller.
 ghost use Rattle.clientcalls.specs.Searched.{SearchesImages};
 ghost use Rattle.clientcalls.specs.Written.{buffers, WritesImages};
-use count::count_call;
+use clientends::count::count_call;
 use searches::search_message;
 use writes::write_message;
 
-mod count;
-mod found;
-mod hits;
 mod searches;
 mod writes;
-mod written;
 
 // 23: 0 with the offset in `answer`; 17, 18 with the own epoch in `answer`, 19, 20, 21, 22, 24, and 23 if the log is full or `answer` has no
 // room. Refused, no byte of the images changes. `least` is min_in_sync. `refused` counts each refusal.

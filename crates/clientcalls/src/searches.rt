@@ -1,9 +1,9 @@
 // Search (24) over the images of a node (paper 01, 'Who is turned down', Search), but for the count of refused calls. Internal.
 ghost use Rattle.state.specs.Names.{viewKey};
-ghost use Rattle.clientcalls.specs.Found.{ended};
+ghost use Rattle.clientends.specs.Found.{ended};
 ghost use Rattle.clientcalls.specs.Searched.{SearchesShard, SearchesBytes};
-use crate::found::search_lent;
 use arrivals::domain::op_in_domain;
+use clientends::found::search_lent;
 use lend::named::key_of;
 use lentimage::pick::pick;
 use nearest::answer::least;

@@ -1,9 +1,10 @@
 // Write (23) over the images of a node (paper 01, 'Who is turned down', Write), but for the count of refused calls. Internal.
 ghost use Rattle.state.specs.Names.{viewKey};
 ghost use Rattle.clientwrites.specs.ClientWrites.{WriteNames};
-ghost use Rattle.clientcalls.specs.Written.{buffers, ended, WritesShard, WritesBytes};
-use crate::written::put_written;
+ghost use Rattle.clientends.specs.Ends.{ended};
+ghost use Rattle.clientcalls.specs.Written.{buffers, WritesShard, WritesBytes};
 use arrivals::domain::op_in_domain;
+use clientends::written::put_written;
 use clientwrites::write;
 use lend::named::key_of;
 use lentimage::pick::pick;

@@ -2,7 +2,7 @@
 use borrow.Author.Tests.{not-true, not-false}
 use Rattle.model.specs.Node.Wire.{floatOf}
 use Rattle.lentimage.specs.Lent.{noLot}
-use Rattle.clientcalls.proofs.OfFound.{front-long, front-fresh}
+use Rattle.clientends.proofs.OfFound.{front-long, front-fresh}
 use Rattle.clientcalls.proofs.OfSearched.{shard-unlent, shard-lent}
 use borrow.Author.Needs.{needs}
 use mathlib.Core.Path.{refl}

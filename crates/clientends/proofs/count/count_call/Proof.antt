@@ -1,0 +1,41 @@
+-- `count::count_call` meets its contract. Assumes nothing.
+use Rattle.refused.specs.Count.{bumped}
+use native.Mathlib.Omega.{arith}
+use mathlib.Core.Path.{_∙_, ap}
+use Rattle.clientends.proofs.OfCount.{count-done, count-short, count-more}
+use borrow.Author.Needs.{needs}
+use Rattle.clientends.proofs.count.count_call.Statement.{statement}
+use Rattle.clientends.proofs.count.count_call.Tie as tie
+
+returns : tie.Need-returns
+returns c = count-done _ _ (c .if1 .taken)
+
+returns-2 : tie.Need-returns-2
+returns-2 c = count-short _ _ (c .before .if1 .left) (c .if2 .taken)
+
+get4-requires : tie.Need-get4-requires
+get4-requires c κs = search needs
+
+next-count-requires : tie.Need-next-count-requires
+next-count-requires c κs = search needs
+
+put4-requires : tie.Need-put4-requires
+put4-requires c κs = search needs
+
+same-length : tie.Need-same-length
+same-length c = search needs
+
+returns-3 : tie.Need-returns-3
+returns-3 c = c .before .before .put4 .ensures ∙ count-more _ _ (c .before .before .before .before .before .before .before .before .if1 .left) (omega arith) _ (c .before .before .before .next-count .ensures ∙ ap bumped (c .before .before .before .before .before .get4 .ensures))
+
+pub count-call-spec : {M : Type 1} → statement M
+count-call-spec =
+    tie.close
+    (tie.spec
+    returns
+    returns-2
+    get4-requires
+    next-count-requires
+    put4-requires
+    same-length
+    returns-3)

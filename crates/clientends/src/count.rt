@@ -1,0 +1,27 @@
+// The count of refused client calls in its four bytes (paper 01, 'The node'), and a number beside an answer. Internal.
+ghost use mathlib.Core.Path.{_≡_};
+ghost use Rattle.clientends.specs.Count.{countPut, numberPut};
+use refused::next_count;
+
+// One more, if the call was refused and its count is lent.
+pub fn count_call(refused: &mut [u8], number: u8)
+    ensures { λ _. ⌜ now (refused .exit) ≡ countPut (now (refused .entry)) number ⌝ }
+{
+    if number == 0 {
+        return;
+    }
+    if refused.len() < 4 {
+        return;
+    }
+    let before = num::get4(refused, 0);
+    num::put4(refused, 0, next_count(before));
+}
+
+// A number of 8 bytes, if there is room for it.
+pub fn put_number(answer: &mut [u8], x: u64)
+    ensures { λ _. ⌜ now (answer .exit) ≡ numberPut (now (answer .entry)) x ⌝ }
+{
+    if 8 <= answer.len() {
+        num::put8(answer, 0, x);
+    }
+}
