@@ -4,7 +4,9 @@ use mathlib.Core.Bool.{Bool, true, false}
 use mathlib.Core.Path.{_≡_, refl, sym, ap, _∙_, subst}
 use mathlib.Core.List.{List}
 use lib.Dec.{eqb}
-use Rattle.model.specs.Lists.{_and_}
+use Rattle.model.specs.Lists.{_and_, every}
+use Rattle.model.specs.Node.Held as held
+use Rattle.model.specs.Node.WellFormed.{wellFormedHeader}
 use Rattle.model.specs.Keys.{Key}
 use mathlib.Core.Option.{Option, none, some}
 use Rattle.model.specs.Layout.Message as message
@@ -22,6 +24,7 @@ use Rattle.header.specs.declared.NodeSettled.{NodeSettled}
 use Rattle.header.specs.declared.NodeWaited.{NodeWaited}
 use Rattle.header.specs.declared.NodeAcked.{NodeAcked}
 use Rattle.header.specs.Answers.{Told, GrantsNode, SettlesNode, WaitTold, WaitsNode}
+use Rattle.header.specs.Formed.{formedNode}
 use Rattle.header.specs.Seats.{Keeps}
 use Rattle.header.proofs.OfLists.{by-case}
 use Rattle.hears.specs.declared.Heard.{Heard}
@@ -40,9 +43,11 @@ use Rattle.headercalls.specs.Grants.{grantNumber, isGranted, granted, Gr
 use Rattle.headercalls.specs.Acks.{sentAt, noReply, ackNumber, isAcked, acked, AcksImage}
 use Rattle.headercalls.specs.Settles.{proposalAt, outcomeNumber, isSettled, settled, SettlesImage}
 use Rattle.headercalls.specs.Waits.{Left, isWaited, waitWrites, WaitPut, waited, WaitsImage}
-use Rattle.headercalls.specs.Shows.{isShown, ShowPut, shownAfter, ShowsImage}
+use Rattle.headercalls.specs.Shows.{isShown, showWrites, ShowPut, shownAfter, ShowsImage}
+use Rattle.headercalls.specs.Leaves.{tableFits}
 use Rattle.headercalls.proofs.OfLeaves.{lent-long, leaves-slots, leaves-shown, shown-formed}
-use Rattle.headercalls.proofs.OfKept.{formed-put, formed-left, wait-left}
+use Rattle.headercalls.proofs.OfKept.{formed-put, formed-left, wait-left, show-left}
+use Rattle.headercalls.proofs.OfTaken.{formed-shown}
 use Rattle.headercalls.proofs.OfStays.{stays-of, unwritten, grant-stays, wait-stays, ack-stays, outcome-stays, shown-stays, wait-unwritten, show-unwritten}
 
 module _ (s : List ℕ) (l : Lent) (read : l ≡ lentHeader s) where
@@ -176,20 +181,28 @@ module _ (m : List ℕ) (l : map.Lent) (read : l ≡ lentMap m) where
   pub shows-image : (s : List ℕ) (h : Lent) → h ≡ lentHeader s → h .found ≡ true → l .found ≡ true
       → (t p q a b : List ℕ) (fresh r : ℕ) (after : NodeShown)
       → HearsMap (h .node) (l .map) fresh after → ShowPut s t p q a b after r → ShowsImage s t m p q a b fresh r
-  shows-image s h is found known t p q a b fresh r after call e =
-      let on = on-map (λ k. HearsMap (nodeAt s) k fresh after) known (on-lent s h is found (λ n. HearsMap n (l .map) fresh after) call) in
+  shows-image s h is-lent found known t p q a b fresh r after call e =
+      let on = on-map (λ k. HearsMap (nodeAt s) k fresh after) known (on-lent s h is-lent found (λ n. HearsMap n (l .map) fresh after) call) in
       record {
         after = after;
         call = on;
         buffers = e .buffers;
         leaves = λ d.
             let formed = shown-formed (nodeAt s) (mapAt m) fresh after on (and-left (isShown (after .answer)) _ d) in
-            leaves-shown s t (as-lent s h is true found) (after .node) (e .becomes d) (shownAfter s m fresh)
+            leaves-shown s t (as-lent s h is-lent true found) (after .node) (e .becomes d) (shownAfter s m fresh)
             (λ st. ap (λ (w : ShownTold). w .node) (on .same st)) (on .seats formed);
         stays = λ d.
             stays-of s t (ap (λ (x : Left). x .header) (e .buffers) ∙ show-unwritten (after .answer) s p a _ (after .node) d)
             (shownAfter s m fresh)
             (λ st. shown-stays s st m fresh (ap (λ (w : ShownTold). isShown (w .answer)) (sym (on .same st)) ∙ d));
+        formed = by-case (showWrites p a after)
+            (λ d f st c w v.
+            let is = ap (λ (x : ShownTold). x .node) (on .same st) in
+            formed-shown st c s t (after .node) (e .becomes d (lent-long s (as-lent s h is-lent true found))) (on .slots f)
+            (ap wellFormedHeader is ∙ w) (ap (λ (x : held.Node). every tableFits (x .held)) is ∙ v))
+            (λ d f st c w v.
+            ap (λ (u : List ℕ). formedNode (nodeAt u))
+            (ap (λ (x : Left). x .header) (e .buffers) ∙ show-left (after .answer) s p a _ (after .node) d) ∙ f);
       }
 
 pub lent-first : (a b : Bool) → a ≡ false → (a and b) ≡ false

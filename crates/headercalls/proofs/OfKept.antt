@@ -7,6 +7,7 @@ use lib.Dec.{leb}
 use Rattle.model.specs.Lists.{_and_, every}
 use Rattle.model.specs.Limits.{maxHeld}
 use Rattle.model.specs.Node.Held as held
+use Rattle.model.specs.Node.Shown as show
 use Rattle.model.specs.Node.WellFormed.{wellFormedHeader}
 use Rattle.model.specs.declared.DataNodeId.{DataNodeId}
 use Rattle.model.proofs.Lists.{and-true, and-left, and-right}
@@ -19,9 +20,12 @@ use Rattle.header.specs.Arrays.{arraysFit}
 use Rattle.header.specs.Seats.{Keeps}
 use Rattle.header.proofs.OfFormed.{formed-lent}
 use Rattle.header.proofs.OfShards.{some-stores}
+use Rattle.shown.specs.declared.ShownAnswer.{ShownAnswer}
+use Rattle.shown.specs.declared.ShownAnswer.the-variants as S
 use Rattle.headerimage.specs.Image.{nodeAt}
 use Rattle.headerimage.specs.Becomes.{HeaderBecomes}
 use Rattle.headercalls.specs.Leaves.{StaysFormed}
+use Rattle.headercalls.specs.Shows.{workerBytes, showSaid, isShown}
 use Rattle.headercalls.specs.Waits.{idBytes, rowsRoom, waitSaid, isWaited}
 
 -- ---- the header's test is that of its arrays, and the model's
@@ -71,3 +75,10 @@ wait-left W.Done s p a l n e = rw e
 wait-left W.Waiting s p a l n e = rw e
 wait-left (W.NotPrimary own) s p a l n e = refl
 wait-left (W.Refused k) s p a l n e = refl
+
+-- a map shown that writes none
+pub show-left : (w : ShownAnswer) (s p a : List ℕ) (l : List show.Worker) (n : Node) → (isShown w and rowsRoom workerBytes 54 p a l) ≡ false
+    → showSaid w s p a l n .header ≡ s
+unfolding _and_
+show-left S.Shown s p a l n e = rw e
+show-left (S.Refused k) s p a l n e = refl

@@ -30,7 +30,7 @@ use Rattle.image.specs.Shape.{Stored}
 use Rattle.headerimage.specs.Image.{headerLent, nodeAt}
 use Rattle.mapimage.specs.Image.{mapLent, mapAt}
 use Rattle.headercalls.specs.Asked.{Asked, Becomes}
-use Rattle.headercalls.specs.Leaves.{Leaves, Stays}
+use Rattle.headercalls.specs.Leaves.{Leaves, Stays, ShownFormed}
 use Rattle.headercalls.specs.Waits.{Left, left, rowsRoom, rowsPut}
 
 -- a worker to start, 54 bytes: its key as on the wire, the peer, the epoch, the metric's code
@@ -85,6 +85,7 @@ pub record ShowsImage (s t m p q a b : List ℕ) (fresh r : ℕ) : Type 0 where
   pub buffers : left r t q b ≡ showLeft s p a after
   pub leaves : showWrites p a after ≡ true → Leaves s t (shownAfter s m fresh) (shownSlots s m fresh)
   pub stays : isShown (after .answer) ≡ false → Stays s t (shownAfter s m fresh)
+  pub formed : ShownFormed s t (shownAfter s m fresh)
 
 abbrev pub Shows : (s t m p q a b : List ℕ) → (fresh r : ℕ) → Type 0
 Shows s t m p q a b fresh r =

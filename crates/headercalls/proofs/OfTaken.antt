@@ -1,0 +1,92 @@
+-- A map shown leaves a well-formed header well formed: its counts are written as those of the rows that are in use. Assumes nothing.
+use Prim.Native.Nat.{ℕ, _≤_}
+use mathlib.Core.Bool.{Bool, true, cond, not}
+use mathlib.Core.Path.{_≡_, refl, ap, _∙_, subst}
+use mathlib.Core.List.{List, [], _∷_, map}
+use native.Mathlib.Omega.{arith}
+use lib.Dec.{eqb, leb, ltb}
+use lib.ListN.{length, take}
+use borrow.Author.Tests.{le-leb, leb-true}
+use Rattle.model.specs.Lists.{_and_, any, every, rising}
+use Rattle.model.specs.Limits.{maxHeld, maxName, maxEntries, maxReplicas, maxWorkers}
+use Rattle.model.specs.Log.{lastOffset}
+use Rattle.model.specs.Node.Shards.{heldBelow, rowBelow}
+use Rattle.model.specs.Node.WellFormed.{ackFits, wellFormedHeld, wellFormedHeader}
+use Rattle.model.proofs.Lists.{and-true, and-left, and-right}
+use Rattle.model.proofs.Map.Rows.{every-tail, every-cons}
+use Rattle.state.specs.Names.{viewName}
+use Rattle.header.specs.declared.Kept.{Kept}
+use Rattle.header.specs.declared.Node.{Node}
+use Rattle.header.specs.View.{Stores, viewKept, viewNode, used}
+use Rattle.header.specs.Formed.{countsFit, onSlot, slotsFit, lentNode, formedNode}
+use Rattle.header.proofs.OfLists.{by-case}
+use Rattle.header.proofs.OfFormed.{formed-lent}
+use Rattle.image.specs.Shape.{inUse}
+use Rattle.headerimage.specs.Image.{nodeAt}
+use Rattle.headerimage.specs.Tidy.{tidyHeld, tidyKept}
+use Rattle.headerimage.specs.Becomes.{Counted, HeaderBecomes}
+use Rattle.headercalls.specs.Leaves.{tableFits}
+
+most : (n : ℕ) → inUse 8 n ≤ 8
+most n = by-case (leb n 8) (λ e. rw e (leb-true n 8 e)) (λ e. rw e (omega arith))
+
+any-tidied : (q : ℕ) (l : List Kept) → any (onSlot q) (map tidyKept l) ≡ any (onSlot q) l
+unfolding any tidyKept
+any-tidied q [] = refl
+any-tidied q (x ∷ xs) = ap (λ (b : Bool). cond (eqb (x .slot) q) true b) (any-tidied q xs)
+
+slots-tidied : (l : List Kept) → slotsFit (map tidyKept l) ≡ slotsFit l
+unfolding slotsFit tidyKept
+slots-tidied [] = refl
+slots-tidied (x ∷ xs) =
+    ap (λ (b : Bool). ltb (x .slot) maxHeld and not b and slotsFit (map tidyKept xs)) (any-tidied (x .slot) xs)
+    ∙ ap (λ (b : Bool). ltb (x .slot) maxHeld and not (any (onSlot (x .slot)) xs) and b) (slots-tidied xs)
+
+module _ (st : Stores) (counted : Counted st) where
+  -- one row as it was written
+  row-fits : (x : Kept) → wellFormedHeld (viewKept st x) ≡ true → tableFits (viewKept st x) ≡ true → countsFit (tidyKept x) ≡ true
+  unfolding countsFit tidyKept tidyHeld wellFormedHeld
+  row-fits x e f =
+      let h = viewKept st x in
+      let a = leb (length (viewName (x .key .collection))) maxName in
+      let b = leb (length (take (x .held .holders) (x .held .replicas))) maxReplicas in
+      let c = leb (lastOffset (h .replica)) maxEntries in
+      let d = leb (length (take (x .held .count) (x .held .peers))) maxWorkers in
+      let g = rising rowBelow (h .peers) and every ackFits (h .peers) in
+      let r = and-right a (b and c and d and g) e in
+      let u = and-right c (d and g) (and-right b (c and d and g) r) in
+      let k : leb (x .stored) maxEntries ≡ true =
+      subst (λ (i : ℕ). leb i maxEntries ≡ true) (counted (x .slot) (x .held .last) (x .stored)) f in
+      and-true a (leb (x .stored) maxEntries and b and d) (and-left a (b and c and d and g) e)
+      (and-true (leb (x .stored) maxEntries) (b and d) k
+      (and-true b d (and-left b (c and d and g) r) (and-left d g u)))
+
+  rows-fit : (l : List Kept) → every wellFormedHeld (map (viewKept st) l) ≡ true → every tableFits (map (viewKept st) l) ≡ true
+      → every countsFit (map tidyKept l) ≡ true
+  rows-fit [] e f = unfold every in refl
+  rows-fit (x ∷ xs) e f =
+      let p = every-tail wellFormedHeld (viewKept st x) (map (viewKept st) xs) e in
+      let q = every-tail tableFits (viewKept st x) (map (viewKept st) xs) f in
+      every-cons countsFit (tidyKept x) (map tidyKept xs) (row-fits x (p .0) (q .0)) (rows-fit xs (p .1) (q .1))
+
+  helds : (n : Node) → wellFormedHeader (viewNode st n) ≡ true → every wellFormedHeld (viewNode st n .held) ≡ true
+  unfolding wellFormedHeader
+  helds n e =
+      let l = viewNode st n .held in
+      and-right (rising heldBelow l) (every wellFormedHeld l)
+      (and-right (leb (length l) maxHeld) (rising heldBelow l and every wellFormedHeld l) e)
+
+  pub formed-shown : (s t : List ℕ) (n : Node) → HeaderBecomes s t n → slotsFit (used n) ≡ true → wellFormedHeader (viewNode st n) ≡ true
+      → every tableFits (viewNode st n .held) ≡ true → formedNode (nodeAt t) ≡ true
+  unfolding lentNode
+  formed-shown s t n b apart w f =
+      let m = nodeAt t in
+      let fit = every countsFit (used m) in
+      let own = slotsFit (used m) in
+      let well = wellFormedHeader (viewNode st m) in
+      let z = most (n .count) in
+      let few : m .count ≤ 8 = omega (arith, b .count) in
+      formed-lent m st
+      ∙ and-true (leb (m .count) maxHeld) (fit and own and well) (le-leb (m .count) 8 few)
+      (and-true fit (own and well) (ap (every countsFit) (b .rows) ∙ rows-fit (used n) (helds n w) f)
+      (and-true own well (ap slotsFit (b .rows) ∙ slots-tidied (used n) ∙ apart) (ap wellFormedHeader (b .read st) ∙ w)))
