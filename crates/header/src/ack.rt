@@ -13,13 +13,13 @@ use crate::formed::formed_node;
 use crate::shards::place_of;
 use crate::shards::trimmed;
 use crate::shards::with_held;
+use acks::ack_held;
+use acks::bad;
 use model::DataNodeId;
 use model::Epoch;
 use node::AckAnswer;
 use node::Reply;
 use node::Sent;
-use node::ack::ack_held;
-use node::ack::bad;
 use state::ShardKey;
 
 // Internal: the ack on a header that is not malformed, of a reply that is not refused. Without the shard nothing happens.

@@ -16,7 +16,7 @@ use crate::shards::with_held;
 use model::DataNodeId;
 use model::Epoch;
 use node::OutcomeAnswer;
-use node::outcome::outcome_held;
+use outcomes::outcome_held;
 use state::ShardKey;
 
 // Internal: only an applied Shrink takes the peer out of the ack set.

@@ -15,8 +15,8 @@ use model::DataNodeId;
 use model::Epoch;
 use node::Nodes;
 use node::WaitAnswer;
-use node::wait::wait_held;
 use state::ShardKey;
+use waits::wait_held;
 
 // Internal: the wait on a header that is not malformed: 17, then the wait on the shard.
 fn wait_in(n: Node, key: ShardKey, epoch: Epoch, offset: u64, now: u64, timeout: u64) -> NodeWaited

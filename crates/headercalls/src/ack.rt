@@ -2,6 +2,7 @@
 ghost use mathlib.Core.Path.{_≡_};
 ghost use Rattle.headercalls.specs.Acks.{unreadReply, unreadAck, sentAt, Acks};
 use crate::named::named;
+use acks::bad;
 use headerimage::read_header;
 use headerimage::write_header;
 use hears::Heard;
@@ -10,7 +11,6 @@ use model::DataNodeId;
 use model::Epoch;
 use node::AckAnswer;
 use node::Sent;
-use node::ack::bad;
 use rpcw::fit::text_fits;
 
 // Internal: the bytes are no reply, or one that no peer gives.

@@ -1,10 +1,5 @@
 pub mod Loops
 pub mod OfRows
 pub mod OfFormed
-pub mod OfWait
-pub mod OfOutcome
-pub mod OfAck
-pub mod OfGrow
-pub mod OfMap
 pub mod OfCalls
 pub mod OfView

@@ -7,12 +7,9 @@ use model::Peer;
 use model::Replica;
 use model::Role;
 
-pub mod ack;
 pub mod formed;
-pub mod on_map;
-pub mod outcome;
+pub mod role;
 pub mod rows;
-pub mod wait;
 
 // One held shard without its key and its log. `last` is the log's length, `holders` and `count` say how many replicas and rows are in use;
 // what lies past them is free.

@@ -18,7 +18,7 @@ use model::DataNodeId;
 use model::Metric;
 use node::Held;
 use node::Nodes;
-use node::on_map::show_held;
+use onmap::show_held;
 use serve::header::begun;
 use state::Collections;
 use state::ShardKey;

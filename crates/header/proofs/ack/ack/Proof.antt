@@ -13,7 +13,7 @@ use Rattle.header.proofs.ack.ack.Reads as reads
 use Rattle.header.proofs.ack.ack.Lts as lts
 use Rattle.header.proofs.ack.ack_in.Reads as ack-in-reads
 use Rattle.header.proofs.formed.formed_node.Reads as formed-node-reads
-use Rattle.node.proofs.ack.bad.Reads as bad-reads
+use Rattle.acks.proofs.bad.Reads as bad-reads
 
 bad-requires : tie.Need-bad-requires
 bad-requires c κs = search needs

@@ -18,7 +18,7 @@ use Rattle.header.proofs.ack.ack_in.Lts as lts
 use Rattle.header.proofs.shards.place_of.Reads as place-of-reads
 use Rattle.header.proofs.shards.trimmed.Reads as trimmed-reads
 use Rattle.header.proofs.shards.with_held.Reads as with-held-reads
-use Rattle.node.proofs.ack.ack_held.Reads as ack-held-reads
+use Rattle.acks.proofs.ack_held.Reads as ack-held-reads
 
 -- the shards in use are in the array
 fits : (c : tie.Start) → c .args .n .count ≤ length (c .args .n .held)

@@ -18,7 +18,7 @@ use Rattle.header.proofs.outcome.outcome_in.Lts as lts
 use Rattle.header.proofs.shards.place_of.Reads as place-of-reads
 use Rattle.header.proofs.shards.trimmed.Reads as trimmed-reads
 use Rattle.header.proofs.shards.with_held.Reads as with-held-reads
-use Rattle.node.proofs.outcome.outcome_held.Reads as outcome-held-reads
+use Rattle.outcomes.proofs.outcome_held.Reads as outcome-held-reads
 
 -- the shards in use are in the array
 fits : (c : tie.Start) → c .args .n .count ≤ length (c .args .n .held)

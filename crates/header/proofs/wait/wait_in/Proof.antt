@@ -18,7 +18,7 @@ use Rattle.header.proofs.wait.wait_in.Lts as lts
 use Rattle.header.proofs.shards.place_of.Reads as place-of-reads
 use Rattle.header.proofs.shards.trimmed.Reads as trimmed-reads
 use Rattle.header.proofs.shards.with_held.Reads as with-held-reads
-use Rattle.node.proofs.wait.wait_held.Reads as wait-held-reads
+use Rattle.waits.proofs.wait_held.Reads as wait-held-reads
 
 -- the shards in use are in the array
 fits : (c : tie.Start) → c .args .n .count ≤ length (c .args .n .held)

@@ -9,7 +9,7 @@ use Rattle.shown.proofs.listed.show_as.Statement.{statement}
 use Rattle.shown.proofs.listed.show_as.Tie as tie
 use Rattle.shown.proofs.listed.show_as.Reads as reads
 use Rattle.shown.proofs.listed.show_as.Lts as lts
-use Rattle.node.proofs.on_map.show_held.Reads as show-held-reads
+use Rattle.onmap.proofs.show_held.Reads as show-held-reads
 use Rattle.shown.proofs.listed.taken_as.Reads as taken-as-reads
 use Rattle.shown.proofs.rows.info_of.Reads as info-of-reads
 

@@ -1,0 +1,2 @@
+pub mod OfGrow
+pub mod OfMap

@@ -1,0 +1,58 @@
+-- Laws of the outcome of a proposal, one for each way out. Assumes nothing.
+use mathlib.Core.Path.{_≡_, refl, ap, sym, _∙_}
+use mathlib.Core.Bool.{Bool, true, false, cond, not}
+use mathlib.Core.List.{List}
+use Prim.Native.Nat.{ℕ, _<_, _≤_}
+use lib.Dec.{eqb}
+use lib.ListN.{length, take, getD, set}
+use Rattle.model.specs.Lists.{_and_, lead}
+use Rattle.model.specs.Node.Shards.{leadsAt, ofNode}
+use Rattle.model.specs.Node.Ack.{settledRow, outcomeHeld}
+use Rattle.model.specs.declared.Peer.{Peer}
+use Rattle.node.specs.declared.Held.{Held}
+use Rattle.node.specs.declared.OutcomeAnswer.the-variants as O
+use Rattle.node.specs.View.{others, noPeer}
+use Rattle.node.specs.Formed.{formedHeld}
+use Rattle.node.specs.Answers.{SettlesHeld, outcomeCall, Settles}
+use Rattle.node.proofs.OfRows.{row-set, row-kept}
+
+-- a shard after an outcome
+abbrev pub after : Held → Bool → List Peer → Held
+after h own l = record {
+  epoch = h .epoch;
+  metric = h .metric;
+  last = h .last;
+  role = h .role;
+  own = own;
+  replicas = h .replicas;
+  holders = h .holders;
+  peers = l;
+  count = h .count;
+}
+
+module _ (h : Held) (me epoch peer : ℕ) (left : Bool) where
+  pub settles-not : leadsAt (h .role) epoch ≡ false → SettlesHeld h me epoch peer left h
+  unfolding outcomeHeld
+  settles-not n k l v = rw n
+
+  module _ (leads : leadsAt (h .role) epoch ≡ true) (own : Bool) (mine : own ≡ (h .own and not (left and eqb peer me)))
+      (at : ℕ) (fits : h .count ≤ length (h .peers)) (is : at ≡ lead (others peer) (take (h .count) (h .peers))) where
+    pub settles-none : h .count ≤ at → SettlesHeld h me epoch peer left (after h own (h .peers))
+    unfolding outcomeHeld
+    settles-none out k l v = rw (leads, mine, ← (row-kept (ofNode peer) (h .peers) (h .count) at fits is (settledRow left) out))
+
+    pub settles-row : at < h .count → (q : Peer) → q ≡ settledRow left (getD (h .peers) at noPeer)
+        → SettlesHeld h me epoch peer left (after h own (set (h .peers) at q))
+    unfolding outcomeHeld
+    settles-row in-use q e k l v =
+        rw (leads, mine, ← (row-set (ofNode peer) (h .peers) (h .count) at fits is (settledRow left) noPeer q in-use e))
+
+module _ (h : Held) (me epoch peer : ℕ) (left : Bool) where
+  pub settles-malformed : formedHeld h ≡ false → Settles h me epoch peer left (record { answer = O.Refused 24; held = h })
+  unfolding outcomeCall
+  settles-malformed a k l v = rw a
+
+  pub settles-formed : formedHeld h ≡ true → (r : Held) → SettlesHeld h me epoch peer left r
+      → Settles h me epoch peer left (record { answer = O.Noted; held = r })
+  unfolding outcomeCall
+  settles-formed a r w k l v = rw (a, w k l v)
