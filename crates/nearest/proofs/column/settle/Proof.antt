@@ -3,7 +3,6 @@ use borrow.Author.Needs.{needs}
 use Rattle.nearest.proofs.Settled.{has-root, settled-sum, settled-distance}
 use Rattle.nearest.proofs.column.settle.Statement.{statement}
 use Rattle.nearest.proofs.column.settle.Tie as tie
-use Rattle.ieee.proofs.root.sqrt_f32.Reads as sqrt-f32-reads
 
 enum-told : tie.Need-enum-told
 enum-told c = search needs

@@ -9,7 +9,6 @@ use Rattle.model.specs.Node.WellFormed.{component, wellFormedVector}
 use Rattle.nearest.proofs.Asked.{query-none, query-long, query-start, query-end, query-on, query-stop}
 use Rattle.nearest.proofs.query.query_fits.Statement.{statement}
 use Rattle.nearest.proofs.query.query_fits.Tie as tie
-use Rattle.ieee.proofs.order.in_domain.Reads as in-domain-reads
 
 abbrev Inv-loop : tie.InvT-loop
 Inv-loop query i₀ i = wellFormedVector query ≡ every component (drop i query)

@@ -1,0 +1,4 @@
+pub mod Floats
+pub mod Roots
+pub mod Scale
+pub mod Settle
