@@ -23,7 +23,7 @@ use Rattle.header.proofs.OfLists.{by-case}
 use Rattle.header.proofs.OfFormed.{formed-lent}
 use Rattle.image.specs.Shape.{inUse}
 use Rattle.headerimage.specs.Image.{nodeAt}
-use Rattle.headerimage.specs.Tidy.{tidyHeld, tidyKept}
+use Rattle.headerrows.specs.Tidy.{tidyHeld, tidyKept}
 use Rattle.headerimage.specs.Becomes.{Counted, HeaderBecomes}
 use Rattle.headercalls.specs.Leaves.{tableFits}
 

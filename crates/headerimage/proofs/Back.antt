@@ -31,8 +31,8 @@ use Rattle.image.proofs.Images.{length-used}
 use Rattle.image.proofs.Tidied.{take-within}
 use Rattle.image.proofs.Back.{length-encode, value-encode, Holds, holds-stored, holds-kept, TableFits, length-table, table-back, table-codes}
 use Rattle.image.proofs.OfCodes.{flag-back, flag-small, replicas-back}
-use Rattle.headerimage.specs.Rows.{bitOf, weigh, peerOf, peerValue, roleOf, roleValue, keptF, keptOf, keptValue, keptAt, keptBytes, expiryOf, expiryCode, expiryTime}
-use Rattle.headerimage.specs.Tidy.{tidyKept}
+use Rattle.headerrows.specs.Rows.{bitOf, weigh, peerOf, peerValue, roleOf, roleValue, keptF, keptOf, keptValue, keptAt, keptBytes, expiryOf, expiryCode, expiryTime}
+use Rattle.headerrows.specs.Tidy.{tidyKept}
 use Rattle.headerimage.proofs.OfTidy.{KeptFits, all-fit, view-tidied, slots-tidied}
 use Rattle.headerimage.specs.Image.{noKept, codesListed, nodeAt, headBytes, shardsBytes, headerPut}
 

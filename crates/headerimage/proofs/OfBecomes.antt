@@ -14,7 +14,7 @@ use Rattle.header.specs.Seats.{slotsOf}
 use Rattle.header.specs.declared.Node.{Node}
 use Rattle.image.specs.Shape.{inUse}
 use Rattle.image.proofs.Images.{sets-append, length-used}
-use Rattle.headerimage.specs.Rows.{expiryCode, expiryTime}
+use Rattle.headerrows.specs.Rows.{expiryCode, expiryTime}
 use Rattle.headerimage.specs.Image.{nodeAt, headBytes, shardsBytes, headerPut}
 use Rattle.headerimage.specs.Becomes.{Counted, leaseCode, leaseTime, headerImage, HeaderBecomes, HeaderWrites}
 use Rattle.headerimage.proofs.OfImage.{lent-whole, written-long, written-short}

@@ -19,8 +19,8 @@ use Rattle.header.specs.declared.Node.{Node}
 use Rattle.image.specs.Shape.{Good}
 use Rattle.image.proofs.Canon.{take-padded, view-key}
 use Rattle.image.proofs.Tidied.{take-within}
-use Rattle.headerimage.specs.Rows.{noPeer, heldF, heldValue}
-use Rattle.headerimage.specs.Tidy.{tidyHeld, tidyKept}
+use Rattle.headerrows.specs.Rows.{noPeer, heldF, heldValue}
+use Rattle.headerrows.specs.Tidy.{tidyHeld, tidyKept}
 use Rattle.headerimage.proofs.OfTidy.{KeptFits}
 
 -- ---- one row

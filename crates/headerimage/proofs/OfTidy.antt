@@ -16,8 +16,8 @@ use Rattle.image.specs.Parts.{noReplica}
 use Rattle.image.specs.Canon.{padded}
 use Rattle.image.proofs.Canon.{take-padded, view-key}
 use Rattle.image.proofs.Tidied.{take-within, padded-fits, replicas-fit, key-fits}
-use Rattle.headerimage.specs.Rows.{noPeer, peerF, peerValue, heldF, heldValue, keptF, keptValue}
-use Rattle.headerimage.specs.Tidy.{tidyHeld, tidyKept}
+use Rattle.headerrows.specs.Rows.{noPeer, peerF, peerValue, heldF, heldValue, keptF, keptValue}
+use Rattle.headerrows.specs.Tidy.{tidyHeld, tidyKept}
 use Rattle.headerimage.specs.Becomes.{Counted, imageKept, imageRows}
 
 -- ---- a row whose numbers and arrays are those of its types

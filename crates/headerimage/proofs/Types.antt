@@ -28,7 +28,7 @@ use Rattle.image.specs.Shape.{Good}
 use Rattle.image.proofs.OfCodes.{flag-small}
 use Rattle.image.proofs.Types.{array-good, key-good, replicas-good}
 use Rattle.image.proofs.Tidied.{all-take, all-mapped}
-use Rattle.headerimage.specs.Rows.{weigh, peerFlags, peerF, peerValue, roleF, roleValue, heldF, heldValue, keptF, keptValue, expiryTime}
+use Rattle.headerrows.specs.Rows.{weigh, peerFlags, peerF, peerValue, roleF, roleValue, heldF, heldValue, keptF, keptValue, expiryTime}
 use Rattle.headerimage.proofs.OfTidy.{KeptFits}
 use Rattle.headerimage.proofs.Back.{Fits}
 

@@ -18,8 +18,8 @@ use Rattle.image.specs.Shape.{inUse}
 use Rattle.image.specs.Codes.{epochOf}
 use Rattle.image.specs.Parts.{noReplica}
 use Rattle.image.specs.Canon.{padded, imageKey}
-use Rattle.headerimage.specs.Rows.{noPeer, keptBytes}
-use Rattle.headerimage.specs.Tidy.{tidyKept}
+use Rattle.headerrows.specs.Rows.{noPeer, keptBytes}
+use Rattle.headerrows.specs.Tidy.{tidyKept}
 use Rattle.headerimage.specs.Image.{headOf, headerLent, nodeAt, headerWritten}
 
 -- families of stores whose tables have as many vectors as the header counts

@@ -17,8 +17,8 @@ use Rattle.headerimage.specs.declared.Lent.{Lent}
 use Rattle.image.specs.Shape.{inUse, rowsAt, codesBelow}
 use Rattle.image.specs.Codes.{idOf, epochOf}
 use Rattle.image.specs.Parts.{noKey, noReplica}
-use Rattle.headerimage.specs.Rows.{noPeer, expiryOf, expiryCode, expiryTime, keptAt, keptBytes}
-use Rattle.headerimage.specs.Tidy.{tidyKept}
+use Rattle.headerrows.specs.Rows.{noPeer, expiryOf, expiryCode, expiryTime, keptAt, keptBytes}
+use Rattle.headerrows.specs.Tidy.{tidyKept}
 
 -- ---- rows that say nothing
 

@@ -1,4 +1,2 @@
-pub mod Rows
-pub mod Tidy
 pub mod Image
 pub mod Becomes

@@ -6,7 +6,7 @@ ghost use mathlib.Core.Path.{_≡_};
 ghost use Prim.Native.Nat.{_≤_};
 ghost use lib.ListN.{length};
 ghost use Rattle.image.specs.Shape.{Stored};
-ghost use Rattle.headerimage.specs.Rows.{expiryOf, expiryCode, expiryTime};
+ghost use Rattle.headerrows.specs.Rows.{expiryOf, expiryCode, expiryTime};
 ghost use Rattle.headerimage.specs.Image.{codesListed, nodeAt, noNode, lentHeader, headBytes, headerPut};
 ghost use Rattle.headerimage.specs.Becomes.{HeaderWrites};
 use crate::held::no_kept;
@@ -20,8 +20,6 @@ use model::DataNodeId;
 use serve::Expiry;
 
 mod held;
-mod peers;
-mod tidy;
 
 // The header that a buffer lends; without one, `node` has no shards.
 pub struct Lent {

@@ -28,7 +28,7 @@ use Rattle.header.specs.Seats.{slotsOf, SameSlots}
 use Rattle.header.specs.Grow.{lowestFree, belowKey}
 use Rattle.header.proofs.OfLists.{by-case}
 use Rattle.lend.specs.Lend.{Lot, placeOf, slotOf, lentFor, Changes}
-use Rattle.headerimage.specs.Rows.{keptAt}
+use Rattle.headerrows.specs.Rows.{keptAt}
 use Rattle.headerimage.specs.Image.{noKept, headerLent, nodeAt}
 use Rattle.headerimage.specs.Becomes.{headerImage}
 use Rattle.lentimage.specs.Lent.{holds, keptOf, readable, lotIn, lendsState, Puttable, Puts}

@@ -1,7 +1,7 @@
 -- `put_head` meets its contract. Assumes nothing.
 use borrow.Author.Needs.{needs}
 use Rattle.image.specs.Shape.{inUse}
-use Rattle.headerimage.specs.Rows.{expiryCode, expiryTime}
+use Rattle.headerrows.specs.Rows.{expiryCode, expiryTime}
 use Rattle.image.proofs.Images.{stored-then, stored-word, stored-as}
 use Rattle.headerimage.proofs.put_head.Statement.{statement}
 use Rattle.headerimage.proofs.put_head.Tie as tie

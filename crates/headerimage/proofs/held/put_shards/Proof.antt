@@ -11,8 +11,8 @@ use Rattle.state.proofs.Tables.{of-field}
 use Rattle.header.specs.View.{noKept}
 use Rattle.header.specs.declared.Kept.{Kept}
 use Rattle.image.proofs.Images.{table-step, length-used, put-end, concat-mapped}
-use Rattle.headerimage.specs.Rows.{keptBytes}
-use Rattle.headerimage.specs.Tidy.{tidyKept}
+use Rattle.headerrows.specs.Rows.{keptBytes}
+use Rattle.headerrows.specs.Tidy.{tidyKept}
 use Rattle.headerimage.proofs.held.put_shards.Statement.{statement}
 use Rattle.headerimage.proofs.held.put_shards.Tie as tie
 

@@ -6,7 +6,7 @@ use Prim.Native.Nat.{ℕ, _-_, _≤_, _<_}
 use lib.ListN.{length, length-set}
 use Rattle.image.specs.Shape.{rowsAt}
 use Rattle.image.proofs.Images.{rows-start, rows-step}
-use Rattle.headerimage.specs.Rows.{keptAt}
+use Rattle.headerrows.specs.Rows.{keptAt}
 use Rattle.headerimage.specs.Image.{noKept}
 use Rattle.headerimage.proofs.held.shards_at.Statement.{statement}
 use Rattle.headerimage.proofs.held.shards_at.Tie as tie
