@@ -1,5 +1,5 @@
 -- What the code's types say of a map that a function is handed: its tables are no longer than they are declared, and each row in use fits its
--- shape in the form in which it is written (specs/Canon.antt). A proof has it of a parameter as `c .good`. Assumes nothing.
+-- shape in the form in which it is written (crate `mapforms`, specs/Canon.antt). A proof has it of a parameter as `c .good`. Assumes nothing.
 use Prim.Native.Nat.{ℕ, _^_, _<_}
 use mathlib.Core.Path.{_≡_, sym, _∙_}
 use mathlib.Core.List.{List, [], map}
@@ -58,7 +58,7 @@ use Rattle.image.proofs.OfCodes.{flag-small, primary-small, outcome-small}
 use Rattle.image.proofs.Types.{name-good, address-good, key-good, replicas-good, ids-good, array-good}
 use Rattle.image.proofs.Canon.{length-padded}
 use Rattle.image.proofs.Tidied.{take-within, all-take, all-map, all-mapped, all-padded, name-fits, address-fits, key-fits, replicas-fit, ids-fit}
-use Rattle.mapimage.specs.Canon.{imageNode, imageCollection, imagePrimary, imageShard, imageRejection, imageOutcome, keyOfNone, keyOfName, rejectionKey, outcomeKey, imageSession}
+use Rattle.mapforms.specs.Canon.{imageNode, imageCollection, imagePrimary, imageShard, imageRejection, imageOutcome, keyOfNone, keyOfName, rejectionKey, outcomeKey, imageSession}
 use Rattle.mapimage.specs.Rows.{nodeF, nodeValue, collectionF, collectionValue, shardF, shardValue, sessionF, sessionValue}
 use Rattle.mapimage.proofs.Tables.{Few}
 use Rattle.mapimage.proofs.Back.{NodeFits, CollectionFits, ShardFits, SessionFits, Fits}

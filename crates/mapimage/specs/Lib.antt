@@ -1,4 +1,3 @@
 pub mod Rows
 pub mod Canon
-pub mod Beside
 pub mod Image

@@ -27,12 +27,10 @@ use crate::shards::shards_at;
 use image::bytes::in_use;
 use state::ShardMap;
 
-mod beside;
 mod collections;
 mod nodes;
 mod sessions;
 mod shards;
-mod tidy;
 
 // The map that a buffer lends; without one, `map` has no rows.
 pub struct Lent {

@@ -11,7 +11,7 @@ use Rattle.state.specs.View.{viewShard}
 use Rattle.state.specs.declared.ShardRow.{ShardRow}
 use Rattle.state.proofs.Tables.{of-field}
 use Rattle.image.proofs.Images.{table-step, length-used, put-end, concat-mapped}
-use Rattle.mapimage.specs.Canon.{imageShard}
+use Rattle.mapforms.specs.Canon.{imageShard}
 use Rattle.mapimage.specs.Rows.{shardBytes}
 use Rattle.mapimage.proofs.OfImage.{pastShard}
 use Rattle.mapimage.proofs.shards.put_shards.Statement.{statement}

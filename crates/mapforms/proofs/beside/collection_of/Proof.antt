@@ -1,8 +1,8 @@
 -- `beside::collection_of` meets its contract. Assumes nothing.
 use borrow.Author.Needs.{needs}
 use mathlib.Core.Path.{refl}
-use Rattle.mapimage.proofs.beside.collection_of.Statement.{statement}
-use Rattle.mapimage.proofs.beside.collection_of.Tie as tie
+use Rattle.mapforms.proofs.beside.collection_of.Statement.{statement}
+use Rattle.mapforms.proofs.beside.collection_of.Tie as tie
 
 tidy-name-requires : tie.Need-tidy-name-requires
 tidy-name-requires c κs = search needs

@@ -1,9 +1,9 @@
 -- `beside::part_of` meets its contract. Assumes nothing.
 use borrow.Author.Needs.{needs}
 use mathlib.Core.Path.{refl, _∙_}
-use Rattle.mapimage.proofs.Canon.{none-key}
-use Rattle.mapimage.proofs.beside.part_of.Statement.{statement}
-use Rattle.mapimage.proofs.beside.part_of.Tie as tie
+use Rattle.mapforms.proofs.Canon.{none-key}
+use Rattle.mapforms.proofs.beside.part_of.Statement.{statement}
+use Rattle.mapforms.proofs.beside.part_of.Tie as tie
 
 enum-told : tie.Need-enum-told
 enum-told c = search needs

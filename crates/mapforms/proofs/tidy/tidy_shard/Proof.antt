@@ -1,9 +1,9 @@
 -- `tidy::tidy_shard` meets its contract. Assumes nothing.
 use borrow.Author.Needs.{needs}
 use mathlib.Core.Path.{refl}
-use Rattle.mapimage.proofs.Canon.{same-primary}
-use Rattle.mapimage.proofs.tidy.tidy_shard.Statement.{statement}
-use Rattle.mapimage.proofs.tidy.tidy_shard.Tie as tie
+use Rattle.mapforms.proofs.Canon.{same-primary}
+use Rattle.mapforms.proofs.tidy.tidy_shard.Statement.{statement}
+use Rattle.mapforms.proofs.tidy.tidy_shard.Tie as tie
 
 tidy-key-requires : tie.Need-tidy-key-requires
 tidy-key-requires c κs = search needs

@@ -1,8 +1,8 @@
 -- How much of the key beside an outcome is among its operands, as the code says it. Definitions only.
 use Rattle.model.specs.Keys as keys
-use Rattle.mapimage.specs.declared.beside.Beside.{Beside}
-use Rattle.mapimage.specs.declared.beside.Beside.the-variants.{Nothing, Collection, Whole}
-use Rattle.mapimage.specs.Canon.{keyOfName, keyOfNone}
+use Rattle.mapforms.specs.declared.beside.Beside.{Beside}
+use Rattle.mapforms.specs.declared.beside.Beside.the-variants.{Nothing, Collection, Whole}
+use Rattle.mapforms.specs.Canon.{keyOfName, keyOfNone}
 
 abbrev pub partOf : Beside → keys.Key → keys.Key
 partOf Nothing k = keyOfNone

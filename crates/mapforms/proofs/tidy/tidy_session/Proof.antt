@@ -2,9 +2,9 @@
 use borrow.Author.Needs.{needs}
 use mathlib.Core.Path.{refl}
 use Rattle.state.specs.Names.{viewKey}
-use Rattle.mapimage.proofs.Canon.{same-outcome}
-use Rattle.mapimage.proofs.tidy.tidy_session.Statement.{statement}
-use Rattle.mapimage.proofs.tidy.tidy_session.Tie as tie
+use Rattle.mapforms.proofs.Canon.{same-outcome}
+use Rattle.mapforms.proofs.tidy.tidy_session.Statement.{statement}
+use Rattle.mapforms.proofs.tidy.tidy_session.Tie as tie
 
 beside-outcome-requires : tie.Need-beside-outcome-requires
 beside-outcome-requires c κs = search needs

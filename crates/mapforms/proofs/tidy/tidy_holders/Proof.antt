@@ -4,8 +4,8 @@ use mathlib.Core.Path.{_≡_, refl, sym, _∙_}
 use lib.ListN.{length}
 use Rattle.state.proofs.Tables.{of-field}
 use Rattle.image.proofs.Images.{length-used}
-use Rattle.mapimage.proofs.tidy.tidy_holders.Statement.{statement}
-use Rattle.mapimage.proofs.tidy.tidy_holders.Tie as tie
+use Rattle.mapforms.proofs.tidy.tidy_holders.Statement.{statement}
+use Rattle.mapforms.proofs.tidy.tidy_holders.Tie as tie
 
 tidy-replicas-requires : tie.Need-tidy-replicas-requires
 tidy-replicas-requires c κs = search needs

@@ -1,8 +1,8 @@
 -- `tidy::tidy_collection` meets its contract. Assumes nothing.
 use borrow.Author.Needs.{needs}
 use mathlib.Core.Path.{refl}
-use Rattle.mapimage.proofs.tidy.tidy_collection.Statement.{statement}
-use Rattle.mapimage.proofs.tidy.tidy_collection.Tie as tie
+use Rattle.mapforms.proofs.tidy.tidy_collection.Statement.{statement}
+use Rattle.mapforms.proofs.tidy.tidy_collection.Tie as tie
 
 tidy-name-requires : tie.Need-tidy-name-requires
 tidy-name-requires c κs = search needs

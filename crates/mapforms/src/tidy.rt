@@ -2,7 +2,7 @@
 // of a session's key what its outcome has among its operands. All else of the row is zeros.
 ghost use mathlib.Core.Path.{_≡_};
 ghost use Rattle.state.specs.View.{viewNode, viewCollection, viewHolders, viewInSync, viewShard, viewSession};
-ghost use Rattle.mapimage.specs.Canon.{imageNode, imageCollection, imageHolders, imageInSync, imageShard, imageSession};
+ghost use Rattle.mapforms.specs.Canon.{imageNode, imageCollection, imageHolders, imageInSync, imageShard, imageSession};
 use crate::beside::beside_outcome;
 use crate::beside::part_of;
 use image::bytes::in_use;

@@ -4,8 +4,8 @@ use mathlib.Core.Path.{_≡_, refl, sym, _∙_}
 use lib.ListN.{length}
 use Rattle.state.proofs.Tables.{of-field}
 use Rattle.image.proofs.Images.{length-used}
-use Rattle.mapimage.proofs.tidy.tidy_in_sync.Statement.{statement}
-use Rattle.mapimage.proofs.tidy.tidy_in_sync.Tie as tie
+use Rattle.mapforms.proofs.tidy.tidy_in_sync.Statement.{statement}
+use Rattle.mapforms.proofs.tidy.tidy_in_sync.Tie as tie
 
 tidy-ids-requires : tie.Need-tidy-ids-requires
 tidy-ids-requires c κs = search needs

@@ -1,8 +1,8 @@
 -- `tidy::tidy_node` meets its contract. Assumes nothing.
 use borrow.Author.Needs.{needs}
 use mathlib.Core.Path.{refl}
-use Rattle.mapimage.proofs.tidy.tidy_node.Statement.{statement}
-use Rattle.mapimage.proofs.tidy.tidy_node.Tie as tie
+use Rattle.mapforms.proofs.tidy.tidy_node.Statement.{statement}
+use Rattle.mapforms.proofs.tidy.tidy_node.Tie as tie
 
 tidy-address-requires : tie.Need-tidy-address-requires
 tidy-address-requires c κs = search needs
