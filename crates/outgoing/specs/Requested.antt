@@ -6,7 +6,6 @@ use mathlib.Core.List.{List}
 use mathlib.Core.Option.{Option}
 use lib.ListN.{length}
 use lib.Seq.{sets}
-use Rattle.model.specs.Keys.{Key}
 use Rattle.model.specs.Refusals.{numberOf}
 use Rattle.model.specs.Node.Held as held
 use Rattle.model.specs.Node.Worker as worker
@@ -16,6 +15,7 @@ use Rattle.outgoing.specs.declared.Request.{Request}
 use Rattle.outgoing.specs.declared.Request.the-variants as R
 use Rattle.outgoing.specs.declared.Form.{Form}
 use Rattle.outgoing.specs.declared.Form.the-variants as F
+pub use Rattle.sententries.specs.Sent.{keyNamed}
 
 -- the answer by its words: how many bytes, or the refusal's number
 abbrev pub answerOf : calls.RequestAnswer → Request
@@ -38,9 +38,6 @@ pub record Requested (m : Option worker.Message) (before after : List ℕ) (r : 
 abbrev pub formOf : Form → worker.Form
 formOf F.Replicate = worker.asReplicate
 formOf F.OlderAsCopy = worker.olderAsCopy
-
-abbrev pub keyNamed : List ℕ → ℕ → Key
-keyNamed name shard = record { collection = name; shard = shard }
 
 -- 'The node', 'Rules of a run', Messages: the request of the worker's step at a shard
 unfoldable pub requestOn : worker.Form → (epoch peer : ℕ) → Metric → held.Held → Option worker.Message

@@ -9,11 +9,11 @@ ghost use Rattle.outgoing.specs.Sent.{Sendable};
 ghost use Rattle.outgoing.specs.Requested.{formOf, keyNamed, Requested};
 use crate::Form;
 use crate::Request;
-use crate::entry::put_stored;
 use model::Epoch;
 use model::Offset;
 use rpcw::fit::op_size;
 use rpcw::put::put_head;
+use sententries::entry::put_stored;
 
 // Internal: whether a lone entry of the epoch `own` goes as CopyShard.
 pub fn goes_as_copy(form: Form, own: Epoch, epoch: Epoch) -> bool

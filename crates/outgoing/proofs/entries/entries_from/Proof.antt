@@ -7,7 +7,7 @@ use Rattle.model.specs.Log.{Log}
 use Rattle.model.specs.Node.Worker.{copyOf}
 use Rattle.shard.specs.View.{columns}
 use Rattle.outgoing.specs.Requested.{keyNamed, Requested}
-use Rattle.outgoing.proofs.OfEntries.{from-some}
+use Rattle.sententries.proofs.OfEntries.{from-some}
 use Rattle.outgoing.proofs.entries.entries_from.Statement.{statement}
 use Rattle.outgoing.proofs.entries.entries_from.Tie as tie
 

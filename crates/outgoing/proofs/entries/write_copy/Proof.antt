@@ -8,7 +8,7 @@ use Rattle.shard.specs.View.{columns}
 use Rattle.outgoing.specs.Requested.{keyNamed}
 use Rattle.outgoing.specs.Sent.{entriesAt}
 use Rattle.outgoing.proofs.OfAnswer.{short, wrote}
-use Rattle.outgoing.proofs.OfEntries.{copy-put, copy-length}
+use Rattle.sententries.proofs.OfEntries.{copy-put, copy-length}
 use Rattle.outgoing.proofs.entries.write_copy.Statement.{statement}
 use Rattle.outgoing.proofs.entries.write_copy.Tie as tie
 

@@ -9,7 +9,7 @@ use Rattle.rpcw.proofs.Writes.{op-small}
 use Rattle.shard.specs.View.{columns, entryOf}
 use Rattle.outgoing.specs.Requested.{keyNamed}
 use Rattle.outgoing.proofs.OfAnswer.{short, wrote}
-use Rattle.outgoing.proofs.OfEntry.{upserts, vector, op-fits, op-domain, lone-put, lone-length}
+use Rattle.sententries.proofs.OfEntry.{upserts, vector, op-fits, op-domain, lone-put, lone-length}
 use Rattle.outgoing.proofs.lone.write_lone.Statement.{statement}
 use Rattle.outgoing.proofs.lone.write_lone.Tie as tie
 

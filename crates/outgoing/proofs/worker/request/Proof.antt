@@ -13,7 +13,7 @@ use Rattle.shard.proofs.Facts.{facts}
 use Rattle.writes.specs.Writes.{viewStored}
 use Rattle.outgoing.specs.Requested.{formOf, keyNamed, requestOn, Requested}
 use Rattle.outgoing.proofs.OfAnswer.{nothing}
-use Rattle.outgoing.proofs.OfEntry.{sendable}
+use Rattle.sententries.proofs.OfEntry.{sendable}
 use Rattle.outgoing.proofs.OfStep.{Word, align-at, byWord, request-by, send-within}
 use Rattle.outgoing.proofs.worker.request.Statement.{statement}
 use Rattle.outgoing.proofs.worker.request.Tie as tie

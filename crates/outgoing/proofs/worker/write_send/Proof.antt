@@ -10,7 +10,7 @@ use Rattle.model.specs.Node.Worker.{Message, copyOf, sending}
 use Rattle.model.specs.Log.{Log, entriesFrom}
 use Rattle.shard.specs.View.{columns, entryOf, logOf}
 use Rattle.outgoing.specs.Requested.{formOf, keyNamed, Requested}
-use Rattle.outgoing.proofs.OfEntries.{at-length, from-one, from-within}
+use Rattle.sententries.proofs.OfEntries.{at-length, from-one, from-within}
 use Rattle.outgoing.proofs.OfStep.{send-copy, send-lone, send-many}
 use Rattle.outgoing.proofs.worker.write_send.Statement.{statement}
 use Rattle.outgoing.proofs.worker.write_send.Tie as tie

@@ -6,8 +6,8 @@ use Prim.Native.Nat.{ℕ, _+_, _-_, _*_, _≤_, _<_}
 use native.Mathlib.Nat.{zero-add}
 use Rattle.rpcw.specs.Rows.{rowsSize}
 use Rattle.rpcw.proofs.Rows.{size-step}
-use Rattle.outgoing.proofs.entries.entries_size.Statement.{statement}
-use Rattle.outgoing.proofs.entries.entries_size.Tie as tie
+use Rattle.sententries.proofs.entries.entries_size.Statement.{statement}
+use Rattle.sententries.proofs.entries.entries_size.Tie as tie
 
 abbrev Inv-loop : tie.InvT-loop
 Inv-loop codes lengths from end total₀ i₀ total i =

@@ -12,7 +12,7 @@ ghost use Rattle.model.specs.Node.Wire.{bitsOf};
 ghost use Rattle.model.specs.Node.WellFormed.{component};
 ghost use Rattle.rpcw.specs.Written.{opBytes, opFits, opSize};
 ghost use Rattle.shard.specs.View.{columns};
-ghost use Rattle.outgoing.specs.Sent.{entrySent, Sendable};
+ghost use Rattle.sententries.specs.Sent.{entrySent, Sendable};
 use model::Offset;
 use rpcw::put::put_byte;
 

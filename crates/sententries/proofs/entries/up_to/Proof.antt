@@ -1,7 +1,7 @@
 -- `entries::up_to` meets its contract. Assumes nothing.
 use native.Mathlib.Omega.{arith}
-use Rattle.outgoing.proofs.entries.up_to.Statement.{statement}
-use Rattle.outgoing.proofs.entries.up_to.Tie as tie
+use Rattle.sententries.proofs.entries.up_to.Statement.{statement}
+use Rattle.sententries.proofs.entries.up_to.Tie as tie
 
 returns : tie.Need-returns
 returns c = omega arith

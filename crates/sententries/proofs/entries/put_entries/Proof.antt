@@ -8,10 +8,10 @@ use lib.Seq.{sets}
 use Rattle.rpcw.specs.Rows.{rowsSize}
 use Rattle.rpcw.proofs.Rows.{size-step}
 use Rattle.shard.specs.View.{columns}
-use Rattle.outgoing.specs.Sent.{entriesAt, entriesSent}
-use Rattle.outgoing.proofs.OfEntries.{sent-step}
-use Rattle.outgoing.proofs.entries.put_entries.Statement.{statement}
-use Rattle.outgoing.proofs.entries.put_entries.Tie as tie
+use Rattle.sententries.specs.Sent.{entriesAt, entriesSent}
+use Rattle.sententries.proofs.OfEntries.{sent-step}
+use Rattle.sententries.proofs.entries.put_entries.Statement.{statement}
+use Rattle.sententries.proofs.entries.put_entries.Tie as tie
 
 abbrev Inv-loop : tie.InvT-loop
 Inv-loop out₀ at epochs offsets ids codes lengths floats count from end p₀ i₀ out p i =

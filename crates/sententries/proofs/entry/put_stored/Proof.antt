@@ -8,8 +8,8 @@ use lib.ListN.{length, length-map}
 use Rattle.model.specs.Node.Wire.{bitsOf}
 use Rattle.rpcw.specs.Written.{opSize}
 use Rattle.rpcw.proofs.Writes.{upsert-put, delete-put, upsert-count}
-use Rattle.outgoing.proofs.entry.put_stored.Statement.{statement}
-use Rattle.outgoing.proofs.entry.put_stored.Tie as tie
+use Rattle.sententries.proofs.entry.put_stored.Statement.{statement}
+use Rattle.sententries.proofs.entry.put_stored.Tie as tie
 
 put-byte-requires : tie.Need-put-byte-requires
 put-byte-requires c κs =

@@ -9,9 +9,9 @@ use lib.Seq.{sets}
 use Rattle.model.specs.Node.Wire.{bitsOf}
 use Rattle.rpcw.proofs.Entries.{entry-put}
 use Rattle.shard.specs.View.{columns}
-use Rattle.outgoing.proofs.OfEntry.{upserts, vector, op-length, op-fits, op-domain, entry-bytes}
-use Rattle.outgoing.proofs.entry.put_entry_at.Statement.{statement}
-use Rattle.outgoing.proofs.entry.put_entry_at.Tie as tie
+use Rattle.sententries.proofs.OfEntry.{upserts, vector, op-length, op-fits, op-domain, entry-bytes}
+use Rattle.sententries.proofs.entry.put_entry_at.Statement.{statement}
+use Rattle.sententries.proofs.entry.put_entry_at.Tie as tie
 
 add-put8 : tie.Need-add-put8
 add-put8 c =

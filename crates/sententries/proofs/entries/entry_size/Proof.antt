@@ -2,8 +2,8 @@
 use borrow.Author.Needs.{needs}
 use native.Mathlib.Omega.{arith}
 use borrow.Author.Tests.{eq-eqb, ne-eqb}
-use Rattle.outgoing.proofs.entries.entry_size.Statement.{statement}
-use Rattle.outgoing.proofs.entries.entry_size.Tie as tie
+use Rattle.sententries.proofs.entries.entry_size.Statement.{statement}
+use Rattle.sententries.proofs.entries.entry_size.Tie as tie
 
 mul-result : tie.Need-mul-result
 mul-result c = search needs

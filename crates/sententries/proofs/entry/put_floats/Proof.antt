@@ -11,9 +11,9 @@ use Rattle.model.specs.Layout.Format.{bytesOf, concatMap}
 use Rattle.model.specs.Node.Wire.{bitsOf}
 use Rattle.model.specs.Node.WellFormed.{component}
 use Rattle.shard.proofs.Bits.{every-at}
-use Rattle.outgoing.proofs.OfEntry.{component-number, floats-step}
-use Rattle.outgoing.proofs.entry.put_floats.Statement.{statement}
-use Rattle.outgoing.proofs.entry.put_floats.Tie as tie
+use Rattle.sententries.proofs.OfEntry.{component-number, floats-step}
+use Rattle.sententries.proofs.entry.put_floats.Statement.{statement}
+use Rattle.sententries.proofs.entry.put_floats.Tie as tie
 
 abbrev Inv-loop : tie.InvT-loop
 Inv-loop out₀ at v i₀ out i =

@@ -1,0 +1,2 @@
+pub mod OfEntry
+pub mod OfEntries
