@@ -4,9 +4,9 @@ ghost use Rattle.clientends.specs.Found.{ended};
 ghost use Rattle.clientcalls.specs.Searched.{SearchesShard, SearchesBytes};
 use arrivals::domain::op_in_domain;
 use clientends::found::search_lent;
+use clientends::hits::room_of;
 use lend::named::key_of;
 use lentimage::pick::pick;
-use nearest::answer::least;
 use rpc::Message;
 use rpc::OpPart;
 use rpc::decode;
@@ -50,7 +50,7 @@ fn search_at(
         return 24;
     }
     let n = l.node;
-    let room = least(1024, hits.len() / 12);
+    let room = room_of(hits.len());
     let mut found = [0u64; 1024];
     let mut distances = [0.0f32; 1024];
     search_lent(

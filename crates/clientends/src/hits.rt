@@ -1,10 +1,11 @@
 // The neighbours of a search in a host's buffer, 12 bytes each. Internal.
 ghost use mathlib.Core.Path.{_≡_};
-ghost use Prim.Native.Nat.{_*_, _≤_};
+ghost use Prim.Native.Nat.{_*_, _/_, _≤_, min};
 ghost use lib.ListN.{length};
 ghost use lib.Seq.{sets};
 ghost use Rattle.model.specs.Node.Wire.{bitsOf};
 ghost use Rattle.clientends.specs.Hits.{hitsBytes};
+use nearest::answer::least;
 
 // The bits of a float. No search finds a NaN, which has no bits of its own; it gets those that the definition gives it.
 fn bits_of(x: f32) -> u32
@@ -14,6 +15,13 @@ fn bits_of(x: f32) -> u32
         return f32::to_bits(x);
     }
     0x7fc0_0000
+}
+
+// How many neighbours a buffer of so many bytes has room for; 1,024 are as many as a log can have.
+pub fn room_of(len: usize) -> usize
+    ensures { λ r. ⌜ r ≡ min 1024 (len / 12) ⌝ }
+{
+    least(1024, len / 12)
 }
 
 // The first n neighbours of two columns, from the start of the buffer.

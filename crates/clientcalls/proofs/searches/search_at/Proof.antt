@@ -40,8 +40,8 @@ pick-requires c κs = refl
 returns : tie.Need-returns
 returns c = shard-unlent _ _ _ _ _ (c .before .before .before .before .before .before .before .before .before .before .pick .ensures) _ _ _ _ (not-true _ (c .if1 .taken))
 
-least-requires : tie.Need-least-requires
-least-requires c κs = search needs
+room-of-requires : tie.Need-room-of-requires
+room-of-requires c κs = search needs
 
 slice-aggregate-search-lent : tie.Need-slice-aggregate-search-lent
 slice-aggregate-search-lent c = search needs
@@ -71,16 +71,16 @@ array-borrow-prefix-found : tie.Need-array-borrow-prefix-found
 array-borrow-prefix-found c = search needs
 
 slice-aggregate-search-lent-9 : tie.Need-slice-aggregate-search-lent-9
-slice-aggregate-search-lent-9 c = front-long _ _ (c .before .before .before .before .before .before .before .before .before .least .ensures) 0
+slice-aggregate-search-lent-9 c = front-long _ _ (c .before .before .before .before .before .before .before .before .before .room-of .ensures) 0
 
 array-borrow-prefix-distances : tie.Need-array-borrow-prefix-distances
 array-borrow-prefix-distances c = search needs
 
 slice-aggregate-search-lent-10 : tie.Need-slice-aggregate-search-lent-10
-slice-aggregate-search-lent-10 c = front-long _ _ (c .before .before .before .before .before .before .before .before .before .before .least .ensures) (floatOf 0)
+slice-aggregate-search-lent-10 c = front-long _ _ (c .before .before .before .before .before .before .before .before .before .before .room-of .ensures) (floatOf 0)
 
 search-lent-requires : tie.Need-search-lent-requires
-search-lent-requires c κs = front-fresh (c .before .before .before .before .before .before .before .before .before .before .before .before .before .before .before .before .before .before .before .before .before .before .before .before .before .before .before .before .before .before .before .before .before .before .before .before .before .before .args .hits .now) _ (c .before .before .before .before .before .before .before .before .before .before .before .before .least .ensures)
+search-lent-requires c κs = front-fresh (c .before .before .before .before .before .before .before .before .before .before .before .before .before .before .before .before .before .before .before .before .before .before .before .before .before .before .before .before .before .before .before .before .before .before .before .before .before .before .args .hits .now) _ (c .before .before .before .before .before .before .before .before .before .before .before .before .room-of .ensures)
 
 same-length : tie.Need-same-length
 same-length c = search needs
@@ -105,7 +105,7 @@ search-at-spec =
     slice-aggregate-pick-8
     pick-requires
     returns
-    least-requires
+    room-of-requires
     slice-aggregate-search-lent
     slice-aggregate-search-lent-2
     slice-aggregate-search-lent-3
