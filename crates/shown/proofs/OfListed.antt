@@ -40,7 +40,8 @@ use Rattle.header.proofs.OfShards.{shard-none, shard-some}
 use Rattle.header.proofs.OfGrow.{stop-at, view-bare}
 use Rattle.shown.specs.declared.Taken.{Taken}
 use Rattle.shown.specs.declared.RowShown.{RowShown}
-use Rattle.shown.specs.Rows.{otherName, Refreshes, Firsts, viewTaken, takenOf, asKept, TakesAs, placeOf, SlotFrom, opens, stays, listedShown, ShowsListed}
+use Rattle.shownrows.specs.Rows.{otherName}
+use Rattle.shown.specs.Rows.{Refreshes, Firsts, viewTaken, takenOf, asKept, TakesAs, placeOf, SlotFrom, opens, stays, listedShown, ShowsListed}
 
 abbrev pub noPeers : Held → Held
 noPeers h = record {

@@ -1,51 +1,23 @@
--- Laws of what a map's rows say, and of a shard that lists this node. Assumes nothing.
+-- Laws of a shard that lists this node. Assumes nothing.
 use mathlib.Core.Path.{_≡_, refl, ap, _∙_}
 use mathlib.Core.Bool.{false}
-use mathlib.Core.List.{map}
-use mathlib.Core.Option.{Option}
 use Prim.Native.Nat.{ℕ}
-use Rattle.model.specs.Keys.{Key}
 use Rattle.model.specs.Map.Tables as tables
 use Rattle.model.specs.Node.Shown as show
 use Rattle.model.specs.declared.Metric.{Metric}
 use Rattle.model.specs.declared.Epoch.{Epoch}
 use Rattle.node.specs.declared.Held.{Held}
 use Rattle.node.specs.declared.Nodes.{Nodes}
-use Rattle.node.specs.declared.Leader.{Leader}
 use Rattle.node.specs.declared.Info.{Info}
 use Rattle.node.specs.declared.Shown.{Shown}
-use Rattle.node.specs.Shows.{leaderOf, recordEpoch, ShowsHeld}
+use Rattle.node.specs.Shows.{recordEpoch, ShowsHeld}
 use Rattle.state.specs.declared.ShardKey.{ShardKey}
 use Rattle.state.specs.declared.ShardRow.{ShardRow}
 use Rattle.state.specs.Names.{viewKey}
-use Rattle.state.specs.View.{viewPrimary, viewShard}
 use Rattle.header.specs.View.{viewKept, relogged}
 use Rattle.shown.specs.declared.Taken.{Taken}
-use Rattle.shown.specs.Rows.{Reads, viewTaken, takenOf, asKept, TakesAs}
-
-pub info-reads : (row : ShardRow) (l : Leader) → leaderOf l ≡ viewPrimary (row .primary)
-    → Reads row
-    (record {
-      epoch = row .epoch;
-      leader = l;
-      replicas = row .replicas .items;
-      holders = row .replicas .count;
-      insync = row .insync .items;
-      synced = row .insync .count;
-    })
-info-reads row l e = record {
-  holders = refl;
-  synced = refl;
-  same = ap
-      (λ (p : Option ℕ). record {
-        key = viewKey (row .key);
-        replicas = viewShard row .replicas;
-        primary = p;
-        insync = viewShard row .insync;
-        epoch = row .epoch .0;
-      })
-      e;
-}
+use Rattle.shownrows.specs.Rows.{Reads}
+use Rattle.shown.specs.Rows.{viewTaken, takenOf, asKept, TakesAs}
 
 pub taken-is : (key : ShardKey) (slot stored : ℕ) (h : Held) (metric : Metric) (peers : Nodes) (e : Epoch) → e .0 ≡ recordEpoch (h .role)
     → record {

@@ -33,13 +33,14 @@ use Rattle.shown.specs.declared.Taken.{Taken}
 use Rattle.shown.specs.declared.Walked.{Walked}
 use Rattle.shown.specs.declared.NodeShown.{NodeShown}
 use Rattle.shown.specs.declared.ShownAnswer.the-variants as A
-use Rattle.shown.specs.Rows.{deadAt, viewTaken, keptOf, startOf, placeOf, SlotFrom, opens, stays}
-use Rattle.shown.specs.Slots.{keysOf, slotBefore, seated, slotsAfter, openFits, slotsOpen, Assigns}
+use Rattle.shownrows.specs.Rows.{deadAt}
+use Rattle.shown.specs.Rows.{viewTaken, keptOf, startOf, placeOf, SlotFrom, opens, stays}
+use Rattle.shownslots.specs.Slots.{keysOf, slotBefore, seated, slotsAfter, openFits, slotsOpen, Assigns}
 use Rattle.shown.specs.Walks.{shardsAfter, Walks}
 use Rattle.shown.specs.Shows.{viewStarts, StartsOver, TakesMap, ShowsMap}
-use Rattle.shown.proofs.OfSlots.{slotIn, or-left, or-right, some-here, open-cons}
-use Rattle.shown.proofs.OfKeys.{below-each, never-below, rising-tail}
-use Rattle.shown.proofs.OfSeats.{seated-all, own-slots}
+use Rattle.shownslots.proofs.OfSlots.{slotIn, or-left, or-right, some-here, open-cons}
+use Rattle.shownslots.proofs.OfKeys.{below-each, never-below, rising-tail}
+use Rattle.shownslots.proofs.OfSeats.{seated-all, own-slots}
 use Rattle.shown.proofs.OfWalk.{takenKey, rising-keys}
 
 -- ---- slots that fit

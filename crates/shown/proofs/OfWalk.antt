@@ -34,8 +34,8 @@ use Rattle.header.proofs.OfLists.{by-case}
 use Rattle.shown.specs.declared.Taken.{Taken}
 use Rattle.shown.specs.Rows.{viewTaken, keptOf, SlotFrom, listedShown, Overworks}
 use Rattle.shown.specs.Walks.{Walks}
-use Rattle.shown.proofs.OfSlots.{or-right}
-use Rattle.shown.proofs.OfKeys.{rising-less}
+use Rattle.shownslots.proofs.OfSlots.{or-right}
+use Rattle.shownslots.proofs.OfKeys.{rising-less}
 
 -- ---- lists
 

@@ -1,12 +1,11 @@
--- What a map's rows promise: what is read of one row, and of a shard that lists this node. Definitions only.
+-- What a map's rows promise of a shard that lists this node. Definitions only.
 use Prim.Native.Nat.{ℕ, _<_, _≤_}
-use mathlib.Core.Bool.{Bool, true, false, not}
+use mathlib.Core.Bool.{true, false}
 use mathlib.Core.Path.{_≡_}
 use mathlib.Core.List.{List, [], map}
 use mathlib.Core.Option.{Option, none, some}
-use lib.Dec.{eqb}
 use lib.ListN.{take, getD}
-use Rattle.model.specs.Lists.{_and_, lead}
+use Rattle.model.specs.Lists.{lead}
 use Rattle.model.specs.Limits.{maxHeld}
 use Rattle.model.specs.Keys as keys
 use Rattle.model.specs.Log.{Log, Vectors}
@@ -15,14 +14,11 @@ use Rattle.model.specs.Node.Shards.{shardOf, begun}
 use Rattle.model.specs.Node.Shown as show
 use Rattle.model.specs.declared.Metric.{Metric}
 use Rattle.node.specs.declared.Held.{Held}
-use Rattle.node.specs.declared.Info.{Info}
 use Rattle.node.specs.declared.Nodes.{Nodes}
 use Rattle.node.specs.View.{viewHeld}
-use Rattle.node.specs.Shows.{viewInfo, recordEpoch, workerAt}
+use Rattle.node.specs.Shows.{recordEpoch, workerAt}
 use Rattle.state.specs.declared.ShardKey.{ShardKey}
 use Rattle.state.specs.declared.ShardRow.{ShardRow}
-use Rattle.state.specs.declared.NodeRow.{NodeRow}
-use Rattle.state.specs.declared.CollectionRow.{CollectionRow}
 use Rattle.state.specs.declared.Collections.{Collections}
 use Rattle.state.specs.Names.{viewName, viewKey}
 use Rattle.state.specs.View.{viewShard, viewCollections}
@@ -33,21 +29,7 @@ use Rattle.shown.specs.declared.Start.{Start}
 use Rattle.shown.specs.declared.Taken.{Taken}
 use Rattle.shown.specs.declared.RowShown.{RowShown}
 
--- ---- one row
-
--- the collections before that of a name
-abbrev pub otherName : keys.Name → CollectionRow → Bool
-otherName k c = not (keys.sameName (viewName (c .name)) k)
-
--- node.rs, on_map: this incarnation of this node, marked dead
-abbrev pub deadAt : (id incarnation : ℕ) → NodeRow → Bool
-deadAt id i r = eqb (r .node .0) id and eqb (r .incarnation) i and not (r .alive)
-
--- what a row says of its shard
-pub record Reads (row : ShardRow) (r : Info) : Type 0 where
-  pub holders : r .holders ≡ row .replicas .count
-  pub synced : r .synced ≡ row .insync .count
-  pub same : viewInfo (viewKey (row .key)) r ≡ viewShard row
+-- ---- one shard: what it learns of the map, and how it begins
 
 -- the replicas that the map lists, and nothing else changed
 pub record Refreshes (h : Held) (row : ShardRow) (r : Held) : Type 0 where

@@ -21,7 +21,7 @@ use Rattle.shown.specs.declared.ShownAnswer.{ShownAnswer}
 use Rattle.shown.specs.declared.ShownAnswer.the-variants as A
 use Rattle.shown.specs.declared.NodeShown.{NodeShown}
 use Rattle.shown.specs.Rows.{viewStart}
-use Rattle.shown.specs.Slots.{slotsAfter}
+use Rattle.shownslots.specs.Slots.{slotsAfter}
 
 -- the workers to start, by shard and then by node
 unfoldable pub viewStarts : List Start → List show.Worker

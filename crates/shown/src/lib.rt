@@ -1,4 +1,5 @@
-// A map shown to a node (paper 01, 'The node', 'Map shown'; node.rs, on_map), over the node's header and a map by value.
+// A map shown to a node (paper 01, 'The node', 'Map shown'; node.rs, on_map), over the node's header and a map by value. What its rows say, and
+// the slots after it, are crates `shownrows` and `shownslots`.
 use header::Kept;
 use header::Node;
 use model::Epoch;
@@ -7,8 +8,7 @@ use node::Nodes;
 use state::ShardKey;
 
 pub mod listed;
-mod rows;
-mod slots;
+mod parts;
 pub mod starting;
 pub mod walk;
 

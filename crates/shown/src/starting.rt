@@ -8,15 +8,15 @@ ghost use Rattle.state.specs.Counted.{TablesCounted};
 ghost use Rattle.shown.specs.Shows.{StartsOver, TakesMap, ShowsMap};
 use crate::NodeShown;
 use crate::ShownAnswer;
-use crate::rows::dead_in;
-use crate::slots::assigned;
-use crate::slots::kepts_of;
-use crate::slots::starts_of;
+use crate::parts::kepts_of;
+use crate::parts::starts_of;
 use crate::walk::no_taken;
 use crate::walk::walk;
 use header::Node;
 use header::formed::formed_node;
 use serve::Expiry;
+use shownrows::rows::dead_in;
+use shownslots::slots::assigned;
 use state::ShardMap;
 
 // Internal: the node under a fresh incarnation, with nothing held and no map known.

@@ -11,7 +11,7 @@ use Rattle.shown.proofs.listed.show_as.Reads as reads
 use Rattle.shown.proofs.listed.show_as.Lts as lts
 use Rattle.onmap.proofs.show_held.Reads as show-held-reads
 use Rattle.shown.proofs.listed.taken_as.Reads as taken-as-reads
-use Rattle.shown.proofs.rows.info_of.Reads as info-of-reads
+use Rattle.shownrows.proofs.rows.info_of.Reads as info-of-reads
 
 info-of-requires : tie.Need-info-of-requires
 info-of-requires c κs = search needs

@@ -18,7 +18,7 @@ use Rattle.shown.proofs.listed.first_held.Reads as first-held-reads
 use Rattle.shown.proofs.listed.refreshed.Reads as refreshed-reads
 use Rattle.shown.proofs.listed.show_as.Reads as show-as-reads
 use Rattle.shown.proofs.listed.taken_as.Reads as taken-as-reads
-use Rattle.shown.proofs.rows.collection_of.Reads as collection-of-reads
+use Rattle.shownrows.proofs.rows.collection_of.Reads as collection-of-reads
 
 -- the shards and the collections in use are in their arrays
 fitsN : (c : tie.Start) → c .args .n .count ≤ length (c .args .n .held)

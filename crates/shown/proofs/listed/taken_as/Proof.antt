@@ -9,7 +9,7 @@ use Rattle.shown.proofs.listed.taken_as.Statement.{statement}
 use Rattle.shown.proofs.listed.taken_as.Tie as tie
 use Rattle.shown.proofs.listed.taken_as.Reads as reads
 use Rattle.shown.proofs.listed.taken_as.Lts as lts
-use Rattle.shown.proofs.rows.epoch_of.Reads as epoch-of-reads
+use Rattle.shownrows.proofs.rows.epoch_of.Reads as epoch-of-reads
 
 epoch-of-requires : tie.Need-epoch-of-requires
 epoch-of-requires c κs = search needs

@@ -10,7 +10,7 @@ use Rattle.shown.proofs.starting.show_map.Tie as tie
 use Rattle.shown.proofs.starting.show_map.Reads as reads
 use Rattle.shown.proofs.starting.show_map.Lts as lts
 use Rattle.header.proofs.formed.formed_node.Reads as formed-node-reads
-use Rattle.shown.proofs.rows.dead_in.Reads as dead-in-reads
+use Rattle.shownrows.proofs.rows.dead_in.Reads as dead-in-reads
 use Rattle.shown.proofs.starting.started_over.Reads as started-over-reads
 use Rattle.shown.proofs.starting.take_map.Reads as take-map-reads
 use Rattle.shown.proofs.walk.no_taken.Reads as no-taken-reads

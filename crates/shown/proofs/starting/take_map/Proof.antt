@@ -13,9 +13,9 @@ use Rattle.shown.proofs.starting.take_map.Statement.{statement}
 use Rattle.shown.proofs.starting.take_map.Tie as tie
 use Rattle.shown.proofs.starting.take_map.Reads as reads
 use Rattle.shown.proofs.starting.take_map.Lts as lts
-use Rattle.shown.proofs.slots.assigned.Reads as assigned-reads
-use Rattle.shown.proofs.slots.kepts_of.Reads as kepts-of-reads
-use Rattle.shown.proofs.slots.starts_of.Reads as starts-of-reads
+use Rattle.shownslots.proofs.slots.assigned.Reads as assigned-reads
+use Rattle.shown.proofs.parts.kepts_of.Reads as kepts-of-reads
+use Rattle.shown.proofs.parts.starts_of.Reads as starts-of-reads
 use Rattle.shown.proofs.walk.walk.Reads as walk-reads
 
 -- the shards in use are in the array

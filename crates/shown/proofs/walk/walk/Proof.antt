@@ -12,7 +12,7 @@ use Rattle.shown.proofs.walk.walk.Tie as tie
 use Rattle.shown.proofs.walk.walk.Reads as reads
 use Rattle.shown.proofs.walk.walk.Lts as lts
 use Rattle.shown.proofs.listed.show_listed.Reads as show-listed-reads
-use Rattle.shown.proofs.rows.is_listed.Reads as is-listed-reads
+use Rattle.shownrows.proofs.rows.is_listed.Reads as is-listed-reads
 use Rattle.shown.proofs.walk.no_taken.Reads as no-taken-reads
 
 abbrev Inv-loop : tie.InvT-loop

@@ -1,0 +1,3 @@
+pub mod OfKeys
+pub mod OfSeats
+pub mod OfSlots
