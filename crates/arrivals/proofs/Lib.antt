@@ -2,5 +2,4 @@ pub mod InMessage
 pub mod OfOps
 pub mod OfStores
 pub mod OfBatch
-pub mod OfTables
 pub mod OfMessages

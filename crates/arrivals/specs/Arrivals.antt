@@ -2,14 +2,14 @@
 use Prim.Native.Nat.{ℕ, _≤_}
 use mathlib.Core.Path.{_≡_}
 use mathlib.Core.Bool.{Bool, true, false}
-use mathlib.Core.List.{List, map}
+use mathlib.Core.List.{List}
 use lib.ListN.{length, take}
 use Rattle.model.specs.Limits.{maxComponents, maxEntries}
 use Rattle.model.specs.Refusals.{noRoom}
-use Rattle.model.specs.Log.{Entry, ShardReplica, lastOffset, storeAll}
+use Rattle.model.specs.Log.{Entry, lastOffset, storeAll}
 use Rattle.model.specs.Layout.Message.{replyStored, replyGap, replyStale}
-use Rattle.model.specs.Layout.Parts.{WireOp, WireEntry}
-use Rattle.model.specs.Node.Wire.{opInDomain, storedOp, storedEntry}
+use Rattle.model.specs.Layout.Parts.{WireOp}
+use Rattle.model.specs.Node.Wire.{opInDomain, storedOp}
 use Rattle.model.specs.Node.Held.{Held}
 use Rattle.model.specs.Node.Shards.{gives, withReplica}
 use Rattle.model.specs.Node.Backup.{BackupAnswer, replied, backupRefused, copyHeld}
@@ -38,10 +38,6 @@ turnedDown Full = true
 pub record Arrives (own epoch : ℕ) (e : Entry) (s t : Store) (a : Outcome) : Type 0 where
   pub arrived : Arrived own epoch e s t a
   pub kept : turnedDown a ≡ true → t ≡ s
-
--- how many entries a log of n has after a batch, stored at the own epoch
-abbrev pub GrowsTo : List WireEntry → (n : ℕ) → ℕ → Type 0
-GrowsTo es n r = (q : ShardReplica) → lastOffset q ≡ n → r ≡ lastOffset (storeAll q (q .epoch) (map storedEntry es))
 
 -- a log with room for a batch, stored at the own epoch
 abbrev pub HasRoom : (own : ℕ) → List Entry → Store → Type 0

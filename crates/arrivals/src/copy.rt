@@ -1,17 +1,16 @@
 // 22: a batch of entries, each stored under its own epoch (paper 01, 'Who is turned down', CopyShard; node.rs, on_copy). Internal: the
 // message was read, its vectors lie in the domain, and the store has been tested.
 ghost use mathlib.Core.Path.{_≡_};
-ghost use mathlib.Core.Bool.{true, cond};
+ghost use mathlib.Core.Bool.{true};
 ghost use mathlib.Core.List.{map};
-ghost use Prim.Native.Nat.{_+_, _≤_, _<_};
-ghost use lib.Dec.{eqb};
 ghost use Rattle.model.specs.Lists.{every};
 ghost use Rattle.model.specs.Node.Wire.{entryInDomain, storedEntry};
 ghost use Rattle.shard.specs.View.{columns};
 ghost use Rattle.shard.specs.Store.{lent, Sized, wellFormedStore};
 ghost use Rattle.arrivals.specs.Parts.{entriesIn, EntriesThere};
-ghost use Rattle.arrivals.specs.Arrivals.{GrowsTo, HasRoom, StoresAll, Copies};
+ghost use Rattle.arrivals.specs.Arrivals.{HasRoom, StoresAll, Copies};
 use crate::store::store_under;
+use inmessage::growth::grows_to;
 use model::Epoch;
 use model::Offset;
 use rpc::Part;
@@ -23,37 +22,6 @@ use shard::replica::Taken;
 pub struct Stock {
     pub count: usize,
     pub stored: usize,
-}
-
-// A log of `last` entries after one of this offset; a batch adds at most 256 to 1,024.
-fn after(last: usize, offset: Offset) -> usize
-    requires { ⌜ last < 1280 ⌝ }
-    ensures { λ r. ⌜ r ≡ cond (eqb (offset .0) (last + 1)) (last + 1) last ⌝ }
-{
-    let next = last + 1;
-    if offset.0 != next as u64 {
-        return last;
-    }
-    next
-}
-
-// How many entries the log has after a batch, by the offsets alone: those already held and those behind a gap add nothing.
-fn grows_to(s: &[u8], p: Part, count: usize) -> usize
-    requires { ⌜ (EntriesThere (now s) p) × (count ≤ 1024) ⌝ }
-    ensures { λ r. ⌜ GrowsTo (entriesIn (now (s .entry)) p) count r ⌝ }
-{
-    let n = p.len;
-    let mut at = p.at;
-    let mut last = count;
-    let mut i: usize = 0;
-    while i < n {
-        let e = entry_at(s, at);
-        let offset = e.offset;
-        last = after(last, offset);
-        at = e.next;
-        i += 1;
-    }
-    last
 }
 
 // The entries of a batch at the own epoch, one after the other; there is room for them.

@@ -12,7 +12,7 @@ use Rattle.rpc.specs.Shown.{part}
 use Rattle.shard.specs.View.{columns}
 use Rattle.shard.specs.Store.{lent}
 use Rattle.arrivals.specs.Parts.{entriesIn, EntriesThere}
-use Rattle.arrivals.proofs.InMessage.{entries-start, entries-all, entries-first, entry-op, entries-rest, domain-first, domain-rest}
+use Rattle.inmessage.proofs.InMessage.{entries-start, entries-all, entries-first, entry-op, entries-rest, domain-first, domain-rest}
 use Rattle.arrivals.proofs.OfBatch.{OnWay, on-begin, on-turn, on-done}
 use Rattle.arrivals.proofs.copy.store_all.Statement.{statement}
 use Rattle.arrivals.proofs.copy.store_all.Tie as tie

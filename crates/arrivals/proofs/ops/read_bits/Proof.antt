@@ -5,7 +5,7 @@ use Prim.Native.Nat.{_-_, _≤_, _<_}
 use native.Mathlib.Omega.{arith}
 use lib.ListN.{length, take, length-set}
 use Rattle.arrivals.specs.Parts.{bitsIn}
-use Rattle.arrivals.proofs.InMessage.{bits-length, bits-item, bits-within}
+use Rattle.inmessage.proofs.InMessage.{bits-length, bits-item, bits-within}
 use Rattle.arrivals.proofs.OfOps.{column-on, column-end}
 use Rattle.arrivals.proofs.ops.read_bits.Statement.{statement}
 use Rattle.arrivals.proofs.ops.read_bits.Tie as tie

@@ -3,9 +3,9 @@ use borrow.Author.Needs.{needs}
 use mathlib.Core.Path.{sym, ap, _∙_, subst}
 use Rattle.model.specs.Node.Wire.{opInDomain}
 use Rattle.rpc.specs.declared.OpPart.{OpPart}
-use Rattle.arrivals.specs.Parts.{opIn, OpThere}
-use Rattle.arrivals.proofs.domain.op_in_domain.Statement.{statement}
-use Rattle.arrivals.proofs.domain.op_in_domain.Tie as tie
+use Rattle.inmessage.specs.Parts.{opIn, OpThere}
+use Rattle.inmessage.proofs.domain.op_in_domain.Statement.{statement}
+use Rattle.inmessage.proofs.domain.op_in_domain.Tie as tie
 
 enum-known-o : tie.Need-enum-known-o
 enum-known-o c = search needs

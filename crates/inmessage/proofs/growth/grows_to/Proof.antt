@@ -4,11 +4,11 @@ use mathlib.Core.Path.{_≡_, sym, ap, _∙_}
 use Prim.Native.Nat.{ℕ, _+_, _-_, _≤_}
 use native.Mathlib.Omega.{arith}
 use Rattle.rpc.specs.Shown.{part}
-use Rattle.arrivals.specs.Parts.{entriesIn, EntriesThere}
-use Rattle.arrivals.proofs.InMessage.{entries-start, entries-all, entries-first, entries-rest}
-use Rattle.arrivals.proofs.OfBatch.{grown, grown-on, grown-end, grows, after-most}
-use Rattle.arrivals.proofs.copy.grows_to.Statement.{statement}
-use Rattle.arrivals.proofs.copy.grows_to.Tie as tie
+use Rattle.inmessage.specs.Parts.{entriesIn, EntriesThere}
+use Rattle.inmessage.proofs.InMessage.{entries-start, entries-all, entries-first, entries-rest}
+use Rattle.inmessage.proofs.OfGrowth.{grown, grown-on, grown-end, grows, after-most}
+use Rattle.inmessage.proofs.growth.grows_to.Statement.{statement}
+use Rattle.inmessage.proofs.growth.grows_to.Tie as tie
 
 abbrev Inv-loop : tie.InvT-loop
 Inv-loop s count n at₀ last₀ i₀ at last i =

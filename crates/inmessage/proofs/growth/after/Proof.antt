@@ -4,8 +4,8 @@ use mathlib.Core.Path.{sym, ap}
 use mathlib.Core.Bool.{Bool, cond}
 use Prim.Native.Nat.{_+_}
 use borrow.Author.Tests.{eq-eqb, ne-eqb}
-use Rattle.arrivals.proofs.copy.after.Statement.{statement}
-use Rattle.arrivals.proofs.copy.after.Tie as tie
+use Rattle.inmessage.proofs.growth.after.Statement.{statement}
+use Rattle.inmessage.proofs.growth.after.Tie as tie
 
 add-next : tie.Need-add-next
 add-next c = search needs

@@ -15,7 +15,7 @@ use Rattle.shard.specs.Align.{paired, tableOf, Aligned}
 use Rattle.shard.specs.Store.{Store}
 use Rattle.shard.specs.declared.replica.Adoption.{Adoption}
 use Rattle.rpc.specs.declared.Part.{Part}
-use Rattle.arrivals.specs.Parts.{tableIn}
+use Rattle.inmessage.specs.Parts.{tableIn}
 
 -- the pairs from a place of the message on are those of the columns from a place on
 unfoldable pub PairsFrom : List ℕ → (froms ends : List ℕ) → (at n : ℕ) → Type 0

@@ -2,9 +2,9 @@
 use borrow.Author.Needs.{needs}
 use mathlib.Core.Path.{refl}
 use native.Mathlib.Omega.{arith}
-use Rattle.arrivals.proofs.OfTables.{aligned-by}
-use Rattle.arrivals.proofs.table.adopt_table.Statement.{statement}
-use Rattle.arrivals.proofs.table.adopt_table.Tie as tie
+use Rattle.inmessage.proofs.OfTables.{aligned-by}
+use Rattle.inmessage.proofs.table.adopt_table.Statement.{statement}
+use Rattle.inmessage.proofs.table.adopt_table.Tie as tie
 
 slice-aggregate-read-table : tie.Need-slice-aggregate-read-table
 slice-aggregate-read-table c = search needs

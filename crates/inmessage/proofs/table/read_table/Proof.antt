@@ -4,9 +4,9 @@ use mathlib.Core.Path.{_≡_, refl, sym, _∙_, subst}
 use Prim.Native.Nat.{_-_, _≤_, _<_}
 use native.Mathlib.Omega.{arith}
 use lib.ListN.{length, length-set}
-use Rattle.arrivals.proofs.OfTables.{PairsFrom, pairs-none, pairs-on, table-read}
-use Rattle.arrivals.proofs.table.read_table.Statement.{statement}
-use Rattle.arrivals.proofs.table.read_table.Tie as tie
+use Rattle.inmessage.proofs.OfTables.{PairsFrom, pairs-none, pairs-on, table-read}
+use Rattle.inmessage.proofs.table.read_table.Statement.{statement}
+use Rattle.inmessage.proofs.table.read_table.Tie as tie
 
 abbrev Inv-loop : tie.InvT-loop
 Inv-loop s p froms₀ ends₀ n i₀ froms ends i =

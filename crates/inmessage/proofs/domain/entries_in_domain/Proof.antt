@@ -7,10 +7,10 @@ use borrow.Author.Tests.{not-true, not-false}
 use Rattle.model.specs.Lists.{every}
 use Rattle.model.specs.Node.Wire.{entryInDomain}
 use Rattle.rpc.specs.Shown.{part}
-use Rattle.arrivals.specs.Parts.{entriesIn, EntriesThere}
-use Rattle.arrivals.proofs.InMessage.{entries-start, entries-all, entries-first, entry-op, entries-rest, domain-stop, domain-on, domain-end}
-use Rattle.arrivals.proofs.domain.entries_in_domain.Statement.{statement}
-use Rattle.arrivals.proofs.domain.entries_in_domain.Tie as tie
+use Rattle.inmessage.specs.Parts.{entriesIn, EntriesThere}
+use Rattle.inmessage.proofs.InMessage.{entries-start, entries-all, entries-first, entry-op, entries-rest, domain-stop, domain-on, domain-end}
+use Rattle.inmessage.proofs.domain.entries_in_domain.Statement.{statement}
+use Rattle.inmessage.proofs.domain.entries_in_domain.Tie as tie
 
 abbrev Inv-loop : tie.InvT-loop
 Inv-loop s n at₀ i₀ at i =

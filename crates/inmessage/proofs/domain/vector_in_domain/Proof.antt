@@ -8,11 +8,11 @@ use Rattle.model.specs.Lists.{_and_, every}
 use Rattle.model.specs.Nearest.Order.{bitsInDomain}
 use Rattle.model.specs.Node.Wire.{vectorInDomain}
 use Rattle.model.proofs.LayoutLaws.Tests.{and-true}
-use Rattle.arrivals.specs.Parts.{bitsIn}
-use Rattle.arrivals.proofs.InMessage.{bits-length, bits-within}
-use Rattle.arrivals.proofs.OfOps.{bit-in, tested-on, tested-out, tested-end}
-use Rattle.arrivals.proofs.domain.vector_in_domain.Statement.{statement}
-use Rattle.arrivals.proofs.domain.vector_in_domain.Tie as tie
+use Rattle.inmessage.specs.Parts.{bitsIn}
+use Rattle.inmessage.proofs.InMessage.{bits-length, bits-within}
+use Rattle.inmessage.proofs.OfBits.{bit-in, tested-on, tested-out, tested-end}
+use Rattle.inmessage.proofs.domain.vector_in_domain.Statement.{statement}
+use Rattle.inmessage.proofs.domain.vector_in_domain.Tie as tie
 
 abbrev Inv-loop : tie.InvT-loop
 Inv-loop s v n ok₀ i₀ ok i =

@@ -1,0 +1,5 @@
+pub mod InMessage
+pub mod OfBits
+pub mod OfGrowth
+pub mod OfTables
+pub mod OfMessages
