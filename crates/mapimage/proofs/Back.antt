@@ -25,7 +25,7 @@ use Rattle.image.specs.Shape.{Shape, Value, _▸_, u64, Good, value}
 use Rattle.image.proofs.Back.{length-encode, value-encode, length-rows, Holds, holds-stored, holds-kept}
 use Rattle.image.proofs.OfCodes.{flag-back, flag-small, primary-back, primary-small, outcome-back, outcome-small, replicas-back, ids-back}
 use Rattle.mapforms.specs.Canon.{imageNode, imageCollection, imageShard, imageSession}
-use Rattle.mapimage.specs.Rows.{nodeF, nodeOf, nodeValue, nodeAt, nodeBytes, collectionF, collectionOf, collectionValue, collectionAt, collectionBytes, shardF, shardOf, shardValue, shardAt, shardBytes, sessionF, sessionOf, sessionValue, sessionAt, sessionBytes}
+use Rattle.maprows.specs.Rows.{nodeF, nodeOf, nodeValue, nodeAt, nodeBytes, collectionF, collectionOf, collectionValue, collectionAt, collectionBytes, shardF, shardOf, shardValue, shardAt, shardBytes, sessionF, sessionOf, sessionValue, sessionAt, sessionBytes}
 use Rattle.mapimage.specs.Image.{noNode, noCollection, noShard, noSession, codesListed, mapLent, mapAt, headImage, mapStored, imageMap, MapBecomes}
 use Rattle.mapimage.proofs.Canon.{view-map}
 use Rattle.mapimage.proofs.Tables.{Few, table-held, table-listed}

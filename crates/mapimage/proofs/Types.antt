@@ -59,7 +59,7 @@ use Rattle.image.proofs.Types.{name-good, address-good, key-good, replicas-good
 use Rattle.image.proofs.Canon.{length-padded}
 use Rattle.image.proofs.Tidied.{take-within, all-take, all-map, all-mapped, all-padded, name-fits, address-fits, key-fits, replicas-fit, ids-fit}
 use Rattle.mapforms.specs.Canon.{imageNode, imageCollection, imagePrimary, imageShard, imageRejection, imageOutcome, keyOfNone, keyOfName, rejectionKey, outcomeKey, imageSession}
-use Rattle.mapimage.specs.Rows.{nodeF, nodeValue, collectionF, collectionValue, shardF, shardValue, sessionF, sessionValue}
+use Rattle.maprows.specs.Rows.{nodeF, nodeValue, collectionF, collectionValue, shardF, shardValue, sessionF, sessionValue}
 use Rattle.mapimage.proofs.Tables.{Few}
 use Rattle.mapimage.proofs.Back.{NodeFits, CollectionFits, ShardFits, SessionFits, Fits}
 

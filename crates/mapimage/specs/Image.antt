@@ -29,7 +29,7 @@ use Rattle.image.specs.Codes.{idOf, epochOf}
 use Rattle.image.specs.Parts.{noName, noKey, noReplica}
 use Rattle.image.specs.Canon.{padded}
 use Rattle.mapforms.specs.Canon.{imageNode, imageCollection, imageShard, imageSession}
-use Rattle.mapimage.specs.Rows.{nodeAt, nodeBytes, collectionAt, collectionBytes, shardAt, shardBytes, sessionAt, sessionBytes}
+use Rattle.maprows.specs.Rows.{nodeAt, nodeBytes, collectionAt, collectionBytes, shardAt, shardBytes, sessionAt, sessionBytes}
 
 -- ---- rows that say nothing, in the places past a count
 

@@ -6,55 +6,21 @@ ghost use lib.ListN.{length};
 ghost use lib.Seq.{sets};
 ghost use Rattle.model.specs.Layout.Format.{numberAt, concatMap};
 ghost use Rattle.state.specs.View.{viewCollections};
-ghost use Rattle.image.specs.Shape.{Stored, inUse, codesBelow};
-ghost use Rattle.mapimage.specs.Rows.{collectionAt, collectionBytes};
+ghost use Rattle.image.specs.Shape.{inUse, codesBelow};
+ghost use Rattle.maprows.specs.Rows.{collectionBytes};
 ghost use Rattle.mapforms.specs.Canon.{imageCollection};
 ghost use Rattle.mapimage.specs.Image.{noCollection, noCollections, collectionsAt};
 use image::bytes::codes_below;
 use image::bytes::count_at;
 use image::bytes::in_use;
-use image::codes::metric_code;
-use image::codes::metric_of;
-use image::keys::name_at;
 use image::keys::no_name;
-use image::keys::put_name;
 use mapforms::tidy::tidy_collection;
+use maprows::collections::collection_at;
+use maprows::collections::put_collection;
 use model::Metric;
 use state::CollectionRow;
 use state::Collections;
 use state::Spec;
-
-fn collection_at(s: &[u8], at: usize) -> CollectionRow
-    requires { ⌜ at + 56 ≤ length (now s) ⌝ }
-    ensures { λ r. ⌜ r ≡ collectionAt (now (s .entry)) at ⌝ }
-{
-    let name = name_at(s, at);
-    let dimension = num::get4(s, at + 40);
-    let metric = metric_of(num::get4(s, at + 44));
-    let spec = Spec {
-        dimension: dimension,
-        metric: metric,
-        shards: num::get4(s, at + 48),
-        replication: num::get4(s, at + 52),
-    };
-    CollectionRow {
-        name: name,
-        spec: spec,
-    }
-}
-
-fn put_collection(out: &mut [u8], at: usize, c: CollectionRow)
-    requires { ⌜ at + 56 ≤ length (now out) ⌝ }
-    ensures { λ _. ⌜ Stored (now (out .entry)) (now (out .exit)) at (collectionBytes c) 56 ⌝ }
-{
-    put_name(out, at, c.name);
-    let spec = c.spec;
-    let metric = spec.metric;
-    num::put4(out, at + 40, spec.dimension);
-    num::put4(out, at + 44, metric_code(metric));
-    num::put4(out, at + 48, spec.shards);
-    num::put4(out, at + 52, spec.replication);
-}
 
 fn no_collection() -> CollectionRow
     ensures { λ r. ⌜ r ≡ noCollection ⌝ }

@@ -1,6 +1,7 @@
 // A shard map as the bytes that a host owns (docs/IMAGES.md): read into the tables of `state`, and written back. A buffer shorter than the
 // image, or with a code that is not listed, lends no map (24); whether the map that it lends is well formed, counts above their arrays
-// included, is for `mapcheck`. Bytes past the image, and rows past a count, are neither read nor written; a row in use is written whole.
+// included, is for `mapcheck`. Bytes past the image, and rows past a count, are neither read nor written; a row in use is written whole. One row,
+// read and stored, is crate `maprows`; the form in which it is written, crate `mapforms`.
 ghost use mathlib.Core.Path.{_≡_};
 ghost use Prim.Native.Nat.{_≤_};
 ghost use lib.ListN.{length};

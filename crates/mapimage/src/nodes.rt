@@ -2,53 +2,24 @@
 ghost use mathlib.Core.Path.{_≡_};
 ghost use mathlib.Core.List.{map};
 ghost use Prim.Native.Nat.{_+_, _≤_};
-ghost use lib.ListN.{length, replicate};
+ghost use lib.ListN.{length};
 ghost use lib.Seq.{sets};
 ghost use Rattle.model.specs.Layout.Format.{numberAt, concatMap};
 ghost use Rattle.state.specs.View.{viewNodes};
-ghost use Rattle.image.specs.Shape.{Stored, inUse, codesBelow};
-ghost use Rattle.mapimage.specs.Rows.{nodeAt, nodeBytes};
+ghost use Rattle.image.specs.Shape.{inUse, codesBelow};
+ghost use Rattle.maprows.specs.Rows.{nodeBytes};
 ghost use Rattle.mapforms.specs.Canon.{imageNode};
 ghost use Rattle.mapimage.specs.Image.{noNode, noNodes, nodesAt};
 use image::bytes::codes_below;
 use image::bytes::count_at;
 use image::bytes::in_use;
-use image::codes::flag_code;
-use image::codes::flag_of;
-use image::keys::address_at;
-use image::keys::put_address;
 use mapforms::tidy::tidy_node;
+use maprows::nodes::node_at;
+use maprows::nodes::put_node;
 use model::DataNodeId;
 use state::Address;
 use state::NodeRow;
 use state::Nodes;
-
-fn node_at(s: &[u8], at: usize) -> NodeRow
-    requires { ⌜ at + 96 ≤ length (now s) ⌝ }
-    ensures { λ r. ⌜ r ≡ nodeAt (now (s .entry)) at ⌝ }
-{
-    let node = DataNodeId(num::get8(s, at));
-    let incarnation = num::get8(s, at + 8);
-    let alive = flag_of(num::get4(s, at + 16));
-    let address = address_at(s, at + 24);
-    NodeRow {
-        node: node,
-        address: address,
-        incarnation: incarnation,
-        alive: alive,
-    }
-}
-
-fn put_node(out: &mut [u8], at: usize, r: NodeRow)
-    requires { ⌜ at + 96 ≤ length (now out) ⌝ }
-    ensures { λ _. ⌜ Stored (now (out .entry)) (now (out .exit)) at (nodeBytes r) 96 ⌝ }
-{
-    num::put8(out, at, r.node.0);
-    num::put8(out, at + 8, r.incarnation);
-    num::put4(out, at + 16, flag_code(r.alive));
-    num::put4(out, at + 20, 0);
-    put_address(out, at + 24, r.address);
-}
 
 fn no_node() -> NodeRow
     ensures { λ r. ⌜ r ≡ noNode ⌝ }

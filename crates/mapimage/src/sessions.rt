@@ -6,54 +6,20 @@ ghost use lib.ListN.{length};
 ghost use lib.Seq.{sets};
 ghost use Rattle.model.specs.Layout.Format.{numberAt, concatMap};
 ghost use Rattle.state.specs.View.{viewSessions};
-ghost use Rattle.image.specs.Shape.{Stored, inUse, codesBelow};
-ghost use Rattle.mapimage.specs.Rows.{sessionAt, sessionBytes};
+ghost use Rattle.image.specs.Shape.{inUse, codesBelow};
+ghost use Rattle.maprows.specs.Rows.{sessionBytes};
 ghost use Rattle.mapforms.specs.Canon.{imageSession};
 ghost use Rattle.mapimage.specs.Image.{noSession, noSessions, sessionsAt};
 use image::bytes::codes_below;
 use image::bytes::count_at;
 use image::bytes::in_use;
-use image::codes::outcome_coded;
-use image::codes::outcome_of;
-use image::keys::key_at;
 use image::keys::no_key;
-use image::keys::put_key;
 use mapforms::tidy::tidy_session;
+use maprows::sessions::put_session;
+use maprows::sessions::session_at;
 use state::Outcome;
 use state::SessionRow;
 use state::Sessions;
-
-fn session_at(s: &[u8], at: usize) -> SessionRow
-    requires { ⌜ at + 80 ≤ length (now s) ⌝ }
-    ensures { λ r. ⌜ r ≡ sessionAt (now (s .entry)) at ⌝ }
-{
-    let key = key_at(s, at + 16);
-    let outcome = outcome_of(
-        num::get4(s, at + 60),
-        num::get8(s, at + 64),
-        num::get8(s, at + 72),
-    );
-    SessionRow {
-        client: num::get8(s, at),
-        seq: num::get8(s, at + 8),
-        outcome: outcome,
-        key: key,
-    }
-}
-
-fn put_session(out: &mut [u8], at: usize, r: SessionRow)
-    requires { ⌜ at + 80 ≤ length (now out) ⌝ }
-    ensures { λ _. ⌜ Stored (now (out .entry)) (now (out .exit)) at (sessionBytes r) 80 ⌝ }
-{
-    let outcome = r.outcome;
-    let coded = outcome_coded(outcome);
-    num::put8(out, at, r.client);
-    num::put8(out, at + 8, r.seq);
-    put_key(out, at + 16, r.key);
-    num::put4(out, at + 60, coded.code);
-    num::put8(out, at + 64, coded.first);
-    num::put8(out, at + 72, coded.second);
-}
 
 fn no_session() -> SessionRow
     ensures { λ r. ⌜ r ≡ noSession ⌝ }

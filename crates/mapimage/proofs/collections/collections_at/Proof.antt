@@ -6,7 +6,7 @@ use Prim.Native.Nat.{ℕ, _-_, _≤_, _<_}
 use lib.ListN.{length, length-set}
 use Rattle.image.specs.Shape.{rowsAt}
 use Rattle.image.proofs.Images.{rows-start, rows-step}
-use Rattle.mapimage.specs.Rows.{collectionAt}
+use Rattle.maprows.specs.Rows.{collectionAt}
 use Rattle.mapimage.specs.Image.{noCollection}
 use Rattle.mapimage.proofs.collections.collections_at.Statement.{statement}
 use Rattle.mapimage.proofs.collections.collections_at.Tie as tie

@@ -12,7 +12,7 @@ use Rattle.state.specs.declared.CollectionRow.{CollectionRow}
 use Rattle.state.proofs.Tables.{of-field}
 use Rattle.image.proofs.Images.{table-step, length-used, put-end, concat-mapped}
 use Rattle.mapforms.specs.Canon.{imageCollection}
-use Rattle.mapimage.specs.Rows.{collectionBytes}
+use Rattle.maprows.specs.Rows.{collectionBytes}
 use Rattle.mapimage.proofs.OfImage.{pastCollection}
 use Rattle.mapimage.proofs.collections.put_collections.Statement.{statement}
 use Rattle.mapimage.proofs.collections.put_collections.Tie as tie

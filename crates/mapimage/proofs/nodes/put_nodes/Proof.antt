@@ -12,7 +12,7 @@ use Rattle.state.specs.declared.NodeRow.{NodeRow}
 use Rattle.state.proofs.Tables.{of-field}
 use Rattle.image.proofs.Images.{table-step, length-used, put-end, concat-mapped}
 use Rattle.mapforms.specs.Canon.{imageNode}
-use Rattle.mapimage.specs.Rows.{nodeBytes}
+use Rattle.maprows.specs.Rows.{nodeBytes}
 use Rattle.mapimage.proofs.OfImage.{pastNode}
 use Rattle.mapimage.proofs.nodes.put_nodes.Statement.{statement}
 use Rattle.mapimage.proofs.nodes.put_nodes.Tie as tie

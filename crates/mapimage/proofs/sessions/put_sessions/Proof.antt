@@ -12,7 +12,7 @@ use Rattle.state.specs.declared.SessionRow.{SessionRow}
 use Rattle.state.proofs.Tables.{of-field}
 use Rattle.image.proofs.Images.{table-step, length-used, put-end, concat-mapped}
 use Rattle.mapforms.specs.Canon.{imageSession}
-use Rattle.mapimage.specs.Rows.{sessionBytes}
+use Rattle.maprows.specs.Rows.{sessionBytes}
 use Rattle.mapimage.proofs.OfImage.{pastSession}
 use Rattle.mapimage.proofs.sessions.put_sessions.Statement.{statement}
 use Rattle.mapimage.proofs.sessions.put_sessions.Tie as tie

@@ -1,11 +1,11 @@
 -- `shards::put_shard` meets its contract. Assumes nothing.
 use borrow.Author.Needs.{needs}
-use Rattle.mapimage.specs.Rows.{shardBytes}
+use Rattle.maprows.specs.Rows.{shardBytes}
 use Rattle.image.specs.Parts.{keyBytes, replicasBytes, idsBytes}
 use Rattle.image.specs.Codes.{primaryCode, primaryNode}
 use Rattle.image.proofs.Images.{stored-then, stored-word, stored-as}
-use Rattle.mapimage.proofs.shards.put_shard.Statement.{statement}
-use Rattle.mapimage.proofs.shards.put_shard.Tie as tie
+use Rattle.maprows.proofs.shards.put_shard.Statement.{statement}
+use Rattle.maprows.proofs.shards.put_shard.Tie as tie
 
 add-last : tie.Need-add-last
 add-last c = search needs

@@ -1,10 +1,10 @@
 -- `nodes::node_at` meets its contract. Assumes nothing.
 use borrow.Author.Needs.{needs}
 use mathlib.Core.Path.{refl}
-use Rattle.mapimage.specs.Rows.{nodeAt}
+use Rattle.maprows.specs.Rows.{nodeAt}
 use Rattle.image.specs.Parts.{addressAt}
-use Rattle.mapimage.proofs.nodes.node_at.Statement.{statement}
-use Rattle.mapimage.proofs.nodes.node_at.Tie as tie
+use Rattle.maprows.proofs.nodes.node_at.Statement.{statement}
+use Rattle.maprows.proofs.nodes.node_at.Tie as tie
 
 get8-requires : tie.Need-get8-requires
 get8-requires c κs = search needs

@@ -1,9 +1,9 @@
 -- `shards::holders_at` meets its contract. Assumes nothing.
 use borrow.Author.Needs.{needs}
 use mathlib.Core.Path.{refl}
-use Rattle.mapimage.specs.Rows.{holdersAt}
-use Rattle.mapimage.proofs.shards.holders_at.Statement.{statement}
-use Rattle.mapimage.proofs.shards.holders_at.Tie as tie
+use Rattle.maprows.specs.Rows.{holdersAt}
+use Rattle.maprows.proofs.shards.holders_at.Statement.{statement}
+use Rattle.maprows.proofs.shards.holders_at.Tie as tie
 
 add-replicas-at : tie.Need-add-replicas-at
 add-replicas-at c = search needs

@@ -1,11 +1,11 @@
 -- `collections::put_collection` meets its contract. Assumes nothing.
 use borrow.Author.Needs.{needs}
 use Rattle.model.specs.Layout.Parts.{metricCode}
-use Rattle.mapimage.specs.Rows.{collectionBytes}
+use Rattle.maprows.specs.Rows.{collectionBytes}
 use Rattle.image.specs.Parts.{nameBytes}
 use Rattle.image.proofs.Images.{stored-then, stored-word, stored-as}
-use Rattle.mapimage.proofs.collections.put_collection.Statement.{statement}
-use Rattle.mapimage.proofs.collections.put_collection.Tie as tie
+use Rattle.maprows.proofs.collections.put_collection.Statement.{statement}
+use Rattle.maprows.proofs.collections.put_collection.Tie as tie
 
 put-name-requires : tie.Need-put-name-requires
 put-name-requires c κs = search needs

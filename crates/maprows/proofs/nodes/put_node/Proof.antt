@@ -1,11 +1,11 @@
 -- `nodes::put_node` meets its contract. Assumes nothing.
 use borrow.Author.Needs.{needs}
-use Rattle.mapimage.specs.Rows.{nodeBytes}
+use Rattle.maprows.specs.Rows.{nodeBytes}
 use Rattle.image.specs.Parts.{addressBytes}
 use Rattle.image.specs.Codes.{flagCode}
 use Rattle.image.proofs.Images.{stored-then, stored-word, stored-as}
-use Rattle.mapimage.proofs.nodes.put_node.Statement.{statement}
-use Rattle.mapimage.proofs.nodes.put_node.Tie as tie
+use Rattle.maprows.proofs.nodes.put_node.Statement.{statement}
+use Rattle.maprows.proofs.nodes.put_node.Tie as tie
 
 put8-requires : tie.Need-put8-requires
 put8-requires c κs = search needs

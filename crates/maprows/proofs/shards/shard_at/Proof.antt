@@ -1,10 +1,10 @@
 -- `shards::shard_at` meets its contract. Assumes nothing.
 use borrow.Author.Needs.{needs}
 use mathlib.Core.Path.{refl}
-use Rattle.mapimage.specs.Rows.{shardAt, holdersAt, inSyncAt}
+use Rattle.maprows.specs.Rows.{shardAt, holdersAt, inSyncAt}
 use Rattle.image.specs.Parts.{keyAt, replicasAt, idsAt}
-use Rattle.mapimage.proofs.shards.shard_at.Statement.{statement}
-use Rattle.mapimage.proofs.shards.shard_at.Tie as tie
+use Rattle.maprows.proofs.shards.shard_at.Statement.{statement}
+use Rattle.maprows.proofs.shards.shard_at.Tie as tie
 
 key-at-requires : tie.Need-key-at-requires
 key-at-requires c κs = search needs

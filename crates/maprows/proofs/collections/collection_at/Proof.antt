@@ -1,10 +1,10 @@
 -- `collections::collection_at` meets its contract. Assumes nothing.
 use borrow.Author.Needs.{needs}
 use mathlib.Core.Path.{refl}
-use Rattle.mapimage.specs.Rows.{collectionAt}
+use Rattle.maprows.specs.Rows.{collectionAt}
 use Rattle.image.specs.Parts.{nameAt}
-use Rattle.mapimage.proofs.collections.collection_at.Statement.{statement}
-use Rattle.mapimage.proofs.collections.collection_at.Tie as tie
+use Rattle.maprows.proofs.collections.collection_at.Statement.{statement}
+use Rattle.maprows.proofs.collections.collection_at.Tie as tie
 
 name-at-requires : tie.Need-name-at-requires
 name-at-requires c κs = search needs

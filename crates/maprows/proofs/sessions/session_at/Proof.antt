@@ -1,10 +1,10 @@
 -- `sessions::session_at` meets its contract. Assumes nothing.
 use borrow.Author.Needs.{needs}
 use mathlib.Core.Path.{refl}
-use Rattle.mapimage.specs.Rows.{sessionAt}
+use Rattle.maprows.specs.Rows.{sessionAt}
 use Rattle.image.specs.Parts.{keyAt}
-use Rattle.mapimage.proofs.sessions.session_at.Statement.{statement}
-use Rattle.mapimage.proofs.sessions.session_at.Tie as tie
+use Rattle.maprows.proofs.sessions.session_at.Statement.{statement}
+use Rattle.maprows.proofs.sessions.session_at.Tie as tie
 
 add-key-at : tie.Need-add-key-at
 add-key-at c = search needs

@@ -2,12 +2,12 @@
 use borrow.Author.Needs.{needs}
 use mathlib.Core.Path.{ap}
 use Rattle.image.specs.declared.Coded.{Coded}
-use Rattle.mapimage.specs.Rows.{sessionBytes}
+use Rattle.maprows.specs.Rows.{sessionBytes}
 use Rattle.image.specs.Parts.{keyBytes}
 use Rattle.image.specs.Codes.{outcomeCoded}
 use Rattle.image.proofs.Images.{stored-then, stored-word, stored-as}
-use Rattle.mapimage.proofs.sessions.put_session.Statement.{statement}
-use Rattle.mapimage.proofs.sessions.put_session.Tie as tie
+use Rattle.maprows.proofs.sessions.put_session.Statement.{statement}
+use Rattle.maprows.proofs.sessions.put_session.Tie as tie
 
 outcome-coded-requires : tie.Need-outcome-coded-requires
 outcome-coded-requires c κs = search needs

@@ -1,9 +1,9 @@
 -- `shards::in_sync_at` meets its contract. Assumes nothing.
 use borrow.Author.Needs.{needs}
 use mathlib.Core.Path.{refl}
-use Rattle.mapimage.specs.Rows.{inSyncAt}
-use Rattle.mapimage.proofs.shards.in_sync_at.Statement.{statement}
-use Rattle.mapimage.proofs.shards.in_sync_at.Tie as tie
+use Rattle.maprows.specs.Rows.{inSyncAt}
+use Rattle.maprows.proofs.shards.in_sync_at.Statement.{statement}
+use Rattle.maprows.proofs.shards.in_sync_at.Tie as tie
 
 add-ids-at : tie.Need-add-ids-at
 add-ids-at c = search needs
