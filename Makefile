@@ -1,6 +1,7 @@
 # The catalogue engine. `make run` shows it at work and needs the Rattle toolchain and a C compiler; `make test` is the
-# gate and needs the Rattle toolchain alone.
-.PHONY: run test
+# gate and needs the Rattle toolchain alone. `make help` lists the rest.
+.PHONY: run test help programs
+.NOTPARALLEL: # two checks at once would write the same target/
 
 run: dome ## a dome of three nodes in one process, told step by step (examples/dome.c)
 	@target/host/dome
@@ -8,21 +9,43 @@ run: dome ## a dome of three nodes in one process, told step by step (examples/d
 test: ## every proof, every edit that must fail, every program against its stored answers
 	bash .ci/run
 
-# Where the engine's programs are, for the targets below (`make test` builds them).
-export ENGINE_DECODE ?= target/bin/messages
-export ENGINE_ROOTS ?= target/bin/roots
-export ENGINE_ORDER ?= target/bin/orders
-export ENGINE_SHARDOF ?= target/bin/shards
+help: ## what can be made
+	@sed -n 's/^\([a-z-]*\):[^#]*## \(.*\)/\1\t\2/p' $(MAKEFILE_LIST) | expand -t 18
+
+# ---- what the targets below link and run. Nothing is built that is not proved, so the first time takes a while.
+ENGINE_SOURCES := crates.txt $(shell find crates -name must-fail -prune -o -type f -print) $(shell command -v rt)
+
+# One crate as a static library. What it stands on is proved first, as many crates at once as there are processors.
+target/staticlib/lib%.a: $(ENGINE_SOURCES)
+	@mkdir -p $(@D)
+	@echo "proving and building the library of crate $*: from nothing some 20 minutes ($(@D)/$*.log says how far it is)"
+	@{ rt check $$(sed -n 's/^$*: //p' crates.txt) && rt staticlib $*; } >$(@D)/$*.log 2>&1 || \
+	    { tail -n 20 $(@D)/$*.log >&2; echo "the library of crate $* was not built; all that was said is in $(@D)/$*.log" >&2; exit 1; }
+
+# The engine's programs, and where the targets below find them.
+PROGRAMS := applymap histories messages orders roots searches shards streams
 export ENGINE_APPLYMAP ?= target/bin/applymap
-export ENGINE_STREAMS ?= target/bin/streams
-export ENGINE_SEARCH ?= target/bin/searches
+export ENGINE_DECODE ?= target/bin/messages
 export ENGINE_HISTORY ?= target/bin/histories
+export ENGINE_ORDER ?= target/bin/orders
+export ENGINE_REPLAY ?= target/host/replay
+export ENGINE_ROOTS ?= target/bin/roots
+export ENGINE_SEARCH ?= target/bin/searches
+export ENGINE_SHARDOF ?= target/bin/shards
+export ENGINE_STREAMS ?= target/bin/streams
+
+programs: ## the engine's programs, proved, built and run on their stored input (target/bin)
+	@mkdir -p target
+	@echo "proving and building the engine's programs: from nothing some 15 minutes (target/programs.log says how far it is)"
+	@rt check $(PROGRAMS) >target/programs.log 2>&1 || \
+	    { tail -n 20 target/programs.log >&2; echo "a program was not built; all that was said is in target/programs.log" >&2; exit 1; }
 
 # Hosts in C and Rust over the entry points.
--include host/host.mk
+include host/host.mk
 
 # The Rust this engine is a port of, as an oracle: needs cargo and the source files, never the gate.
--include oracle/oracle.mk
+include oracle/oracle.mk
 
-# The engine beside the Rust, timed.
--include bench/rust/bench.mk
+# The engine beside plain C and beside the Rust, timed.
+include bench/layout/bench.mk
+include bench/rust/bench.mk

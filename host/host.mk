@@ -8,19 +8,20 @@ FUZZ_FLAGS ?= -O1 -g -pthread -fsanitize=address,undefined -fno-sanitize-recover
 
 .PHONY: host-library replay dome fuzz bindings
 
-host-library: ## the engine as a static library (target/staticlib/libhost.a)
-	@mkdir -p $(HOST_BUILD)
-	@rt staticlib host >$(HOST_BUILD)/host.log 2>&1 || { cat $(HOST_BUILD)/host.log >&2; exit 1; }
+host-library: $(HOST_LIBRARY) ## the engine as a static library (target/staticlib/libhost.a)
 
-replay: host-library ## calls in, answers out, by a host in C (target/host/replay)
+replay: $(HOST_LIBRARY) ## calls in, answers out, by a host in C (target/host/replay)
+	@mkdir -p $(HOST_BUILD)
 	@$(CC) $(HOST_CFLAGS) host/*.c $(HOST_LIBRARY) -o $(HOST_BUILD)/replay
 
-dome: host-library
+dome: $(HOST_LIBRARY)
+	@mkdir -p $(HOST_BUILD)
 	@$(CC) $(HOST_CFLAGS) examples/dome.c $(HOST_LIBRARY) -o $(HOST_BUILD)/dome
 
-fuzz: host-library ## every entry point on CALLS random and mutated buffers of every length, in a sanitizer build
+fuzz: $(HOST_LIBRARY) ## every entry point on CALLS random and mutated buffers of every length, in a sanitizer build
+	@mkdir -p $(HOST_BUILD)
 	@$(CC) $(HOST_CFLAGS) $(FUZZ_FLAGS) host/fuzz/*.c $(HOST_LIBRARY) -o $(HOST_BUILD)/fuzz
 	@ASAN_OPTIONS=handle_segv=0:detect_leaks=0 $(HOST_BUILD)/fuzz $(CALLS) $(SEED)
 
-bindings: host-library ## the Rust wrapper over the entry points, and its test
+bindings: $(HOST_LIBRARY) ## the Rust wrapper over the entry points, and its test
 	@cd bindings/rust && CATALOGUE_LIBRARY=$(CURDIR)/target/staticlib CARGO_TARGET_DIR=$(CURDIR)/target/bindings cargo test --offline --quiet

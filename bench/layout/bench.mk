@@ -1,11 +1,10 @@
 # The layout's benchmark: the engine's reader against a plain C decoder of the same layout, in one run, a table for each
-# C compiler. From the repository's root: make -f bench/layout/bench.mk bench-layout [COMPILERS=cc]. No part of the gate.
+# C compiler that is there. From the repository's root: make bench-layout [COMPILERS=cc]. No part of the gate.
 BENCH_LAYOUT := target/bench/layout
-COMPILERS ?= gcc clang
+COMPILERS ?= $(notdir $(shell command -v gcc) $(shell command -v clang))
 
 .PHONY: bench-layout
-bench-layout:
-	@rt staticlib benchrpc >/dev/null
+bench-layout: target/staticlib/libbenchrpc.a ## the engine's reader beside a plain C decoder of the same layout
 	@mkdir -p $(BENCH_LAYOUT)
 	@echo "$$(nproc) cores, $$(sed -n 's/^model name.*: //p' /proc/cpuinfo | head -n 1)"
 	@for cc in $(COMPILERS); do \

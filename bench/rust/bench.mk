@@ -5,10 +5,9 @@ BENCH_RUST := target/bench/rust
 BENCH_LIBS := benchshard benchmap host
 
 .PHONY: bench
-bench: oracle-ready ## the engine beside plain C and the unchanged Rust on the same input, as ratios from one run
-	@case " $(PARTS) " in "  " | *" layout "*) $(MAKE) --no-print-directory -f bench/layout/bench.mk bench-layout;; esac
+bench: oracle-ready $(BENCH_LIBS:%=target/staticlib/lib%.a) ## the engine beside plain C and the unchanged Rust on the same input, as ratios from one run
+	@case " $(PARTS) " in "  " | *" layout "*) $(MAKE) --no-print-directory bench-layout;; esac
 	@mkdir -p $(BENCH_RUST)
-	@for lib in $(BENCH_LIBS); do rt staticlib $$lib >$(BENCH_RUST).log 2>&1 || { cat $(BENCH_RUST).log; exit 1; }; done
 	@touch bench/rust/src/main.rs # cargo does not see that a library changed
 	@cd bench/rust && CARGO_TARGET_DIR=$(CURDIR)/$(BENCH_RUST) RUSTFLAGS="-C link-arg=-Wl,--allow-multiple-definition \
 	    -L $(CURDIR)/target/staticlib $(BENCH_LIBS:%=-l static=%)" cargo build --release --offline --quiet

@@ -16,6 +16,12 @@ fn main() {
         ("node", node::node),
     ];
     let asked: Vec<String> = std::env::args().skip(1).collect();
+    // `layout` is measured by another program, which `make bench` runs before this one.
+    let known = |a: &String| a == "layout" || parts.iter().any(|(name, _)| a == name);
+    if let Some(a) = asked.iter().find(|a| !known(a)) {
+        eprintln!("bench: there is no part {a}");
+        std::process::exit(2);
+    }
     for (name, run) in parts {
         if asked.is_empty() || asked.iter().any(|a| a == name) {
             run();

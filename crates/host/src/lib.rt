@@ -1,7 +1,7 @@
 // The engine's entry points for hosts in C and C++ (include/catalogue.h; paper 01, 'Entry points'): numbers and byte slices, and the state in
 // byte images that the host owns (docs/IMAGES.md). Each is the call of the crate that its contract cites, under a name for the linker.
-mod clients;
-mod headers;
-mod maps;
-mod peers;
-mod workers;
+pub mod clients;
+pub mod headers;
+pub mod maps;
+pub mod peers;
+pub mod workers;

@@ -3,7 +3,7 @@
 //! still shows the difference, and keeps it as target/oracle/difference.in.
 //!
 //! Where the engine's programs are, environment variables say: ENGINE_REPLAY and so on. A program
-//! that is not there is named and left out.
+//! that is not there is named, and nothing is compared.
 
 use std::io::Write;
 use std::process::{Command, ExitCode, Stdio};
@@ -273,9 +273,8 @@ fn main() -> ExitCode {
         panic!("differential SECONDS SEED");
     };
     let there: Vec<(&Program, String)> = PROGRAMS.iter().filter_map(found).collect();
-    if there.is_empty() {
-        println!("nothing to compare: the engine has none of these programs yet");
-        return ExitCode::SUCCESS;
+    if there.len() < PROGRAMS.len() {
+        return ExitCode::FAILURE;
     }
     let end = Instant::now() + Duration::from_secs(*seconds);
     let mut rng = Rng::new(*seed);
@@ -311,8 +310,8 @@ fn found(program: &Program) -> Option<(&Program, String)> {
     if command.split_whitespace().next().is_some_and(is_there) {
         return Some((program, command));
     }
-    println!(
-        "left out: {} is not at {command} (set {})",
+    eprintln!(
+        "differential: {} is not at {command} (set {})",
         program.name, program.variable
     );
     None
