@@ -2,7 +2,6 @@ pub mod OfAsked
 pub mod OfLeaves
 pub mod OfStays
 pub mod OfKept
-pub mod OfTaken
 pub mod OfCalls
 pub mod OfFresh
 pub mod OfWaits

@@ -38,16 +38,16 @@ use Rattle.mapimage.specs.declared.Lent as map
 use Rattle.mapimage.specs.Image.{mapLent, mapAt, lentMap}
 use Rattle.headerimage.specs.declared.Lent.{Lent}
 use Rattle.headerimage.specs.Image.{headerLent, nodeAt, lentHeader}
+use Rattle.headerimage.specs.Becomes.{tableFits}
+use Rattle.headerimage.proofs.OfCounts.{formed-written}
 use Rattle.headercalls.specs.Asked.{keyNamed, imageAfter, Becomes}
 use Rattle.headercalls.specs.Grants.{grantNumber, isGranted, granted, GrantsImage}
 use Rattle.headercalls.specs.Acks.{sentAt, noReply, ackNumber, isAcked, acked, AcksImage}
 use Rattle.headercalls.specs.Settles.{proposalAt, outcomeNumber, isSettled, settled, SettlesImage}
 use Rattle.headercalls.specs.Waits.{Left, isWaited, waitWrites, WaitPut, waited, WaitsImage}
 use Rattle.headercalls.specs.Shows.{isShown, showWrites, ShowPut, shownAfter, ShowsImage}
-use Rattle.headercalls.specs.Leaves.{tableFits}
 use Rattle.headercalls.proofs.OfLeaves.{lent-long, leaves-slots, leaves-shown, shown-formed}
 use Rattle.headercalls.proofs.OfKept.{formed-put, formed-left, wait-left, show-left}
-use Rattle.headercalls.proofs.OfTaken.{formed-shown}
 use Rattle.headercalls.proofs.OfStays.{stays-of, unwritten, grant-stays, wait-stays, ack-stays, outcome-stays, shown-stays, wait-unwritten, show-unwritten}
 
 module _ (s : List ℕ) (l : Lent) (read : l ≡ lentHeader s) where
@@ -198,7 +198,7 @@ module _ (m : List ℕ) (l : map.Lent) (read : l ≡ lentMap m) where
         formed = by-case (showWrites p a after)
             (λ d f st c w v.
             let is = ap (λ (x : ShownTold). x .node) (on .same st) in
-            formed-shown st c s t (after .node) (e .becomes d (lent-long s (as-lent s h is-lent true found))) (on .slots f)
+            formed-written st c s t (after .node) (e .becomes d (lent-long s (as-lent s h is-lent true found))) (on .slots f)
             (ap wellFormedHeader is ∙ w) (ap (λ (x : held.Node). every tableFits (x .held)) is ∙ v))
             (λ d f st c w v.
             ap (λ (u : List ℕ). formedNode (nodeAt u))

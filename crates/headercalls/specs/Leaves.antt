@@ -1,21 +1,18 @@
 -- What a call that is not refused leaves of a header's image: every byte is a function of the bytes before, and the image is read as the
 -- model's node after the call. Definitions only.
 use Prim.Native.Nat.{ℕ}
-use mathlib.Core.Bool.{Bool, true}
+use mathlib.Core.Bool.{true}
 use mathlib.Core.Path.{_≡_}
 use mathlib.Core.List.{List}
-use lib.Dec.{leb}
-use lib.ListN.{length}
 use lib.Seq.{sets}
 use Rattle.model.specs.Lists.{every}
-use Rattle.model.specs.Limits.{maxEntries}
 use Rattle.model.specs.Node.Held as held
 use Rattle.model.specs.Node.WellFormed.{wellFormedHeader}
 use Rattle.header.specs.View.{Stores, viewNode}
 use Rattle.header.specs.Formed.{formedNode}
 use Rattle.header.specs.Seats.{slotsOf}
 use Rattle.headerimage.specs.Image.{headerLent, nodeAt}
-use Rattle.headerimage.specs.Becomes.{Counted, headerImage}
+use Rattle.headerimage.specs.Becomes.{Counted, tableFits, headerImage}
 
 -- s became t, in which `after` stands, its shards in `slots`, for whatever the stores hold: its bytes, those past them as they were; that it
 -- lends a header; and that this is read as `after`, each shard in its slot
@@ -37,10 +34,6 @@ pub record Stays (s t : List ℕ) (after : Stores → held.Node) : Type 0 where
 -- a header that is well formed is well formed after, if the model's node after is: the next call does not find it malformed
 abbrev pub StaysFormed : (s t : List ℕ) → (after : Stores → held.Node) → Type 0
 StaysFormed s t after = formedNode (nodeAt s) ≡ true → (st : Stores) → wellFormedHeader (after st) ≡ true → formedNode (nodeAt t) ≡ true
-
--- no more vectors than a table holds
-abbrev pub tableFits : held.Held → Bool
-tableFits h = leb (length (h .replica .vectors)) maxEntries
 
 -- the same of a map shown, after which the tables fit as well
 abbrev pub ShownFormed : (s t : List ℕ) → (after : Stores → held.Node) → Type 0

@@ -4,3 +4,4 @@ pub mod OfFormed
 pub mod Back
 pub mod Types
 pub mod OfBecomes
+pub mod OfCounts

@@ -73,7 +73,7 @@ unfolding any tidyKept
 any-tidied slot [] = refl
 any-tidied slot (x ∷ xs) = rw (any-tidied slot xs)
 
-slots-formed : (xs : List Kept) → slotsFit (map tidyKept xs) ≡ slotsFit xs
+pub slots-formed : (xs : List Kept) → slotsFit (map tidyKept xs) ≡ slotsFit xs
 unfolding slotsFit tidyKept
 slots-formed [] = refl
 slots-formed (x ∷ xs) = rw (any-tidied (x .slot) xs, slots-formed xs)

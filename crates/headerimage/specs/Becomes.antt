@@ -2,11 +2,13 @@
 -- is read as. Definitions only.
 use Prim.Native.Nat.{ℕ, _≤_}
 use mathlib.Core.Path.{_≡_}
-use mathlib.Core.Bool.{true}
+use mathlib.Core.Bool.{Bool, true}
 use mathlib.Core.List.{List, [], _∷_, _++_, map}
 use mathlib.Core.Option.{Option, none, some}
+use lib.Dec.{leb}
 use lib.ListN.{length}
 use lib.Seq.{sets}
+use Rattle.model.specs.Limits.{maxEntries}
 use Rattle.model.specs.Layout.Format.{concatMap}
 use Rattle.model.specs.Node.Held as held
 use Rattle.header.specs.View.{Stores, used, viewNode}
@@ -25,6 +27,10 @@ use Rattle.headerimage.specs.Image.{headOf, headerLent, nodeAt, headerWr
 -- families of stores whose tables have as many vectors as the header counts
 abbrev pub Counted : Stores → Type 0
 Counted s = (slot last stored : ℕ) → length (s .vectors slot last stored) ≡ stored
+
+-- no more vectors than a table holds
+abbrev pub tableFits : held.Held → Bool
+tableFits h = leb (length (h .replica .vectors)) maxEntries
 
 -- ---- the image of a node of the model, whose shards have these slots
 

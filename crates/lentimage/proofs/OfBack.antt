@@ -28,7 +28,7 @@ use Rattle.storeimage.proofs.Stored.{Same, lt-or-ge}
 use Rattle.lentimage.specs.Lent.{beginOf, storePut, Writable, StoreFits}
 use Rattle.lentimage.proofs.OfPut.{writable-sent, writable-rows}
 
-entries-length : (es : Log) (s : List ℕ) (base i : ℕ) → length (entriesPut s base i es) ≡ length s
+pub entries-length : (es : Log) (s : List ℕ) (base i : ℕ) → length (entriesPut s base i es) ≡ length s
 unfolding entriesPut entryPut numbersPut
 entries-length [] s base i = refl
 entries-length (e ∷ es) s base i =

@@ -7,16 +7,16 @@ use mathlib.Core.Bool.{Bool, true, false, cond}
 use mathlib.Core.List.{List, [], _∷_, map}
 use native.Mathlib.Omega.{arith}
 use lib.Dec.{eqb, leb}
-use lib.ListN.{length, getD, replicate, length-map, length-replicate}
+use lib.ListN.{length, getD, take, replicate, length-map, length-take, length-replicate}
 use lib.Seq.{getD-take}
-use borrow.Author.Tests.{leb-true, eqb-true, eq-eqb}
+use borrow.Author.Tests.{leb-true, le-leb, eqb-true, eq-eqb}
 use Rattle.model.specs.Lists.{_and_, every}
 use Rattle.model.specs.Log.{Log, Vectors}
 use Rattle.model.specs.Nearest.Search.{Vector}
 use Rattle.model.proofs.Lists.{by-test, and-left, and-right}
-use Rattle.model.proofs.Map.Rows.{every-tail}
+use Rattle.model.proofs.Map.Rows.{every-tail, every-cons}
 use Rattle.shard.specs.Table.{Row, rowsOf, vectorOf, vectorsOf}
-use Rattle.shard.proofs.Rows.{rows-length}
+use Rattle.shard.proofs.Rows.{rows-length, zipped-length}
 use Rattle.header.specs.declared.Kept.{Kept}
 use Rattle.header.specs.declared.Node.{Node}
 use Rattle.header.specs.View.{Stores, viewKept, viewNode, used, noKept}
@@ -24,6 +24,7 @@ use Rattle.header.specs.Formed.{keptFits, formedNode}
 use Rattle.header.proofs.OfLists.{by-case}
 use Rattle.header.proofs.OfFormed.{header-fit}
 use Rattle.lend.specs.Lend.{Lot}
+use Rattle.headerimage.specs.Becomes.{tableFits}
 use Rattle.storeimage.specs.Image.{logAt, keysIn, placesIn, rowsAt}
 use Rattle.storeimage.proofs.Words.{words-length}
 use Rattle.lentimage.specs.State.{storesIn}
@@ -73,6 +74,26 @@ unfolding storesIn
 stores-length s i last stored h =
     vectors-length (logAt s (i * 174080) last) (keysIn s (i * 174080)) (placesIn s (i * 174080)) stored
     (words-length 8 1024 s (i * 174080 + 157696)) (words-length 8 1024 s (i * 174080 + 165888)) h
+
+-- the bytes of a store hold no more rows than a table, whatever count is asked for
+stores-most : (s : List ℕ) (i last stored : ℕ) → length (storesIn s .vectors i last stored) ≤ 1024
+unfolding storesIn vectorsOf rowsOf
+stores-most s i last stored =
+    let ks = keysIn s (i * 174080) in
+    let ps = placesIn s (i * 174080) in
+    let a = length-take stored ks in
+    let b = length-take stored ps in
+    let k = words-length 8 1024 s (i * 174080 + 157696) in
+    let p = words-length 8 1024 s (i * 174080 + 165888) in
+    let z = zipped-length (take stored ks) (take stored ps) (omega arith) in
+    let m = length-map (rowsOf ks ps stored) (vectorOf (logAt s (i * 174080) last)) in
+    omega arith
+
+pub tables-fit : (s : List ℕ) (l : List Kept) → every tableFits (map (viewKept (storesIn s)) l) ≡ true
+tables-fit s [] = unfold every in refl
+tables-fit s (x ∷ xs) =
+    every-cons tableFits (viewKept (storesIn s) x) (map (viewKept (storesIn s)) xs)
+    (le-leb (length (storesIn s .vectors (x .slot) (x .held .last) (x .stored))) 1024 (stores-most s (x .slot) (x .held .last) (x .stored))) (tables-fit s xs)
 
 -- a header's counts are within their limit
 stored-fits : (l : List Kept) → every keptFits l ≡ true → (i : ℕ) → i < length l → getD l i noKept .stored ≤ 1024

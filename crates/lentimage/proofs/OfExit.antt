@@ -262,6 +262,7 @@ module _ (s : List ℕ) (n : Node) (k : Key) (formed : formedNode n ≡ true) (i
                 ∙ ap (rowsPut (logPut s (beginOf x) from l) (beginOf x)) (facts (storeOf b y) (w .well) .rows)
                 ∙ ap (λ (i : ℕ). rowsPut (logPut s (beginOf x) (min (x .held .last) i) l) (beginOf x) (playRows l)) (sym (log-length (b .columns) (y .held .last)))
                 ∙ ap (λ (z : Log). rowsPut (logPut s (beginOf x) (min (x .held .last) (length z)) z) (beginOf x) (playRows z)) (sym is);
+            beside = λ i j d p q. ap (λ (t : List ℕ). getD t j 0) put ∙ put-beside s x y b there w f i d j p q;
             well =
                 ap (λ (t : List ℕ). wellFormedImage t (beginOf x) (length (g .replica .log)) (length (g .replica .vectors))) put
                 ∙ ap (λ (i : ℕ). wellFormedImage (storePut s x y b) (beginOf x) i (length (g .replica .vectors))) long

@@ -9,11 +9,12 @@ use lib.Dec.{leb}
 use lib.ListN.{length, replicate, length-append, length-replicate}
 use lib.Seq.{sets}
 use borrow.Author.Tests.{leb-true}
-use Rattle.model.specs.Lists.{_and_, lead}
+use Rattle.model.specs.Lists.{_and_, every, lead}
 use Rattle.model.specs.Keys.{Key}
 use Rattle.model.specs.Layout.Format.{Bytes, numberAt}
 use Rattle.model.specs.Node.Held as held
 use Rattle.model.specs.Node.Shards.{Result, shardOf}
+use Rattle.model.specs.Node.WellFormed.{wellFormedHeader}
 use Rattle.model.proofs.Lists.{and-left, and-right}
 use Rattle.retained.specs.Retained.{CarriesAll}
 use Rattle.retained.proofs.OfBegin.{PutIn}
@@ -30,15 +31,16 @@ use Rattle.header.proofs.OfLists.{by-case}
 use Rattle.lend.specs.Lend.{Lot, placeOf, slotOf, lentFor, Changes}
 use Rattle.headerrows.specs.Rows.{keptAt}
 use Rattle.headerimage.specs.Image.{noKept, headerLent, nodeAt}
-use Rattle.headerimage.specs.Becomes.{headerImage}
+use Rattle.headerimage.specs.Becomes.{tableFits, headerImage}
+use Rattle.headerimage.proofs.OfCounts.{formed-written}
 use Rattle.lentimage.specs.Lent.{holds, keptOf, readable, lotIn, lendsState, Puttable, Puts}
 use Rattle.lentimage.specs.State.{storesIn, stateAt, StoreAfter, StateAfter}
 use Rattle.lentimage.proofs.OfFamily.{lentIn, lent-changes}
-use Rattle.lentimage.proofs.OfCounted.{counted, counted-all, afterwards}
+use Rattle.lentimage.proofs.OfCounted.{counted, counted-all, tables-fit, afterwards}
 use Rattle.lentimage.proofs.OfAfter.{Lent, lent-any, is-formed, left, Becomes, same-after, begun-after}
 
 -- a header is read into eight rows
-rows-eight : (h : List ℕ) → length (nodeAt h .held) ≡ 8
+pub rows-eight : (h : List ℕ) → length (nodeAt h .held) ≡ 8
 unfolding nodeAt rowsAt
 rows-eight h =
     let c = numberAt 8 h 24 in
@@ -105,6 +107,10 @@ module _ {A : Type 0} (does : (Key → Bool) → held.Node → Result A held.Nod
         store = λ q g f.
             subst (λ (u : List ℕ). StoreAfter s u (keptOf n k) g) (sym (puts .stores)) (e .store q g (sym (ap (λ (v : held.Node). shardOf v k) is) ∙ f));
         none = λ q. puts .stores ∙ e .none q;
+        formed = λ w.
+            formed-written (afterwards s (slotOf n k) b) (counted-all (lentIn (counted (storesIn s)) (slotOf n k) b)) h h′ p c fit
+            (ap wellFormedHeader (e .counts ∙ sym is) ∙ w)
+            (ap (λ (v : held.Node). every tableFits (v .held)) (e .counts ∙ sym is) ∙ tables-fit s′ (used (nodeAt h′)));
       }
 
   pub same-state : SameSlots n p → Puttable s n p b (placeOf n k)

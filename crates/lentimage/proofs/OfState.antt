@@ -23,17 +23,13 @@ use Rattle.header.specs.Formed.{slotsFit, countsFit, lentNode}
 use Rattle.header.proofs.OfLists.{by-case}
 use Rattle.lend.specs.Lend.{storeOf, keptStore, placeOf, lentAt, lentFor}
 use Rattle.headerimage.specs.Image.{headerLent, nodeAt}
-use Rattle.storeimage.specs.Image.{wellFormedImage}
 use Rattle.storeimage.specs.Read.{columnsAt, allReadable}
 use Rattle.storeimage.proofs.Words.{words-length}
 use Rattle.storeimage.proofs.OfTest.{image-test}
+use Rattle.lentimage.specs.State.{keptImage}
 use Rattle.lentimage.proofs.OfPick.{floats-whole}
 use Rattle.lentimage.proofs.OfSlots.{slots-below}
 use Rattle.lentimage.specs.Lent.{storesSize, noLot, beginOf, keptReadable, lotAt, holds, keptOf, readable, lotIn, lendsState}
-
--- the store of a held shard, as an image
-abbrev pub keptImage : List ℕ → Kept → Bool
-keptImage s x = wellFormedImage s (beginOf x) (x .held .last) (x .stored)
 
 -- 'Who is turned down', 24, of the images, for a call that names the key
 abbrev pub imagesLent : Stores → (header stores : List ℕ) → Key → Bool

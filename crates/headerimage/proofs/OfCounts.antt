@@ -1,13 +1,14 @@
--- A map shown leaves a well-formed header well formed: its counts are written as those of the rows that are in use. Assumes nothing.
+-- A header that was written is well formed if the model's node is, its slots are apart and its tables fit: every count is written as that of the
+-- rows in use. Assumes nothing.
 use Prim.Native.Nat.{ℕ, _≤_}
-use mathlib.Core.Bool.{Bool, true, cond, not}
+use mathlib.Core.Bool.{true}
 use mathlib.Core.Path.{_≡_, refl, ap, _∙_, subst}
 use mathlib.Core.List.{List, [], _∷_, map}
 use native.Mathlib.Omega.{arith}
-use lib.Dec.{eqb, leb, ltb}
+use lib.Dec.{leb}
 use lib.ListN.{length, take}
 use borrow.Author.Tests.{le-leb, leb-true}
-use Rattle.model.specs.Lists.{_and_, any, every, rising}
+use Rattle.model.specs.Lists.{_and_, every, rising}
 use Rattle.model.specs.Limits.{maxHeld, maxName, maxEntries, maxReplicas, maxWorkers}
 use Rattle.model.specs.Log.{lastOffset}
 use Rattle.model.specs.Node.Shards.{heldBelow, rowBelow}
@@ -18,29 +19,17 @@ use Rattle.state.specs.Names.{viewName}
 use Rattle.header.specs.declared.Kept.{Kept}
 use Rattle.header.specs.declared.Node.{Node}
 use Rattle.header.specs.View.{Stores, viewKept, viewNode, used}
-use Rattle.header.specs.Formed.{countsFit, onSlot, slotsFit, lentNode, formedNode}
+use Rattle.header.specs.Formed.{countsFit, slotsFit, lentNode, formedNode}
 use Rattle.header.proofs.OfLists.{by-case}
 use Rattle.header.proofs.OfFormed.{formed-lent}
 use Rattle.image.specs.Shape.{inUse}
-use Rattle.headerimage.specs.Image.{nodeAt}
 use Rattle.headerrows.specs.Tidy.{tidyHeld, tidyKept}
-use Rattle.headerimage.specs.Becomes.{Counted, HeaderBecomes}
-use Rattle.headercalls.specs.Leaves.{tableFits}
+use Rattle.headerimage.specs.Image.{nodeAt}
+use Rattle.headerimage.specs.Becomes.{Counted, tableFits, HeaderBecomes}
+use Rattle.headerimage.proofs.OfFormed.{slots-formed}
 
 most : (n : ℕ) → inUse 8 n ≤ 8
 most n = by-case (leb n 8) (λ e. rw e (leb-true n 8 e)) (λ e. rw e (omega arith))
-
-any-tidied : (q : ℕ) (l : List Kept) → any (onSlot q) (map tidyKept l) ≡ any (onSlot q) l
-unfolding any tidyKept
-any-tidied q [] = refl
-any-tidied q (x ∷ xs) = ap (λ (b : Bool). cond (eqb (x .slot) q) true b) (any-tidied q xs)
-
-slots-tidied : (l : List Kept) → slotsFit (map tidyKept l) ≡ slotsFit l
-unfolding slotsFit tidyKept
-slots-tidied [] = refl
-slots-tidied (x ∷ xs) =
-    ap (λ (b : Bool). ltb (x .slot) maxHeld and not b and slotsFit (map tidyKept xs)) (any-tidied (x .slot) xs)
-    ∙ ap (λ (b : Bool). ltb (x .slot) maxHeld and not (any (onSlot (x .slot)) xs) and b) (slots-tidied xs)
 
 module _ (st : Stores) (counted : Counted st) where
   -- one row as it was written
@@ -76,10 +65,10 @@ module _ (st : Stores) (counted : Counted st) where
       and-right (rising heldBelow l) (every wellFormedHeld l)
       (and-right (leb (length l) maxHeld) (rising heldBelow l and every wellFormedHeld l) e)
 
-  pub formed-shown : (s t : List ℕ) (n : Node) → HeaderBecomes s t n → slotsFit (used n) ≡ true → wellFormedHeader (viewNode st n) ≡ true
+  pub formed-written : (s t : List ℕ) (n : Node) → HeaderBecomes s t n → slotsFit (used n) ≡ true → wellFormedHeader (viewNode st n) ≡ true
       → every tableFits (viewNode st n .held) ≡ true → formedNode (nodeAt t) ≡ true
   unfolding lentNode
-  formed-shown s t n b apart w f =
+  formed-written s t n b apart w f =
       let m = nodeAt t in
       let fit = every countsFit (used m) in
       let own = slotsFit (used m) in
@@ -89,4 +78,4 @@ module _ (st : Stores) (counted : Counted st) where
       formed-lent m st
       ∙ and-true (leb (m .count) maxHeld) (fit and own and well) (le-leb (m .count) 8 few)
       (and-true fit (own and well) (ap (every countsFit) (b .rows) ∙ rows-fit (used n) (helds n w) f)
-      (and-true own well (ap slotsFit (b .rows) ∙ slots-tidied (used n) ∙ apart) (ap wellFormedHeader (b .read st) ∙ w)))
+      (and-true own well (ap slotsFit (b .rows) ∙ slots-formed (used n) ∙ apart) (ap wellFormedHeader (b .read st) ∙ w)))
