@@ -1,4 +1,4 @@
--- The count of refused calls and a number beside an answer, by their tests. Assumes nothing.
+-- The count of refused calls, by its tests. Assumes nothing.
 use Prim.Native.Nat.{ℕ, _≤_, _<_}
 use mathlib.Core.Path.{_≡_, refl, sym, ap, _∙_}
 use mathlib.Core.Bool.{Bool, cond}
@@ -8,7 +8,7 @@ use lib.Seq.{sets}
 use borrow.Author.Tests.{eq-eqb, ne-eqb, le-leb, lt-leb}
 use Rattle.model.specs.Layout.Format.{bytesOf, numberAt}
 use Rattle.refused.specs.Count.{bumped}
-use Rattle.clientends.specs.Count.{countPut, numberPut}
+use Rattle.clientends.specs.Count.{countPut}
 
 module _ (c : List ℕ) (r : ℕ) where
   pub count-done : r ≡ 0 → c ≡ countPut c r
@@ -23,12 +23,3 @@ module _ (c : List ℕ) (r : ℕ) where
     pub count-more : 4 ≤ length c → (n : ℕ) → n ≡ bumped (numberAt 4 c 0) → sets c 0 (bytesOf 4 n) ≡ countPut c r
     unfolding countPut
     count-more h n e = rw (ne-eqb r 0 ne) (rw (le-leb 4 (length c) h) (ap (λ (x : ℕ). sets c 0 (bytesOf 4 x)) e))
-
-module _ (a : List ℕ) (x : ℕ) where
-  pub number-long : 8 ≤ length a → sets a 0 (bytesOf 8 x) ≡ numberPut a x
-  unfolding numberPut
-  number-long h = rw (le-leb 8 (length a) h) refl
-
-  pub number-short : length a < 8 → a ≡ numberPut a x
-  unfolding numberPut
-  number-short h = rw (lt-leb 8 (length a) h) refl

@@ -1,22 +1,19 @@
 -- Laws of what a Write leaves in a host's buffers, one for each way out. Assumes nothing.
-use Prim.Native.Nat.{ℕ, _≤_, _<_}
+use Prim.Native.Nat.{ℕ}
 use mathlib.Core.Path.{_≡_, refl, sym, ap, _∙_}
 use mathlib.Core.Bool.{true, false}
 use mathlib.Core.List.{List}
-use lib.ListN.{length}
-use lib.Seq.{sets}
-use borrow.Author.Tests.{le-leb, lt-leb}
-use Rattle.model.specs.Layout.Format.{bytesOf}
 use Rattle.model.proofs.Lists.{not-both}
 use Rattle.header.specs.declared.Node.{Node}
 use Rattle.headerimage.specs.Image.{headerWritten}
 use Rattle.lend.specs.Lend.{Lot}
 use Rattle.lentimage.specs.Lent.{storesPut, Puts}
+use Rattle.asked.specs.Answer.{answerLent, numberPut}
+use Rattle.asked.proofs.OfAnswer.{number-unput}
 use Rattle.clientwrites.specs.declared.WriteReply.{WriteReply}
 use Rattle.clientwrites.specs.declared.WriteReply.the-variants as R
 use Rattle.clientwrites.specs.declared.WriteAnswer.{WriteAnswer}
 use Rattle.clientwrites.specs.ClientWrites.{turnedDown}
-use Rattle.clientends.specs.Count.{numberPut}
 use Rattle.clientends.specs.Ends.{Buffers, buffers, WriteEnded, ended, acceptedIn, endedAs, writeEnded}
 
 module _ (h s a : List ℕ) (n : Node) (at : ℕ) (l : Lot) (w : WriteAnswer) where
@@ -32,16 +29,18 @@ module _ (h s a : List ℕ) (n : Node) (at : ℕ) (l : Lot) (w : WriteAnswer) wh
   as-told : (x : WriteReply) → w .answer ≡ x → (e : WriteEnded) → e ≡ endedAs b h₁ s₁ x → e ≡ writeEnded b n at l w
   as-told x q e f = f ∙ ap (endedAs b h₁ s₁) (sym q)
 
-  pub told-short : (o : ℕ) → w .answer ≡ R.Accepted (record { 0 = o }) → length a < 8 → ended 23 b ≡ writeEnded b n at l w
-  told-short o q e = as-told (R.Accepted (record { 0 = o })) q _ (rw (lt-leb 8 (length a) e) refl)
+  pub told-short : (o : ℕ) → w .answer ≡ R.Accepted (record { 0 = o }) → answerLent a ≡ false → (a′ : List ℕ) → a′ ≡ numberPut a o
+      → ended 23 (buffers h s a′) ≡ writeEnded b n at l w
+  told-short o q e a′ f = as-told (R.Accepted (record { 0 = o })) q _
+      (ap (λ (x : List ℕ). ended 23 (buffers h s x)) (f ∙ number-unput a o e) ∙ (rw e refl))
 
-  pub told-accepted : (o : ℕ) → w .answer ≡ R.Accepted (record { 0 = o }) → 8 ≤ length a → (h′ s′ a′ : List ℕ)
-      → Puts h h′ s s′ n (w .node) l at → a′ ≡ sets a 0 (bytesOf 8 o) → ended 0 (buffers h′ s′ a′) ≡ writeEnded b n at l w
+  pub told-accepted : (o : ℕ) → w .answer ≡ R.Accepted (record { 0 = o }) → answerLent a ≡ true → (h′ s′ a′ : List ℕ)
+      → Puts h h′ s s′ n (w .node) l at → a′ ≡ numberPut a o → ended 0 (buffers h′ s′ a′) ≡ writeEnded b n at l w
   told-accepted o q e h′ s′ a′ p f = as-told (R.Accepted (record { 0 = o })) q _
       (ap (λ (x : List ℕ). ended 0 (buffers x s′ a′)) (p .header)
       ∙ ap (λ (x : List ℕ). ended 0 (buffers h₁ x a′)) (p .stores)
       ∙ ap (λ (x : List ℕ). ended 0 (buffers h₁ s₁ x)) f
-      ∙ (rw (le-leb 8 (length a) e) refl))
+      ∙ (rw e refl))
 
   pub told-elsewhere : (o : ℕ) → w .answer ≡ R.NotPrimary (record { 0 = o }) → (a′ : List ℕ) → a′ ≡ numberPut a o
       → ended 18 (buffers h s a′) ≡ writeEnded b n at l w

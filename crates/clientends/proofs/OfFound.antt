@@ -1,18 +1,19 @@
 -- What a search leaves in the buffers, by its tests. Assumes nothing.
 use Prim.Native.Nat.{ℕ, zero, suc, _*_, _/_, _≤_, _<_, min}
 use mathlib.Core.Path.{_≡_, refl, sym, ap, subst, _∙_}
+use mathlib.Core.Bool.{true, false}
 use mathlib.Core.List.{List, _∷_}
 use native.Mathlib.Omega.{arith}
 use lib.Ieee.{Float}
 use lib.ListN.{length, take, replicate, length-replicate}
 use lib.Seq.{sets}
-use borrow.Author.Tests.{le-leb, lt-leb}
 use Rattle.model.specs.Limits.{maxEntries}
-use Rattle.model.specs.Layout.Format.{bytesOf}
 use Rattle.model.specs.Node.Wire.{floatOf}
 use Rattle.nearest.proofs.Answered.{least-both}
 use Rattle.header.specs.declared.Node.{Node}
 use Rattle.lend.specs.Lend.{Lot}
+use Rattle.asked.specs.Answer.{answerLent, numberPut}
+use Rattle.asked.proofs.OfAnswer.{number-unput}
 use Rattle.clientsearches.specs.declared.NodeSearched.{NodeSearched}
 use Rattle.clientsearches.specs.Searches.{Output, output, room, SearchesAt}
 use Rattle.clientsearches.specs.declared.SearchAnswer.{SearchAnswer}
@@ -20,13 +21,13 @@ use Rattle.clientends.specs.Hits.{hitsBytes}
 use Rattle.clientends.specs.Found.{SearchEnded, ended, foundIn, searchEnded, freshHits, hitsLent, SearchServed}
 
 module _ (o a : List ℕ) (p : Output) (n : ℕ) where
-  pub found-short : length a < 8 → ended 23 o a ≡ foundIn o a p n
-  found-short h = rw (lt-leb 8 (length a) h) refl
+  pub found-short : answerLent a ≡ false → (a′ : List ℕ) → a′ ≡ numberPut a n → ended 23 o a′ ≡ foundIn o a p n
+  found-short e a′ f = ap (ended 23 o) (f ∙ number-unput a n e) ∙ (rw e refl)
 
-  pub found-put : 8 ≤ length a → (o′ a′ : List ℕ) → o′ ≡ sets o 0 (hitsBytes (p .ids) (p .distances) n) → a′ ≡ sets a 0 (bytesOf 8 n)
+  pub found-put : answerLent a ≡ true → (o′ a′ : List ℕ) → o′ ≡ sets o 0 (hitsBytes (p .ids) (p .distances) n) → a′ ≡ numberPut a n
       → ended 0 o′ a′ ≡ foundIn o a p n
   found-put h o′ a′ e f =
-      ap (λ (x : List ℕ). ended 0 x a′) e ∙ ap (ended 0 _) f ∙ (rw (le-leb 8 (length a) h) refl)
+      ap (λ (x : List ℕ). ended 0 x a′) e ∙ ap (ended 0 _) f ∙ (rw h refl)
 
 -- an answer, in other words
 pub ended-as : (o a : List ℕ) (p : Output) (x y : SearchAnswer) → x ≡ y → (e : SearchEnded) → e ≡ searchEnded o a p y → e ≡ searchEnded o a p x

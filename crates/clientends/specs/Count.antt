@@ -1,5 +1,5 @@
--- The count of refused client calls as a host lends it: a number of 4 bytes, apart from the node's state (paper 01, 'The node'); and a
--- number beside an answer, 8 bytes. Definitions only.
+-- The count of refused client calls as a host lends it: a number of 4 bytes, apart from the node's state (paper 01, 'The node'). Definitions
+-- only.
 use Prim.Native.Nat.{ℕ}
 use mathlib.Core.Bool.{Bool, cond}
 use mathlib.Core.List.{List}
@@ -15,11 +15,3 @@ countLent c = leb 4 (length c)
 -- one more for a refusal of any number, up to the largest u32; nothing else counts, and a shorter buffer stays as it is
 unfoldable pub countPut : List ℕ → (number : ℕ) → List ℕ
 countPut c r = cond (eqb r 0) c (cond (countLent c) (sets c 0 (bytesOf 4 (bumped (numberAt 4 c 0)))) c)
-
--- room for a number beside an answer
-abbrev pub answerLent : List ℕ → Bool
-answerLent a = leb 8 (length a)
-
--- .. which stands there if it has room
-unfoldable pub numberPut : List ℕ → ℕ → List ℕ
-numberPut a x = cond (answerLent a) (sets a 0 (bytesOf 8 x)) a

@@ -3,17 +3,15 @@ use Prim.Native.Nat.{ℕ}
 use mathlib.Core.Path.{_≡_}
 use mathlib.Core.Bool.{false, cond}
 use mathlib.Core.List.{List}
-use lib.Seq.{sets}
-use Rattle.model.specs.Layout.Format.{bytesOf}
 use Rattle.header.specs.declared.Node.{Node}
 use Rattle.headerimage.specs.Image.{headerWritten}
 use Rattle.lend.specs.Lend.{Lot}
 use Rattle.lentimage.specs.Lent.{storesPut, Puts}
+use Rattle.asked.specs.Answer.{answerLent, numberPut}
 use Rattle.clientwrites.specs.declared.WriteReply.{WriteReply}
 use Rattle.clientwrites.specs.declared.WriteReply.the-variants as R
 use Rattle.clientwrites.specs.declared.WriteAnswer.{WriteAnswer}
 use Rattle.clientwrites.specs.ClientWrites.{turnedDown}
-use Rattle.clientends.specs.Count.{answerLent, numberPut}
 
 -- the three buffers that a Write may change, the count apart
 pub record Buffers : Type 0 where
@@ -34,7 +32,7 @@ ended r b = record { number = r; left = b }
 
 -- an accepted write's offset stands beside the answer, and the images become h and s; without room for the offset it is 23
 abbrev pub acceptedIn : Buffers → (h s : List ℕ) → (offset : ℕ) → WriteEnded
-acceptedIn b h s o = cond (answerLent (b .answer)) (ended 0 (buffers h s (sets (b .answer) 0 (bytesOf 8 o)))) (ended 23 b)
+acceptedIn b h s o = cond (answerLent (b .answer)) (ended 0 (buffers h s (numberPut (b .answer) o))) (ended 23 b)
 
 -- 18 tells the own epoch, if there is room; every other refusal its number alone. h and s are the images that the call would leave
 abbrev pub endedAs : Buffers → (h s : List ℕ) → WriteReply → WriteEnded

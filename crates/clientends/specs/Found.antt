@@ -7,15 +7,14 @@ use mathlib.Core.List.{List}
 use lib.ListN.{length, replicate}
 use lib.Seq.{sets}
 use Rattle.model.specs.Limits.{maxEntries}
-use Rattle.model.specs.Layout.Format.{bytesOf}
 use Rattle.model.specs.Node.Wire.{floatOf}
 use Rattle.header.specs.declared.Node.{Node}
 use Rattle.lend.specs.Lend.{Lot}
+use Rattle.asked.specs.Answer.{answerLent, numberPut}
 use Rattle.clientsearches.specs.declared.SearchAnswer.{SearchAnswer}
 use Rattle.clientsearches.specs.declared.SearchAnswer.the-variants as S
 use Rattle.clientsearches.specs.declared.NodeSearched.{NodeSearched}
 use Rattle.clientsearches.specs.Searches.{Output, output, SearchesAt}
-use Rattle.clientends.specs.Count.{answerLent, numberPut}
 use Rattle.clientends.specs.Hits.{hitsBytes}
 
 -- ---- what the caller gets, the count apart: the number, and the two outputs at exit
@@ -37,7 +36,7 @@ freshHits n = output (replicate n 0) (replicate n (floatOf 0))
 
 -- n neighbours: 23 without room for their count; else they stand in the buffer from its start on, and their count beside the answer
 abbrev pub foundIn : (hits answer : List ℕ) → Output → ℕ → SearchEnded
-foundIn o a p n = cond (answerLent a) (ended 0 (sets o 0 (hitsBytes (p .ids) (p .distances) n)) (sets a 0 (bytesOf 8 n))) (ended 23 o a)
+foundIn o a p n = cond (answerLent a) (ended 0 (sets o 0 (hitsBytes (p .ids) (p .distances) n)) (numberPut a n)) (ended 23 o a)
 
 -- by the call's answer and the columns p that it left: 18 tells the own epoch, if there is room; every other refusal its number alone
 abbrev pub searchEnded : (hits answer : List ℕ) → Output → SearchAnswer → SearchEnded

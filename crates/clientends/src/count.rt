@@ -1,6 +1,6 @@
-// The count of refused client calls in its four bytes (paper 01, 'The node'), and a number beside an answer. Internal.
+// The count of refused client calls in its four bytes (paper 01, 'The node'). Internal.
 ghost use mathlib.Core.Path.{_≡_};
-ghost use Rattle.clientends.specs.Count.{countPut, numberPut};
+ghost use Rattle.clientends.specs.Count.{countPut};
 use refused::next_count;
 
 // One more, if the call was refused and its count is lent.
@@ -15,13 +15,4 @@ pub fn count_call(refused: &mut [u8], number: u8)
     }
     let before = num::get4(refused, 0);
     num::put4(refused, 0, next_count(before));
-}
-
-// A number of 8 bytes, if there is room for it.
-pub fn put_number(answer: &mut [u8], x: u64)
-    ensures { λ _. ⌜ now (answer .exit) ≡ numberPut (now (answer .entry)) x ⌝ }
-{
-    if 8 <= answer.len() {
-        num::put8(answer, 0, x);
-    }
 }

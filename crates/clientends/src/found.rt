@@ -6,8 +6,8 @@ ghost use Rattle.lend.specs.Lend.{lot};
 ghost use Rattle.clientsearches.specs.declared.SearchAnswer.the-variants.{Found};
 ghost use Rattle.clientsearches.specs.Searches.{output};
 ghost use Rattle.clientends.specs.Found.{ended, foundIn, searchEnded, freshHits, hitsLent, SearchServed};
-use crate::count::put_number;
 use crate::hits::put_hits;
+use asked::answer::put_number;
 use clientsearches::SearchAnswer;
 use clientsearches::search;
 use header::Node;
@@ -18,11 +18,10 @@ fn put_found(hits: &mut [u8], answer: &mut [u8], ids: &[u64], distances: &[f32],
     ensures { λ r. ⌜ ended r (now (hits .exit)) (now (answer .exit))
         ≡ foundIn (now (hits .entry)) (now (answer .entry)) (output (now (ids .entry)) (now (distances .entry))) n ⌝ }
 {
-    if answer.len() < 8 {
+    if !put_number(answer, n as u64) {
         return 23;
     }
     put_hits(hits, ids, distances, n);
-    num::put8(answer, 0, n as u64);
     0
 }
 

@@ -5,7 +5,7 @@ ghost use Rattle.lend.specs.Lend.{lot};
 ghost use Rattle.lentimage.specs.Lent.{Puttable};
 ghost use Rattle.clientwrites.specs.ClientWrites.{turnedDown};
 ghost use Rattle.clientends.specs.Ends.{buffers, ended, WriteFinished};
-use crate::count::put_number;
+use asked::answer::put_number;
 use clientwrites::WriteAnswer;
 use clientwrites::WriteReply;
 use header::Node;
@@ -38,10 +38,9 @@ pub fn put_written(
     let reply = told.answer;
     match reply {
         WriteReply::Accepted(o) => {
-            if answer.len() < 8 {
+            if !put_number(answer, o.0) {
                 return 23;
             }
-            num::put8(answer, 0, o.0);
             let p = told.node;
             put_images(
                 header,

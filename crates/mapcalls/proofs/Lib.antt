@@ -7,4 +7,3 @@ pub mod OfEmpty
 pub mod OfLists
 pub mod OfPlacement
 pub mod OfPlaces
-pub mod OfKey

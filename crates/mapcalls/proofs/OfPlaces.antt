@@ -6,8 +6,7 @@ use mathlib.Core.List.{List}
 use lib.ListN.{length}
 use lib.Dec.{ltb}
 use lib.Seq.{sets}
-use borrow.Author.Tests.{lt-ltb, le-ltb}
-use Rattle.model.specs.Layout.Format.{bytesOf}
+use borrow.Author.Tests.{lt-ltb, le-ltb, lt-leb, le-leb}
 use Rattle.model.specs.Refusals.{Refusal, numberOf}
 use Rattle.model.specs.Map.Place as place
 use Rattle.model.specs.Map.Place.{nobody, replacedBy, notReplaced, Placed, placedOn, notPlaced}
@@ -22,6 +21,7 @@ use Rattle.placement.specs.declared.PlaceAnswer.{PlaceAnswer}
 use Rattle.placement.specs.declared.Placing.{Placing}
 use Rattle.placement.specs.declared.Replaced.{Replaced}
 use Rattle.mapimage.specs.Image.{mapAt, mapLent}
+use Rattle.asked.specs.Answer.{answerLent, numberPut}
 use Rattle.mapcalls.specs.Places.{listsBytes, AnswersLists, AnswersNode, specGiven, Places, Replaces}
 use Rattle.mapcalls.proofs.OfPlacement.{placed-laid}
 
@@ -29,23 +29,15 @@ use Rattle.mapcalls.proofs.OfPlacement.{placed-laid}
 
 module _ (s : List ℕ) where
   pub none-short : length s < 8 → AnswersNode nobody s s 23
-  none-short h = record { number = sym (ap (λ (b : Bool). cond b 23 1) (lt-ltb (length s) 8 h)); bytes = refl }
+  none-short h = record { number = sym (ap (λ (b : Bool). cond b 1 23) (lt-leb 8 (length s) h)); bytes = refl }
 
   pub none-long : 8 ≤ length s → AnswersNode nobody s s 1
-  none-long h = record { number = sym (ap (λ (b : Bool). cond b 23 1) (le-ltb (length s) 8 h)); bytes = refl }
+  none-long h = record { number = sym (ap (λ (b : Bool). cond b 1 23) (le-leb 8 (length s) h)); bytes = refl }
 
-  module _ (n : ℕ) where
-    pub node-short : length s < 8 → AnswersNode (replacedBy n) s s 23
-    node-short h = record {
-      number = sym (ap (λ (b : Bool). cond b 23 0) (lt-ltb (length s) 8 h));
-      bytes = sym (ap (λ (b : Bool). cond b s (sets s 0 (bytesOf 8 n))) (lt-ltb (length s) 8 h));
-    }
-
-    pub node-long : (t : List ℕ) → 8 ≤ length s → t ≡ sets s 0 (bytesOf 8 n) → AnswersNode (replacedBy n) s t 0
-    node-long t h e = record {
-      number = sym (ap (λ (b : Bool). cond b 23 0) (le-ltb (length s) 8 h));
-      bytes = e ∙ sym (ap (λ (b : Bool). cond b s (sets s 0 (bytesOf 8 n))) (le-ltb (length s) 8 h));
-    }
+  -- by what is said of the room
+  pub node-put : (n : ℕ) (t : List ℕ) (said b : Bool) → said ≡ b → (said ≡ answerLent s) × (t ≡ numberPut s n)
+      → AnswersNode (replacedBy n) s t (cond b 0 23)
+  node-put n t said b e p = record { number = ap (λ (x : Bool). cond x 0 23) (sym e ∙ p .0); bytes = p .1 }
 
   pub node-refused : (why : Refusal) (r : ℕ) → r ≡ numberOf why → AnswersNode (notReplaced why) s s r
   node-refused why r e = record { number = e; bytes = refl }

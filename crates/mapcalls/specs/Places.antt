@@ -18,6 +18,7 @@ use Rattle.state.specs.declared.ShardKey.{ShardKey}
 use Rattle.state.specs.declared.Spec.{Spec}
 use Rattle.placement.specs.Answers.{placeLent, replacementLent}
 use Rattle.mapimage.specs.Image.{mapAt, mapLent}
+use Rattle.asked.specs.Answer.{answerLent, numberPut}
 use Rattle.mapcalls.specs.Calls.{Refuses}
 
 -- ---- lists of nodes: 8 bytes for each node, a list behind the other
@@ -54,14 +55,14 @@ pub record AnswersLists (x : Placed) (s t : List ℕ) (r : ℕ) : Type 0 where
 
 -- 0 for a node, 1 for none; 23 where the buffer is shorter than 8 bytes, which comes after every other refusal
 abbrev pub replacedNumber : Replaced → List ℕ → ℕ
-replacedNumber nobody s = cond (ltb (length s) 8) (numberOf noRoom) 1
-replacedNumber (replacedBy n) s = cond (ltb (length s) 8) (numberOf noRoom) 0
+replacedNumber nobody s = cond (answerLent s) 1 (numberOf noRoom)
+replacedNumber (replacedBy n) s = cond (answerLent s) 0 (numberOf noRoom)
 replacedNumber (notReplaced why) s = numberOf why
 
 -- the node in the first 8 bytes
 abbrev pub replacedBytes : Replaced → List ℕ → List ℕ
 replacedBytes nobody s = s
-replacedBytes (replacedBy n) s = cond (ltb (length s) 8) s (sets s 0 (bytesOf 8 n))
+replacedBytes (replacedBy n) s = numberPut s n
 replacedBytes (notReplaced why) s = s
 
 pub record AnswersNode (x : Replaced) (s t : List ℕ) (r : ℕ) : Type 0 where

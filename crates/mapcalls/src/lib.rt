@@ -8,9 +8,9 @@ ghost use Rattle.mapimage.specs.Image.{mapStored};
 ghost use Rattle.mapcalls.specs.Calls.{AppliesTo, Empties, unlentNumber};
 ghost use Rattle.mapcalls.specs.Places.{Places, Replaces};
 use crate::lists::answer_lists;
-use crate::named::key_named;
 use crate::numbers::verdict_number;
 use crate::replaced::answer_node;
+use asked::named::key_named;
 use mapimage::read_map;
 use mapimage::write_map;
 use model::Metric;
@@ -19,7 +19,6 @@ use rpcw::fit::text_fits;
 use state::Spec;
 
 mod lists;
-mod named;
 mod numbers;
 mod replaced;
 

@@ -3,6 +3,7 @@ ghost use Rattle.model.specs.Map.Place.{nobody, replacedBy};
 ghost use Rattle.placement.specs.Answers.{replacedOf};
 ghost use Rattle.mapcalls.specs.Places.{AnswersNode};
 use crate::numbers::refusal_number;
+use asked::answer::put_number;
 use model::DataNodeId;
 use placement::Replaced;
 
@@ -16,11 +17,7 @@ fn put_none(out: &[u8]) -> u32
 fn put_node(out: &mut [u8], node: DataNodeId) -> u32
     ensures { λ r. ⌜ AnswersNode (replacedBy (node .0)) (now (out .entry)) (now (out .exit)) r ⌝ }
 {
-    if out.len() < 8 {
-        return 23;
-    }
-    num::put8(out, 0, node.0);
-    0
+    if put_number(out, node.0) { 0 } else { 23 }
 }
 
 // Internal: what replacement answers.

@@ -1,3 +1,3 @@
 pub mod OfCodes
-pub mod OfAsked
+pub mod OfTold
 pub mod OfSteps

@@ -1,41 +1,24 @@
 -- Laws of a worker's step over the images, one for each way out. Assumes nothing.
 use Prim.Native.Nat.{ℕ, _≤_, _<_}
-use native.Mathlib.Omega.{arith}
-use mathlib.Core.Path.{_≡_, refl, sym, ap, subst, _∙_}
+use mathlib.Core.Path.{_≡_, refl, sym, subst, _∙_}
 use mathlib.Core.Bool.{Bool, true, false}
 use mathlib.Core.List.{List}
-use lib.ListN.{length}
-use lib.Seq.{take-length}
-use borrow.Author.Tests.{leb-true, lt-leb, le-leb}
+use borrow.Author.Tests.{lt-leb, le-leb}
 use Rattle.model.specs.Limits.{maxName}
 use Rattle.model.specs.Lists.{_and_}
 use Rattle.model.specs.Keys.{Key}
 use Rattle.model.specs.Node.Worker as worker
 use Rattle.model.specs.declared.Metric.{Metric}
-use Rattle.model.proofs.Lists.{not-both, and-left}
-use Rattle.rpc.specs.declared.KeyPart.{KeyPart}
+use Rattle.model.proofs.Lists.{not-both}
 use Rattle.rpcw.specs.Written.{textFits}
 use Rattle.header.specs.declared.Node.{Node}
 use Rattle.headerimage.specs.Image.{nodeAt}
 use Rattle.lend.specs.Lend.{Lot}
-use Rattle.lend.specs.Named.{KeyThere, keyIn}
 use Rattle.lentimage.specs.declared.Picked.{Picked}
 use Rattle.lentimage.specs.Lent.{lendsState, lotIn, Picks}
 use Rattle.workercalls.specs.Steps.{Asking, decodes, keyOf, metricOf, formOf, Outputs, StepAsked, StepsImage}
 
 -- ---- the operands
-
--- the whole name stands in itself
-abbrev whole : Asking → KeyPart
-whole w = record { name = record { at = 0; len = length (w .name) }; shard = w .shard }
-
--- a name that fits is short enough for a key
-pub there : (w : Asking) (b : Bool) → b ≡ textFits maxName (w .name) → b ≡ true → KeyThere (w .name) (whole w)
-unfolding textFits
-there w b e t = (leb-true (length (w .name)) maxName (and-left _ _ (sym e ∙ t)), omega arith)
-
-pub named : (w : Asking) (k : Key) → k ≡ keyIn (w .name) (whole w) → k ≡ keyOf w
-named w k e = e ∙ ap (λ (s : List ℕ). record { collection = s; shard = w .shard }) (take-length (w .name))
 
 module _ (w : Asking) (b : Bool) (e : b ≡ textFits maxName (w .name)) where
   pub bad-name : b ≡ false → decodes w ≡ false

@@ -5,16 +5,14 @@ use mathlib.Core.Path.{_≡_}
 use mathlib.Core.Bool.{Bool, true, false, cond}
 use mathlib.Core.List.{List}
 use lib.Dec.{eqb, leb}
-use lib.ListN.{length, getD}
-use lib.Seq.{sets}
+use lib.ListN.{getD}
 use Rattle.model.specs.Lists.{_and_}
 use Rattle.model.specs.Limits.{maxName}
 use Rattle.model.specs.Keys.{Key}
-use Rattle.model.specs.Layout.Format.{bytesOf}
 use Rattle.model.specs.Node.Worker as worker
 use Rattle.model.specs.declared.Metric.{Metric}
 use Rattle.model.specs.declared.Metric.the-variants.{Euclidean, Angular}
-use Rattle.rpcw.specs.Written.{textFits}
+use Rattle.rpcw.specs.Written.{textFits, keyGiven}
 use Rattle.serve.specs.declared.Step.{Step}
 use Rattle.serve.specs.declared.Step.the-variants as step
 use Rattle.header.specs.declared.StepAnswer.{StepAnswer}
@@ -29,6 +27,7 @@ use Rattle.lend.specs.declared.Lent.the-variants as L
 use Rattle.lend.specs.Lend.{Lot, lentFor}
 use Rattle.workers.specs.Requests.{Requests}
 use Rattle.headerimage.specs.Image.{nodeAt}
+use Rattle.asked.specs.Answer.{answerLent, numberPut}
 use Rattle.lentimage.specs.Lent.{lotIn, lendsState}
 
 -- ---- the operands
@@ -51,7 +50,7 @@ unfoldable pub decodes : Asking → Bool
 decodes w = textFits maxName (w .name) and (leb (w .metric) 1 and leb (w .form) 1)
 
 abbrev pub keyOf : Asking → Key
-keyOf w = record { collection = w .name; shard = w .shard }
+keyOf w = keyGiven (w .name) (w .shard)
 
 abbrev pub metricOf : ℕ → Metric
 metricOf c = cond (eqb c 0) Euclidean Angular
@@ -81,8 +80,8 @@ stepNumber s (request.Refused x) out = x
 
 -- the number beside the answer: the request's length
 abbrev pub answerLeft : Request → List ℕ → List ℕ
-answerLeft request.Unsent a = sets a 0 (bytesOf 8 0)
-answerLeft (request.Written n) a = sets a 0 (bytesOf 8 n)
+answerLeft request.Unsent a = numberPut a 0
+answerLeft (request.Written n) a = numberPut a n
 answerLeft (request.Refused x) a = a
 
 -- ---- the lent outputs: a request and an answer
@@ -114,8 +113,8 @@ pub record Short (n : Node) (a : Lot) (k : Key) (o p : Outputs) (r : ℕ) : Type
   pub kept : p ≡ o
 
 pub record StepAsked (n : Node) (a : Lot) (k : Key) (epoch peer : ℕ) (metric : Metric) (form : worker.Form) (o p : Outputs) (r : ℕ) : Type 0 where
-  pub short : leb 8 (length (o .answer)) ≡ false → Short n a k o p r
-  pub told : leb 8 (length (o .answer)) ≡ true → Tells n a k epoch peer metric form o p r
+  pub short : answerLent (o .answer) ≡ false → Short n a k o p r
+  pub told : answerLent (o .answer) ≡ true → Tells n a k epoch peer metric form o p r
 
 -- h and s the images of the header and of the stores, which stay as they are: 21, 24, then the step of what the bytes are read as
 pub record StepsImage (h s : List ℕ) (w : Asking) (o p : Outputs) (r : ℕ) : Type 0 where

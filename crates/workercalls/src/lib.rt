@@ -1,19 +1,17 @@
 // The step of a worker, as a host in C asks for it (paper 01, 'The node'; node.rs, replicate_to): over the byte images of the header and of
 // the stores, which are only read, with an output for the request and one for the number beside the answer.
 ghost use Rattle.workercalls.specs.Steps.{asking, outputs, StepsImage};
-use crate::asked::step_at;
 use crate::codes::form_of;
 use crate::codes::metric_of;
-use lend::named::key_of;
+use crate::told::step_at;
+use asked::named::key_named;
 use lentimage::pick::pick;
 use model::DataNodeId;
 use model::Epoch;
-use rpc::KeyPart;
-use rpc::Part;
 use rpcw::fit::text_fits;
 
-mod asked;
 mod codes;
+mod told;
 
 // 21 a name, a metric or a form that is none; 24; 23 if an output is short. Otherwise 0 wait, 1 stop, and 2 align, 3 replicate, 4 copy with
 // the request in `request` and its length in `answer`, which is 0 beside 0 and 1.
@@ -41,17 +39,7 @@ pub fn step(
     if 1 < form {
         return 21;
     }
-    let part = Part {
-        at: 0,
-        len: name.len(),
-    };
-    let key = key_of(
-        name,
-        KeyPart {
-            name: part,
-            shard: shard,
-        },
-    );
+    let key = key_named(name, shard);
     let mut epochs = [0u64; 1024];
     let mut offsets = [0u64; 1024];
     let mut ids = [0u64; 1024];

@@ -1,11 +1,11 @@
 -- `step` meets its contract. Assumes nothing.
 use borrow.Author.Needs.{needs}
 use borrow.Author.Tests.{not-true, not-false}
-use mathlib.Core.Path.{refl}
+use mathlib.Core.Path.{refl, sym, _∙_}
 use Rattle.state.specs.Names.{viewKey}
 use Rattle.lentimage.specs.Lent.{noLot}
 use Rattle.workercalls.specs.Steps.{Asking, asking, Outputs, outputs}
-use Rattle.workercalls.proofs.OfSteps.{there, named, bad-name, bad-metric, bad-form, decoded, undecoded, unlent, asked}
+use Rattle.workercalls.proofs.OfSteps.{bad-name, bad-metric, bad-form, decoded, undecoded, unlent, asked}
 use Rattle.workercalls.proofs.step.Statement.{statement}
 use Rattle.workercalls.proofs.step.Tie as tie
 
@@ -41,11 +41,8 @@ returns-3 c =
     undecoded (z .args .header .now) (z .args .stores .now) (asked-by z) (lent-by z)
     (bad-form (asked-by z) (t .result) (t .ensures) (not-false _ (c .before .before .if1 .left)) (c .before .if2 .left) (c .if3 .taken))
 
-key-of-requires : tie.Need-key-of-requires
-key-of-requires c κs =
-    let z = c .before .before .before .before .before .before .before .before .before in
-    let t = c .before .before .before .text-fits in
-    there (asked-by z) (t .result) (t .ensures) (not-false _ (c .before .before .if1 .left))
+key-named-requires : tie.Need-key-named-requires
+key-named-requires c κs = sym (c .before .before .before .text-fits .ensures) ∙ not-false _ (c .before .before .if1 .left)
 
 slice-aggregate-pick : tie.Need-slice-aggregate-pick
 slice-aggregate-pick c = search needs
@@ -81,10 +78,10 @@ returns-4 c =
     let i = p .before .before .before .before .before .before .before .before .before .before in
     let z = i .before .before .before .before .before .before .before .before .before in
     let t = i .before .before .before .text-fits in
-    let k = p .before .before .before .before .before .before .before .before .before .key-of in
+    let k = p .before .before .before .before .before .before .before .before .before .key-named in
     let fine = decoded (asked-by z) (t .result) (t .ensures) (not-false _ (i .before .before .if1 .left)) (i .before .if2 .left) (i .if3 .left) in
     unlent (z .args .header .now) (z .args .stores .now) (asked-by z) (lent-by z) fine
-    (viewKey (k .result)) (named (asked-by z) (viewKey (k .result)) (k .ensures))
+    (viewKey (k .result)) (k .ensures)
     _ (p .pick .result) (p .pick .ensures) (not-true _ (c .if4 .taken))
 
 metric-of-requires : tie.Need-metric-of-requires
@@ -136,10 +133,10 @@ returns-5 c =
     let i = p .before .before .before .before .before .before .before .before .before .before in
     let z = i .before .before .before .before .before .before .before .before .before in
     let t = i .before .before .before .text-fits in
-    let k = p .before .before .before .before .before .before .before .before .before .key-of in
+    let k = p .before .before .before .before .before .before .before .before .before .key-named in
     let fine = decoded (asked-by z) (t .result) (t .ensures) (not-false _ (i .before .before .if1 .left)) (i .before .if2 .left) (i .if3 .left) in
     asked (z .args .header .now) (z .args .stores .now) (asked-by z) (lent-by z) fine
-    (viewKey (k .result)) (named (asked-by z) (viewKey (k .result)) (k .ensures))
+    (viewKey (k .result)) (k .ensures)
     _ (p .pick .result) (p .pick .ensures) (m .metric-of .result) (m .metric-of .ensures) _ (f .form-of .ensures)
     (not-false _ (l .if4 .left)) _ _ (e .step-at .ensures)
 
@@ -151,7 +148,7 @@ step-spec =
     returns
     returns-2
     returns-3
-    key-of-requires
+    key-named-requires
     slice-aggregate-pick
     slice-aggregate-pick-2
     slice-aggregate-pick-3

@@ -39,7 +39,7 @@ same-length-3 c = search needs
 returns-2 : tie.Need-returns-2
 returns-2 c =
     let a = c .before .before .before .before .before .before .before .before .before .before .before .args in
-    ended-as (a .hits .now) (a .answer .now) (output (a .ids .now) (a .distances .now)) (a .told) _ (c .before .before .before .before .before .told2 .given .1) _ (ap (ended 18 (a .hits .now)) (c .before .before .put-number .ensures))
+    ended-as (a .hits .now) (a .answer .now) (output (a .ids .now) (a .distances .now)) (a .told) _ (c .before .before .before .before .before .told2 .given .1) _ (ap (ended 18 (a .hits .now)) (c .before .before .put-number .ensures .1))
 
 returns-3 : tie.Need-returns-3
 returns-3 c =

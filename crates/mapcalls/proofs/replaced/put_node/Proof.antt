@@ -1,20 +1,28 @@
 -- `replaced::put_node` meets its contract. Assumes nothing.
 use borrow.Author.Needs.{needs}
-use Rattle.mapcalls.proofs.OfPlaces.{node-short, node-long}
+use mathlib.Core.Bool.{true, false}
+use Rattle.mapcalls.proofs.OfPlaces.{node-put}
 use Rattle.mapcalls.proofs.replaced.put_node.Statement.{statement}
 use Rattle.mapcalls.proofs.replaced.put_node.Tie as tie
 
-returns : tie.Need-returns
-returns c = node-short (c .before .before .args .out .now) (c .before .before .args .node .0) (c .if1 .taken)
-
-put8-requires : tie.Need-put8-requires
-put8-requires c κs = search needs
+put-number-requires : tie.Need-put-number-requires
+put-number-requires c κs = search needs
 
 same-length : tie.Need-same-length
 same-length c = search needs
 
+returns : tie.Need-returns
+returns c =
+    let a = c .before .before .before .before .before .before .args in
+    node-put (a .out .now) (a .node .0) _ _ true (c .if1 .taken) (c .before .before .before .put-number .ensures)
+
+same-length-2 : tie.Need-same-length-2
+same-length-2 c = search needs
+
 returns-2 : tie.Need-returns-2
-returns-2 c = node-long (c .before .before .before .before .before .before .args .out .now) (c .before .before .before .before .before .before .args .node .0) _ (c .before .before .before .before .if1 .left) (c .before .before .put8 .ensures)
+returns-2 c =
+    let a = c .before .before .before .before .before .before .args in
+    node-put (a .out .now) (a .node .0) _ _ false (c .if1 .left) (c .before .before .before .put-number .ensures)
 
 pub put-node-spec : {M : Type 1} → statement M
-put-node-spec = tie.close (tie.spec returns put8-requires same-length returns-2)
+put-node-spec = tie.close (tie.spec put-number-requires same-length returns same-length-2 returns-2)

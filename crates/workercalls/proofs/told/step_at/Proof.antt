@@ -1,10 +1,10 @@
--- `asked::step_at` meets its contract. Assumes nothing.
+-- `told::step_at` meets its contract. Assumes nothing.
 use borrow.Author.Needs.{needs}
 use Rattle.state.specs.Names.{viewKey}
 use Rattle.lend.specs.Lend.{Lot, lot}
-use Rattle.workercalls.proofs.OfAsked.{no-room, asked}
-use Rattle.workercalls.proofs.asked.step_at.Statement.{statement}
-use Rattle.workercalls.proofs.asked.step_at.Tie as tie
+use Rattle.workercalls.proofs.OfTold.{no-room, asked}
+use Rattle.workercalls.proofs.told.step_at.Statement.{statement}
+use Rattle.workercalls.proofs.told.step_at.Tie as tie
 
 -- the lent columns
 abbrev columnsOf : tie.Start → Lot

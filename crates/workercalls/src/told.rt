@@ -1,13 +1,12 @@
 // The step of a worker on the header and the columns that were picked. Internal.
 ghost use mathlib.Core.Path.{_≡_};
-ghost use Prim.Native.Nat.{_≤_};
-ghost use lib.ListN.{length};
 ghost use Rattle.state.specs.Names.{viewKey};
 ghost use Rattle.outgoing.specs.Requested.{formOf};
 ghost use Rattle.lend.specs.Lend.{lot};
 ghost use Rattle.workercalls.specs.Steps.{stepNumber, answerLeft, shortNumber, outputs, StepAsked};
 use crate::codes::quiet_number;
 use crate::codes::sent_number;
+use asked::answer::put_number;
 use header::Node;
 use header::StepAnswer;
 use header::step::step;
@@ -33,17 +32,16 @@ fn short_number(found: Lent) -> u32
 
 // The number of the answer, and the request's length beside it.
 fn told(s: StepAnswer, w: Request, request: &[u8], answer: &mut [u8]) -> u32
-    requires { ⌜ 8 ≤ length (now answer) ⌝ }
     ensures { λ r. ⌜ (r ≡ stepNumber s w (now (request .entry))) × (now (answer .exit) ≡ answerLeft w (now (answer .entry))) ⌝ }
 {
     match w {
         Request::Refused(x) => x as u32,
         Request::Unsent => {
-            num::put8(answer, 0, 0);
+            put_number(answer, 0);
             quiet_number(s)
         }
         Request::Written(n) => {
-            num::put8(answer, 0, n as u64);
+            put_number(answer, n as u64);
             sent_number(request)
         }
     }

@@ -1,12 +1,13 @@
 -- `named::key_named` meets its contract. Assumes nothing.
 use native.Mathlib.Omega.{arith}
 use mathlib.Core.Path.{_∙_}
-use Rattle.mapcalls.proofs.OfKey.{name-short, all-named}
-use Rattle.mapcalls.proofs.named.key_named.Statement.{statement}
-use Rattle.mapcalls.proofs.named.key_named.Tie as tie
+use Rattle.rpcput.proofs.Writes.{text-short}
+use Rattle.asked.proofs.OfKey.{all-named}
+use Rattle.asked.proofs.named.key_named.Statement.{statement}
+use Rattle.asked.proofs.named.key_named.Tie as tie
 
 key-of-requires : tie.Need-key-of-requires
-key-of-requires c κs = (name-short (c .before .args .name .now) (c .before .pre), omega arith)
+key-of-requires c κs = (text-short 32 (c .before .args .name .now) (c .before .pre), omega arith)
 
 returns : tie.Need-returns
 returns c = c .key-of .ensures ∙ all-named (c .before .before .args .name .now) (c .before .before .args .shard)

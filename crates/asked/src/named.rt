@@ -1,15 +1,17 @@
-// The key that a name and a number make. Internal.
+// The key of a shard that a host names, by its collection's name and its number. Internal.
 ghost use mathlib.Core.Path.{_≡_};
 ghost use mathlib.Core.Bool.{true};
-ghost use Rattle.rpcw.specs.Written.{keyGiven, textFits};
+ghost use Rattle.model.specs.Limits.{maxName};
+ghost use Rattle.rpcput.specs.Fields.{keyGiven, textFits};
 ghost use Rattle.state.specs.Names.{viewKey};
 use lend::named::key_of;
 use rpc::KeyPart;
 use rpc::Part;
 use state::ShardKey;
 
+// Of a name that a message can carry.
 pub fn key_named(name: &[u8], shard: u32) -> ShardKey
-    requires { ⌜ textFits 32 (now name) ≡ true ⌝ }
+    requires { ⌜ textFits maxName (now name) ≡ true ⌝ }
     ensures { λ r. ⌜ viewKey r ≡ keyGiven (now (name .entry)) shard ⌝ }
 {
     let part = KeyPart {

@@ -1,9 +1,9 @@
--- `asked::told` meets its contract. Assumes nothing.
+-- `told::told` meets its contract. Assumes nothing.
 use borrow.Author.Needs.{needs}
 use Rattle.outgoing.specs.declared.Request.the-variants as request
-use Rattle.workercalls.proofs.OfAsked.{told-as}
-use Rattle.workercalls.proofs.asked.told.Statement.{statement}
-use Rattle.workercalls.proofs.asked.told.Tie as tie
+use Rattle.workercalls.proofs.OfTold.{told-as}
+use Rattle.workercalls.proofs.told.told.Statement.{statement}
+use Rattle.workercalls.proofs.told.told.Tie as tie
 
 enum-known-w : tie.Need-enum-known-w
 enum-known-w c = search needs
@@ -14,8 +14,8 @@ cast-result c = search needs
 enum-told : tie.Need-enum-told
 enum-told c = search needs
 
-put8-requires : tie.Need-put8-requires
-put8-requires c κs = search needs
+put-number-requires : tie.Need-put-number-requires
+put-number-requires c κs = search needs
 
 quiet-number-requires : tie.Need-quiet-number-requires
 quiet-number-requires c κs = search needs
@@ -23,8 +23,8 @@ quiet-number-requires c κs = search needs
 enum-known-w-2 : tie.Need-enum-known-w-2
 enum-known-w-2 c = search needs
 
-put8-requires-2 : tie.Need-put8-requires-2
-put8-requires-2 c κs = search needs
+put-number-requires-2 : tie.Need-put-number-requires-2
+put-number-requires-2 c κs = search needs
 
 sent-number-requires : tie.Need-sent-number-requires
 sent-number-requires c κs = search needs
@@ -40,7 +40,7 @@ returns-2 c =
     let w = c .before .before .before .before .before in
     let a = w .before .before .before .before .args in
     told-as (a .s) (a .w) request.Unsent (a .request .now) (a .answer .now) _ _ (w .enum-told .given .1)
-    (c .quiet-number .ensures, c .before .before .before .put8 .ensures)
+    (c .quiet-number .ensures, c .before .before .before .put-number .ensures .1)
 
 same-length-2 : tie.Need-same-length-2
 same-length-2 c = search needs
@@ -50,7 +50,7 @@ returns-3 c =
     let w = c .before .before .before .before .before .before in
     let a = w .before .before .before .before .args in
     told-as (a .s) (a .w) _ (a .request .now) (a .answer .now) _ _ (w .w2 .given .1)
-    (c .sent-number .ensures, c .before .before .before .put82 .ensures)
+    (c .sent-number .ensures, c .before .before .before .put-number2 .ensures .1)
 
 pub told-spec : {M : Type 1} → statement M
 told-spec =
@@ -59,10 +59,10 @@ told-spec =
     enum-known-w
     cast-result
     enum-told
-    put8-requires
+    put-number-requires
     quiet-number-requires
     enum-known-w-2
-    put8-requires-2
+    put-number-requires-2
     sent-number-requires
     returns
     same-length

@@ -1,0 +1,2 @@
+pub mod OfAnswer
+pub mod OfKey
