@@ -14,7 +14,7 @@ use Rattle.clientwrites.specs.declared.WriteReply.{WriteReply}
 use Rattle.clientwrites.specs.declared.WriteReply.the-variants as R
 use Rattle.clientwrites.specs.declared.WriteAnswer.{WriteAnswer}
 use Rattle.clientwrites.specs.ClientWrites.{turnedDown}
-use Rattle.clientends.specs.Ends.{Buffers, buffers, WriteEnded, ended, acceptedIn, endedAs, writeEnded}
+use Rattle.clientends.specs.Ends.{Buffers, buffers, WriteEnded, ended, endedAs, writeEnded}
 
 module _ (h s a : List ℕ) (n : Node) (at : ℕ) (l : Lot) (w : WriteAnswer) where
   abbrev b : Buffers

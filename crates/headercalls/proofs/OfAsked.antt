@@ -1,19 +1,16 @@
 -- Laws of what every call is asked with. Assumes nothing.
-use Prim.Native.Nat.{ℕ, _≤_}
+use Prim.Native.Nat.{ℕ}
 use mathlib.Core.Bool.{Bool, true, false, not}
-use mathlib.Core.Path.{_≡_, refl, sym, ap, _∙_}
+use mathlib.Core.Path.{_≡_, refl, sym, _∙_}
 use mathlib.Core.List.{List}
-use native.Mathlib.Omega.{arith}
 use lib.Dec.{ltb}
-use lib.ListN.{length, take, drop}
-use lib.Seq.{take-all}
-use borrow.Author.Tests.{leb-true, not-false}
-use Rattle.model.specs.Lists.{_and_, _or_}
+use borrow.Author.Tests.{not-false}
+use Rattle.model.specs.Lists.{_or_}
 use Rattle.model.specs.Limits.{maxName, maxTime}
 use Rattle.model.specs.Node.Calls.{lateTime}
-use Rattle.model.proofs.LayoutLaws.Tests.{and-left, false-not-true}
+use Rattle.model.proofs.LayoutLaws.Tests.{false-not-true}
 use Rattle.rpcw.specs.Written.{textFits}
-use Rattle.headercalls.specs.Asked.{keyNamed, unreadName, Asked}
+use Rattle.headercalls.specs.Asked.{unreadName, Asked}
 use Rattle.headercalls.specs.Acks.{unreadReply, unreadAck}
 use Rattle.headercalls.specs.Settles.{unreadOutcome}
 use Rattle.headercalls.specs.Waits.{unreadWait}
@@ -52,17 +49,13 @@ pub late-second : (a b : ℕ) → ltb maxTime a ≡ false → ltb maxTime b ≡ 
 unfolding _or_
 late-second a b e = rw e
 
-pub key-whole : (name : List ℕ) (shard : ℕ) → record { collection = take (length name) (drop 0 name); shard = shard } ≡ keyNamed name shard
-key-whole name shard = ap (λ (x : List ℕ). keyNamed x shard) (take-all (length name) name (omega arith))
-
 first-fails : (a b : Bool) → (a or b) ≡ false → a ≡ false
 unfolding _or_
 first-fails true b e = e
 first-fails false b e = refl
 
-pub name-short : (name : List ℕ) (rest : Bool) → unreadName name rest ≡ false → length name ≤ 32
-unfolding textFits
-name-short name rest e = leb-true (length name) 32 (and-left _ _ (not-false _ (first-fails (not (textFits maxName name)) rest e)))
+pub name-fits : (name : List ℕ) (rest : Bool) → unreadName name rest ≡ false → textFits maxName name ≡ true
+name-fits name rest e = not-false _ (first-fails (not (textFits maxName name)) rest e)
 
 -- ---- what is not readable
 

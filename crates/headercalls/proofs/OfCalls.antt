@@ -40,7 +40,8 @@ use Rattle.headerimage.specs.declared.Lent.{Lent}
 use Rattle.headerimage.specs.Image.{headerLent, nodeAt, lentHeader}
 use Rattle.headerimage.specs.Becomes.{tableFits}
 use Rattle.headerimage.proofs.OfCounts.{formed-written}
-use Rattle.headercalls.specs.Asked.{keyNamed, imageAfter, Becomes}
+use Rattle.rpcw.specs.Written.{keyGiven}
+use Rattle.headercalls.specs.Asked.{imageAfter, Becomes}
 use Rattle.headercalls.specs.Grants.{grantNumber, isGranted, granted, GrantsImage}
 use Rattle.headercalls.specs.Acks.{sentAt, noReply, ackNumber, isAcked, acked, AcksImage}
 use Rattle.headercalls.specs.Settles.{proposalAt, outcomeNumber, isSettled, settled, SettlesImage}
@@ -87,7 +88,7 @@ module _ (s : List ℕ) (l : Lent) (read : l ≡ lentHeader s) where
               (λ d. formed-left s t _ (unwritten s t (after .node) (isGranted (after .answer)) put d));
         }
 
-    module _ (name : List ℕ) (shard : ℕ) (k : Key) (key : k ≡ keyNamed name shard) where
+    module _ (name : List ℕ) (shard : ℕ) (k : Key) (key : k ≡ keyGiven name shard) where
       pub settles-image : (t : List ℕ) (epoch peer command applied r : ℕ) (w : Proposal) → w ≡ proposalAt command → (after : NodeSettled)
           → SettlesNode (l .node) k epoch peer w (eqb applied 1) after → Keeps (l .node) (after .node)
           → (x : OutcomeAnswer) → after .answer ≡ x → r ≡ outcomeNumber x → t ≡ imageAfter (isSettled x) s (after .node)

@@ -29,7 +29,8 @@ use Rattle.shown.specs.declared.ShownAnswer.the-variants as S
 use Rattle.shown.specs.Shows.{shownWord}
 use Rattle.headerimage.specs.Image.{nodeAt}
 use Rattle.mapimage.specs.Image.{mapAt}
-use Rattle.headercalls.specs.Asked.{keyNamed, imageAfter}
+use Rattle.rpcw.specs.Written.{keyGiven}
+use Rattle.headercalls.specs.Asked.{imageAfter}
 use Rattle.headercalls.specs.Leaves.{Stays}
 use Rattle.headercalls.specs.Grants.{isGranted, granted}
 use Rattle.headercalls.specs.Acks.{sentAt, isAcked, acked}
@@ -82,19 +83,19 @@ module _ (s : List ℕ) (st : Stores) where
         → waited s name shard epoch offset now timeout st .after ≡ before
     wait-stays offset now timeout e =
         let of = wait-off (waited s name shard epoch offset now timeout st .answer) e in
-        wait-refused (of .0) (lentNode st (nodeAt s)) before now timeout (keyNamed name shard) epoch offset (of .1)
+        wait-refused (of .0) (lentNode st (nodeAt s)) before now timeout (keyGiven name shard) epoch offset (of .1)
 
     pub ack-stays : (reply : List ℕ) (peer step : ℕ) → isAcked (ackWord (acked s name reply shard epoch peer step st .answer)) ≡ false
         → acked s name reply shard epoch peer step st .after ≡ before
     ack-stays reply peer step e =
         let of = ack-off (acked s name reply shard epoch peer step st .answer) e in
-        ack-refused (of .0) (lentNode st (nodeAt s)) before (keyNamed name shard) epoch peer (sentOf (sentAt step)) reply (of .1)
+        ack-refused (of .0) (lentNode st (nodeAt s)) before (keyGiven name shard) epoch peer (sentOf (sentAt step)) reply (of .1)
 
     pub outcome-stays : (peer command applied : ℕ) → isSettled (outcomeWord (settled s name shard epoch peer command applied st .answer)) ≡ false
         → settled s name shard epoch peer command applied st .after ≡ before
     outcome-stays peer command applied e =
         let of = outcome-off (settled s name shard epoch peer command applied st .answer) e in
-        outcome-refused (of .0) (lentNode st (nodeAt s)) before (keyNamed name shard) epoch peer (proposalOf (proposalAt command)) (eqb applied 1) (of .1)
+        outcome-refused (of .0) (lentNode st (nodeAt s)) before (keyGiven name shard) epoch peer (proposalOf (proposalAt command)) (eqb applied 1) (of .1)
 
   pub shown-stays : (m : List ℕ) (fresh : ℕ) → isShown (shownWord (shownCall s m fresh st .answer)) ≡ false → shownCall s m fresh st .after ≡ before
   shown-stays m fresh e =

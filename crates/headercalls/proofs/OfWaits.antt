@@ -1,30 +1,27 @@
 -- What a wait leaves in a host's buffers, one law for each way out. Assumes nothing.
 use Prim.Native.Nat.{ℕ, _*_, _≤_, _<_}
 use mathlib.Core.Bool.{true, false}
-use mathlib.Core.Path.{_≡_, sym, ap, _∙_}
+use mathlib.Core.Path.{_≡_, sym, ap, subst, _∙_}
 use mathlib.Core.List.{List}
 use lib.ListN.{length, take}
 use lib.Seq.{sets}
 use borrow.Author.Tests.{le-leb, lt-leb}
 use Rattle.model.specs.Lists.{_and_}
-use Rattle.model.specs.Layout.Format.{bytesOf, concatMap}
+use Rattle.model.specs.Layout.Format.{concatMap}
 use Rattle.model.proofs.Lists.{not-both, and-left, and-right}
+use Rattle.rpcw.proofs.Writes.{no-second}
 use Rattle.node.specs.declared.WaitAnswer.{WaitAnswer}
 use Rattle.header.specs.declared.Node.{Node}
 use Rattle.header.specs.declared.NodeWaited.{NodeWaited}
 use Rattle.shown.specs.declared.NodeShown.{NodeShown}
 use Rattle.shown.specs.declared.ShownAnswer.{ShownAnswer}
 use Rattle.shown.specs.Shows.{viewStarts}
+use Rattle.asked.specs.Answer.{answerLent, numberPut}
+use Rattle.asked.proofs.OfAnswer.{number-unput}
 use Rattle.headerimage.specs.Image.{headerWritten}
 use Rattle.headercalls.specs.Asked.{Becomes}
 use Rattle.headercalls.specs.Shows.{workerBytes, showSaid, isShown, ShowPut}
-use Rattle.headercalls.specs.Waits.{left, idBytes, answerPut, rowsRoom, RowsPut, waitSaid, isWaited, WaitPut}
-
-pub answer-long : (a : List ℕ) (v : ℕ) → 8 ≤ length a → sets a 0 (bytesOf 8 v) ≡ answerPut a v
-answer-long a v h = rw (le-leb 8 (length a) h)
-
-pub answer-short : (a : List ℕ) (v : ℕ) → length a < 8 → a ≡ answerPut a v
-answer-short a v h = rw (lt-leb 8 (length a) h)
+use Rattle.headercalls.specs.Waits.{left, idBytes, rowsRoom, RowsPut, waitSaid, isWaited, WaitPut}
 
 same-left : (r : ℕ) {t u q p b a : List ℕ} → t ≡ u → q ≡ p → b ≡ a → left r t q b ≡ left r u p a
 same-left r x y z = rw (x, y, z)
@@ -34,18 +31,19 @@ module _ {A : Type 0} (bytes : A → List ℕ) (w : ℕ) (said : ℕ) (s p a : L
   unput : rowsRoom bytes w p a l ≡ false → RowsPut bytes w said s s p p a a l n 23
   unput e = record { buffers = rw e; becomes = λ d. not-both (rowsRoom bytes w p a l) d e }
 
-  pub no-answer : length a < 8 → RowsPut bytes w said s s p p a a l n 23
-  no-answer h = unput (unfold _and_ in rw (lt-leb 8 (length a) h))
+  pub no-peers : length p < w * length l → RowsPut bytes w said s s p p a a l n 23
+  no-peers h = unput (no-second (answerLent a) _ (lt-leb (w * length l) (length p) h))
 
-  module _ (answer : 8 ≤ length a) where
-    pub no-peers : length p < w * length l → RowsPut bytes w said s s p p a a l n 23
-    no-peers h = unput (unfold _and_ in rw (le-leb 8 (length a) answer) (lt-leb (w * length l) (length p) h))
+  module _ (peers : w * length l ≤ length p) (b : List ℕ) (c : ℕ) (put : b ≡ numberPut a c) where
+    pub no-answer : answerLent a ≡ false → RowsPut bytes w said s s p p a b l n 23
+    no-answer e =
+        subst (λ (x : List ℕ). RowsPut bytes w said s s p p a x l n 23) (sym (put ∙ number-unput a c e)) (unput (unfold _and_ in rw e))
 
-    pub all-put : w * length l ≤ length p → {t q b : List ℕ} {c : ℕ} → t ≡ headerWritten s n → Becomes s t n → q ≡ sets p 0 (concatMap bytes l)
-        → b ≡ sets a 0 (bytesOf 8 c) → c ≡ length l → RowsPut bytes w said s t p q a b l n said
-    all-put h x g y z e = record {
-      buffers = same-left said x y (z ∙ ap (λ (v : ℕ). sets a 0 (bytesOf 8 v)) e)
-          ∙ (unfold _and_ in rw (le-leb 8 (length a) answer) (rw (le-leb (w * length l) (length p) h)));
+    pub all-put : answerLent a ≡ true → {t q : List ℕ} → t ≡ headerWritten s n → Becomes s t n → q ≡ sets p 0 (concatMap bytes l) → c ≡ length l
+        → RowsPut bytes w said s t p q a b l n said
+    all-put e x g y z = record {
+      buffers = same-left said x y (put ∙ ap (numberPut a) z)
+          ∙ (unfold _and_ in rw e (rw (le-leb (w * length l) (length p) peers)));
       becomes = λ d. g;
     }
 

@@ -22,8 +22,9 @@ use Rattle.header.specs.View.{Stores, viewNode}
 use Rattle.header.specs.Formed.{lentNode}
 use Rattle.header.specs.Seats.{Keeps}
 use Rattle.hears.specs.Hears.{HearsReply}
+use Rattle.rpcw.specs.Written.{keyGiven}
 use Rattle.headerimage.specs.Image.{headerLent, nodeAt}
-use Rattle.headercalls.specs.Asked.{keyNamed, unreadName, Asked, imageAfter}
+use Rattle.headercalls.specs.Asked.{unreadName, Asked, imageAfter}
 use Rattle.headercalls.specs.Leaves.{LeavesSlots, Stays, StaysFormed}
 
 -- the steps' codes: 2 align, 3 replicate, 4 copy
@@ -56,12 +57,12 @@ isAcked (A.Refused k) = false
 -- the model's ack, on the header that the bytes are read as
 abbrev pub acked : (s name reply : List ℕ) → (shard epoch peer step : ℕ) → Stores → Result ack.AckAnswer held.Node
 acked s name reply shard epoch peer step st =
-    calls.ackWith (lentNode st (nodeAt s)) (viewNode st (nodeAt s)) (keyNamed name shard) epoch peer (sentOf (sentAt step)) reply
+    calls.ackWith (lentNode st (nodeAt s)) (viewNode st (nodeAt s)) (keyGiven name shard) epoch peer (sentOf (sentAt step)) reply
 
 -- the image holds s before and t after
 pub record AcksImage (s t name reply : List ℕ) (shard epoch peer step r : ℕ) : Type 0 where
   pub after : NodeAcked
-  pub call : HearsReply (nodeAt s) (keyNamed name shard) epoch peer (sentAt step) reply after
+  pub call : HearsReply (nodeAt s) (keyGiven name shard) epoch peer (sentAt step) reply after
   pub keeps : Keeps (nodeAt s) (after .node)
   pub answer : r ≡ ackNumber (after .answer)
   pub image : t ≡ imageAfter (isAcked (after .answer)) s (after .node)

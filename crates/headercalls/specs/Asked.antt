@@ -6,15 +6,10 @@ use mathlib.Core.List.{List}
 use lib.ListN.{length}
 use Rattle.model.specs.Lists.{_or_}
 use Rattle.model.specs.Limits.{maxName}
-use Rattle.model.specs.Keys.{Key}
 use Rattle.header.specs.declared.Node.{Node}
 use Rattle.rpcw.specs.Written.{textFits}
 use Rattle.headerimage.specs.Image.{headerWritten}
 use Rattle.headerimage.specs.Becomes.{HeaderBecomes}
-
--- the shard that a caller names
-abbrev pub keyNamed : List ℕ → ℕ → Key
-keyNamed name shard = record { collection = name; shard = shard }
 
 -- the name is none, or the rest is not readable
 abbrev pub unreadName : List ℕ → Bool → Bool

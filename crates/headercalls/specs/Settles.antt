@@ -19,8 +19,9 @@ use Rattle.header.specs.View.{Stores, viewNode}
 use Rattle.header.specs.Formed.{lentNode}
 use Rattle.header.specs.Seats.{Keeps}
 use Rattle.header.specs.Answers.{proposalOf, SettlesNode}
+use Rattle.rpcw.specs.Written.{keyGiven}
 use Rattle.headerimage.specs.Image.{headerLent, nodeAt}
-use Rattle.headercalls.specs.Asked.{keyNamed, unreadName, Asked, imageAfter}
+use Rattle.headercalls.specs.Asked.{unreadName, Asked, imageAfter}
 use Rattle.headercalls.specs.Leaves.{LeavesSlots, Stays, StaysFormed}
 
 -- the commands' codes as in a request: 17 Shrink, 18 Expand (hexadecimal)
@@ -42,12 +43,12 @@ isSettled (O.Refused k) = false
 -- the model's outcome, on the header that the bytes are read as
 abbrev pub settled : (s name : List ℕ) → (shard epoch peer command applied : ℕ) → Stores → Result ack.OutcomeAnswer held.Node
 settled s name shard epoch peer command applied st =
-    calls.outcomeWith (lentNode st (nodeAt s)) (viewNode st (nodeAt s)) (keyNamed name shard) epoch peer (proposalOf (proposalAt command)) (eqb applied 1)
+    calls.outcomeWith (lentNode st (nodeAt s)) (viewNode st (nodeAt s)) (keyGiven name shard) epoch peer (proposalOf (proposalAt command)) (eqb applied 1)
 
 -- the image holds s before and t after
 pub record SettlesImage (s t name : List ℕ) (shard epoch peer command applied r : ℕ) : Type 0 where
   pub after : NodeSettled
-  pub call : SettlesNode (nodeAt s) (keyNamed name shard) epoch peer (proposalAt command) (eqb applied 1) after
+  pub call : SettlesNode (nodeAt s) (keyGiven name shard) epoch peer (proposalAt command) (eqb applied 1) after
   pub keeps : Keeps (nodeAt s) (after .node)
   pub answer : r ≡ outcomeNumber (after .answer)
   pub image : t ≡ imageAfter (isSettled (after .answer)) s (after .node)

@@ -22,8 +22,10 @@ use Rattle.header.specs.Answers.{WaitsNode}
 use Rattle.header.specs.View.{Stores, viewNode}
 use Rattle.header.specs.Formed.{lentNode}
 use Rattle.header.specs.Seats.{Keeps}
+use Rattle.rpcw.specs.Written.{keyGiven}
+use Rattle.asked.specs.Answer.{answerLent, numberPut}
 use Rattle.headerimage.specs.Image.{headerLent, nodeAt, headerWritten}
-use Rattle.headercalls.specs.Asked.{keyNamed, unreadName, Asked, Becomes}
+use Rattle.headercalls.specs.Asked.{unreadName, Asked, Becomes}
 use Rattle.headercalls.specs.Leaves.{LeavesSlots, Stays, StaysFormed}
 
 -- no name, or a time above 2^62
@@ -45,20 +47,16 @@ left r t q b = record { number = r; header = t; peers = q; answer = b }
 abbrev pub idBytes : DataNodeId → List ℕ
 idBytes x = bytesOf 8 (x .0)
 
--- a number beside an answer, where there is room for it
-abbrev pub answerPut : List ℕ → ℕ → List ℕ
-answerPut a v = cond (leb 8 (length a)) (sets a 0 (bytesOf 8 v)) a
-
 module _ {A : Type 0} (bytes : A → List ℕ) (w : ℕ) where
   -- room for how many rows there are, and for each
   abbrev pub rowsRoom : (rows answer : List ℕ) → List A → Bool
-  rowsRoom p a l = leb 8 (length a) and leb (w * length l) (length p)
+  rowsRoom p a l = answerLent a and leb (w * length l) (length p)
 
   -- rows of w bytes, how many they are, and the header; 23 without room, and then nothing is written
   abbrev pub rowsPut : ℕ → (header rows answer : List ℕ) → List A → Node → Left
   rowsPut said s p a l n =
       cond (rowsRoom p a l)
-      (left said (headerWritten s n) (sets p 0 (concatMap bytes l)) (sets a 0 (bytesOf 8 (length l))))
+      (left said (headerWritten s n) (sets p 0 (concatMap bytes l)) (numberPut a (length l)))
       (left 23 s p a)
 
 -- internal: what putting them there leaves
@@ -73,7 +71,7 @@ waitPut said s p a l n = rowsPut idBytes 8 said s p a l n
 abbrev pub waitSaid : WaitAnswer → (header peers answer : List ℕ) → List DataNodeId → Node → Left
 waitSaid W.Done s p a l n = waitPut 0 s p a l n
 waitSaid W.Waiting s p a l n = waitPut 1 s p a l n
-waitSaid (W.NotPrimary own) s p a l n = left 18 s p (answerPut a own)
+waitSaid (W.NotPrimary own) s p a l n = left 18 s p (numberPut a own)
 waitSaid (W.Refused k) s p a l n = left k s p a
 
 abbrev pub waitLeft : (header peers answer : List ℕ) → NodeWaited → Left
@@ -99,12 +97,12 @@ pub record WaitPut (s t p q a b : List ℕ) (x : NodeWaited) (r : ℕ) : Type 0 
 -- the model's wait, on the header that the bytes are read as
 abbrev pub waited : (s name : List ℕ) → (shard epoch offset now timeout : ℕ) → Stores → Result client.WaitAnswer held.Node
 waited s name shard epoch offset now timeout st =
-    calls.waitWith (lentNode st (nodeAt s)) (viewNode st (nodeAt s)) now timeout (keyNamed name shard) epoch offset
+    calls.waitWith (lentNode st (nodeAt s)) (viewNode st (nodeAt s)) now timeout (keyGiven name shard) epoch offset
 
 -- the header's image holds s before and t after, `peers` p and q, `answer` a and b
 pub record WaitsImage (s t p q a b name : List ℕ) (shard epoch offset now timeout r : ℕ) : Type 0 where
   pub after : NodeWaited
-  pub call : WaitsNode (nodeAt s) (keyNamed name shard) epoch offset now timeout after
+  pub call : WaitsNode (nodeAt s) (keyGiven name shard) epoch offset now timeout after
   pub keeps : Keeps (nodeAt s) (after .node)
   pub buffers : left r t q b ≡ waitLeft s p a after
   pub leaves : waitWrites p a after ≡ true → LeavesSlots s t (λ st. waited s name shard epoch offset now timeout st .after)

@@ -1,8 +1,8 @@
 // Ack over a header's image (paper 01, 'Ack', 'Who is turned down'), of a reply in bytes.
 ghost use mathlib.Core.Path.{_≡_};
 ghost use Rattle.headercalls.specs.Acks.{unreadReply, unreadAck, sentAt, Acks};
-use crate::named::named;
 use acks::bad;
+use asked::named::key_named;
 use headerimage::read_header;
 use headerimage::write_header;
 use hears::Heard;
@@ -74,7 +74,7 @@ pub fn ack(
         return 24;
     }
     let n = lent.node;
-    let key = named(name, shard);
+    let key = key_named(name, shard);
     let sent = sent_at(step);
     let a = hears::ack::ack(n, key, Epoch(epoch), DataNodeId(peer), sent, reply);
     let answer = a.answer;

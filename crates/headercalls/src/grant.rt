@@ -1,7 +1,7 @@
 // Lease grant over a header's image (paper 01, 'The node').
 ghost use Rattle.headercalls.specs.Grants.{Grants};
 use crate::after::put_after;
-use crate::named::late;
+use crate::times::late;
 use header::GrantAnswer;
 use headerimage::read_header;
 

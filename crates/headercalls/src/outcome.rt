@@ -1,7 +1,7 @@
 // Outcome of a proposal over a header's image (paper 01, 'Outcome of a proposal').
 ghost use mathlib.Core.Path.{_≡_};
 ghost use Rattle.headercalls.specs.Settles.{unreadOutcome, proposalAt, Settles};
-use crate::named::named;
+use asked::named::key_named;
 use header::Proposal;
 use headerimage::read_header;
 use headerimage::write_header;
@@ -57,7 +57,7 @@ pub fn outcome(
         return 24;
     }
     let n = lent.node;
-    let key = named(name, shard);
+    let key = key_named(name, shard);
     let what = proposal_at(command);
     let a = header::outcome::outcome(n, key, Epoch(epoch), DataNodeId(peer), what, applied == 1);
     let answer = a.answer;

@@ -5,7 +5,8 @@ ghost use lib.ListN.{length, take};
 ghost use lib.Seq.{sets};
 ghost use Rattle.model.specs.Layout.Format.{concatMap};
 ghost use Rattle.image.specs.Shape.{inUse};
-ghost use Rattle.headercalls.specs.Waits.{idBytes, answerPut, RowsPut, WaitPut};
+ghost use Rattle.headercalls.specs.Waits.{idBytes, RowsPut, WaitPut};
+use asked::answer::put_number;
 use header::Node;
 use header::NodeWaited;
 use headerimage::write_header;
@@ -28,15 +29,6 @@ fn put_ids(out: &mut [u8], ids: [DataNodeId; 32], count: usize)
     }
 }
 
-// Internal: a number beside an answer, where there is room for it.
-pub fn put_answer(out: &mut [u8], v: u64)
-    ensures { λ r. ⌜ now (out .exit) ≡ answerPut (now (out .entry)) v ⌝ }
-{
-    if 8 <= out.len() {
-        num::put8(out, 0, v);
-    }
-}
-
 // Internal: the peers, how many they are, and the header; 23 if an output is too short, and then nothing.
 fn put_shrink(
     header: &mut [u8],
@@ -50,15 +42,14 @@ fn put_shrink(
         (now (answer .entry)) (now (answer .exit)) (take (shrink .count) (shrink .items)) n r ⌝ }
 {
     let count = in_use(32, shrink.count);
-    if answer.len() < 8 {
+    if peers.len() < 8 * count {
         return 23;
     }
-    if peers.len() < 8 * count {
+    if !put_number(answer, count as u64) {
         return 23;
     }
     let ids = shrink.items;
     put_ids(peers, ids, shrink.count);
-    num::put8(answer, 0, count as u64);
     write_header(header, n);
     said
 }
@@ -75,7 +66,7 @@ pub fn put_waited(header: &mut [u8], a: NodeWaited, peers: &mut [u8], answer: &m
         WaitAnswer::Done => put_shrink(header, n, shrink, peers, answer, 0),
         WaitAnswer::Waiting => put_shrink(header, n, shrink, peers, answer, 1),
         WaitAnswer::NotPrimary(own) => {
-            put_answer(answer, own);
+            put_number(answer, own);
             18
         }
         WaitAnswer::Refused(k) => k as u32,

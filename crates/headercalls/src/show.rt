@@ -5,6 +5,7 @@ ghost use Rattle.headercalls.specs.Waits.{RowsPut};
 ghost use Rattle.headercalls.specs.Shows.{workerBytes, ShowPut, Shows};
 use crate::starts::put_starts;
 use crate::starts::rows_in;
+use asked::answer::put_number;
 use header::Node;
 use headerimage::read_header;
 use headerimage::write_header;
@@ -26,14 +27,13 @@ fn put_all(
         (now (answer .entry)) (now (answer .exit)) (viewStarts (take count rows)) n r ⌝ }
 {
     let many = rows_in(rows, count);
-    if answer.len() < 8 {
-        return 23;
-    }
     if starts.len() < 54 * many {
         return 23;
     }
+    if !put_number(answer, many as u64) {
+        return 23;
+    }
     put_starts(starts, rows, count);
-    num::put8(answer, 0, many as u64);
     write_header(header, n);
     0
 }

@@ -1,9 +1,9 @@
 // Waiting for acks over a header's image (paper 01, 'Who is turned down').
 ghost use mathlib.Core.Path.{_≡_};
 ghost use Rattle.headercalls.specs.Waits.{unreadWait, Waits};
-use crate::named::late;
-use crate::named::named;
 use crate::peers::put_waited;
+use crate::times::late;
+use asked::named::key_named;
 use headerimage::read_header;
 use model::Epoch;
 use rpcw::fit::text_fits;
@@ -41,7 +41,7 @@ pub fn wait(
         return 24;
     }
     let n = lent.node;
-    let key = named(name, shard);
+    let key = key_named(name, shard);
     let a = header::wait::wait(n, key, Epoch(epoch), offset, clock, timeout);
     put_waited(header, a, peers, answer)
 }

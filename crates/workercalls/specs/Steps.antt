@@ -13,7 +13,6 @@ use Rattle.model.specs.Node.Worker as worker
 use Rattle.model.specs.declared.Metric.{Metric}
 use Rattle.model.specs.declared.Metric.the-variants.{Euclidean, Angular}
 use Rattle.rpcw.specs.Written.{textFits, keyGiven}
-use Rattle.serve.specs.declared.Step.{Step}
 use Rattle.serve.specs.declared.Step.the-variants as step
 use Rattle.header.specs.declared.StepAnswer.{StepAnswer}
 use Rattle.header.specs.declared.StepAnswer.the-variants as stepped

@@ -26,8 +26,8 @@ put-shrink-requires-2 c κs = search needs
 enum-known-said : tie.Need-enum-known-said
 enum-known-said c = search needs
 
-put-answer-requires : tie.Need-put-answer-requires
-put-answer-requires c κs = search needs
+put-number-requires : tie.Need-put-number-requires
+put-number-requires c κs = search needs
 
 enum-known-said-2 : tie.Need-enum-known-said-2
 enum-known-said-2 c = search needs
@@ -63,10 +63,10 @@ same-length-7 : tie.Need-same-length-7
 same-length-7 c = search needs
 
 returns-3 : tie.Need-returns-3
-returns-3 c = waited-as (c .before .before .before .before .before .before .before .before .before .before .before .before .args .header .now) (c .before .before .before .before .before .before .before .before .before .before .before .before .args .peers .now) (c .before .before .before .before .before .before .before .before .before .before .before .before .args .answer .now) (c .before .before .before .before .before .before .before .before .before .before .before .before .args .a) (W.NotPrimary _) (c .before .before .before .before .before .said .given .1) (ap (λ (b : List ℕ). left 18 (c .before .before .before .before .before .before .before .before .before .before .before .before .args .header .now) (c .before .before .before .before .before .before .before .before .before .before .before .before .args .peers .now) b) (c .before .before .put-answer .ensures)) (λ d. not-both false d refl)
+returns-3 c = waited-as (c .before .before .before .before .before .before .before .before .before .before .before .before .args .header .now) (c .before .before .before .before .before .before .before .before .before .before .before .before .args .peers .now) (c .before .before .before .before .before .before .before .before .before .before .before .before .args .answer .now) (c .before .before .before .before .before .before .before .before .before .before .before .before .args .a) (W.NotPrimary _) (c .before .before .before .before .before .said .given .1) (ap (λ (b : List ℕ). left 18 (c .before .before .before .before .before .before .before .before .before .before .before .before .args .header .now) (c .before .before .before .before .before .before .before .before .before .before .before .before .args .peers .now) b) (c .before .before .put-number .ensures .1)) (λ d. not-both false d refl)
 
 returns-4 : tie.Need-returns-4
 returns-4 c = waited-as (c .before .before .before .before .before .before .before .before .args .header .now) (c .before .before .before .before .before .before .before .before .args .peers .now) (c .before .before .before .before .before .before .before .before .args .answer .now) (c .before .before .before .before .before .before .before .before .args .a) (W.Refused _) (c .before .said2 .given .1) refl (λ d. not-both false d refl)
 
 pub put-waited-spec : {M : Type 1} → statement M
-put-waited-spec = tie.close (tie.spec enum-told put-shrink-requires enum-told-2 put-shrink-requires-2 enum-known-said put-answer-requires enum-known-said-2 cast-result same-length same-length-2 same-length-3 returns same-length-4 same-length-5 same-length-6 returns-2 same-length-7 returns-3 returns-4)
+put-waited-spec = tie.close (tie.spec enum-told put-shrink-requires enum-told-2 put-shrink-requires-2 enum-known-said put-number-requires enum-known-said-2 cast-result same-length same-length-2 same-length-3 returns same-length-4 same-length-5 same-length-6 returns-2 same-length-7 returns-3 returns-4)

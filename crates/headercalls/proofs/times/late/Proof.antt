@@ -1,8 +1,8 @@
--- `named::late` meets its contract. Assumes nothing.
+-- `times::late` meets its contract. Assumes nothing.
 use borrow.Author.Tests.{lt-ltb, le-ltb}
 use Rattle.headercalls.proofs.OfAsked.{late-first, late-second}
-use Rattle.headercalls.proofs.named.late.Statement.{statement}
-use Rattle.headercalls.proofs.named.late.Tie as tie
+use Rattle.headercalls.proofs.times.late.Statement.{statement}
+use Rattle.headercalls.proofs.times.late.Tie as tie
 
 returns : tie.Need-returns
 returns c = late-first (c .before .args .a) (c .before .args .b) (lt-ltb _ _ (c .if1 .taken))
