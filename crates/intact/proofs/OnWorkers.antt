@@ -1,0 +1,72 @@
+-- The step of a worker over intact images, which it leaves: it does not answer 24. Assumes nothing.
+use Prim.Native.Nat.{ℕ}
+use mathlib.Core.Path.{_≡_, refl, sym, ap, _∙_}
+use mathlib.Core.Bool.{Bool, cond}
+use mathlib.Core.List.{List}
+use native.Mathlib.Omega.{arith}
+use lib.Dec.{eqb, leb}
+use lib.ListN.{length, getD}
+use borrow.Author.Tests.{eqb-false}
+use Rattle.model.proofs.Lists.{by-test}
+use Rattle.serve.specs.declared.Step.the-variants as step
+use Rattle.header.specs.declared.Node.{Node}
+use Rattle.header.specs.declared.StepAnswer.{StepAnswer}
+use Rattle.header.specs.declared.StepAnswer.the-variants as T
+use Rattle.header.specs.View.{viewNode}
+use Rattle.header.specs.Formed.{lentNode}
+use Rattle.header.proofs.OfLists.{by-case}
+use Rattle.outgoing.specs.declared.Request.{Request}
+use Rattle.outgoing.specs.declared.Request.the-variants as R
+use Rattle.headerimage.specs.Image.{nodeAt}
+use Rattle.lend.specs.Lend.{slotOf, lentFor}
+use Rattle.lentimage.specs.Lent.{lotIn}
+use Rattle.lentimage.specs.State.{storesIn, stateAt}
+use Rattle.lentimage.proofs.OfFamily.{lentIn, lent-changes}
+use Rattle.workercalls.specs.Steps as steps
+use Rattle.workercalls.specs.Steps.{Asking, decodes, keyOf, metricOf, formOf, sentNumber, quietNumber, Outputs, StepsImage}
+use Rattle.intact.specs.Intact.{Intact}
+use Rattle.intact.proofs.Lent.{lent-node, lends, lent-for}
+use Rattle.intact.proofs.Refused.{Fine, stepNumber, requestNumber, step-fine, request-fine}
+
+-- a step that sends is no refusal
+sent-fine : (code : ℕ) → Fine (sentNumber code)
+sent-fine code =
+    by-test Fine (eqb code 0x21) {x = 2} {y = cond (eqb code 0x20) 3 4} (λ e. refl) (λ e. by-test Fine (eqb code 0x20) {x = 3} {y = 4} (λ d. refl) (λ d. refl))
+
+quiet-fine : (x : StepAnswer) → Fine (stepNumber x) → Fine (quietNumber x)
+quiet-fine (T.Stepped step.Stop) f = refl
+quiet-fine (T.Stepped step.Wait) f = refl
+quiet-fine (T.Stepped step.Align) f = refl
+quiet-fine (T.Stepped (step.Send first count)) f = refl
+quiet-fine (T.Refused k) f = f
+
+told-fine : (x : StepAnswer) (q : Request) (out : List ℕ) → Fine (stepNumber x) → Fine (requestNumber q) → Fine (steps.stepNumber x q out)
+told-fine x R.Unsent out f g = quiet-fine x f
+told-fine x (R.Written n) out f g = sent-fine (getD out 0 0)
+told-fine x (R.Refused k) out f g = g
+
+module _ (h s : List ℕ) (i : Intact h s) (w : Asking) (o p : Outputs) (r : ℕ) where
+  abbrev n : Node
+  n = nodeAt h
+
+  pub on-step : StepsImage h s w o p r → r ≡ 24 → ⊥
+  on-step c z =
+      let k = keyOf w in
+      by-case (decodes w)
+      (λ e.
+      let a = c .asked e (lends h s i k) in
+      by-case (leb 8 (length (o .answer)))
+      (λ d.
+      let t = a .told d in
+      let x = lentIn (storesIn s) (slotOf n k) (lotIn s n k) in
+      let f : Fine (stepNumber (t .step)) =
+      ap (λ (y : StepAnswer). eqb (stepNumber y) 24) (t .steps (storesIn s))
+      ∙ step-fine (stateAt h s) (λ y. lentNode (storesIn s) n) k (lent-node h s i (storesIn s)) (w .epoch) (w .peer) in
+      let g : Fine (requestNumber (t .sent)) =
+      ap (λ (y : Request). eqb (requestNumber y) 24) (t .requests .answer x (lent-changes (storesIn s) (slotOf n k) (lotIn s n k) (lotIn s n k) .before))
+      ∙ request-fine (viewNode x n) (lentFor x n (lotIn s n k)) k (lent-for h s i x k) (w .epoch) (w .peer) (length (o .request)) (metricOf (w .metric)) (formOf (w .form)) in
+      eqb-false _ 24 (told-fine (t .step) (t .sent) (p .request) f g) (sym (t .number) ∙ z))
+      (λ d.
+      let t = a .short d .answer (storesIn s) ∙ ap (λ (b : Bool). cond b 23 24) (lent-for h s i (storesIn s) k) in
+      absurd (omega arith)))
+      (λ e. let t = c .undecoded e .answer in absurd (omega arith))
