@@ -1,3 +1,4 @@
 mod OfServes
 mod OfStates
+mod OfKinds
 mod OfMessages

@@ -1,1 +1,2 @@
 pub mod PeerCalls
+pub mod Kinds

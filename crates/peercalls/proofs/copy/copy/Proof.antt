@@ -35,8 +35,8 @@ key-of-requires : tie.Need-key-of-requires
 key-of-requires c κs =
     copy-key-there (c .before .before .before .before .before .before .before .before .before .before .before .before .args .message .now) _ (sym (c .before .before .before .before .before .before .before .decode .ensures) ∙ c .before .before .before .before .before .p .given .1)
 
-copy-at-requires : tie.Need-copy-at-requires
-copy-at-requires c κs =
+at-shard-requires : tie.Need-at-shard-requires
+at-shard-requires c κs =
     λ v d. c .before .before .before .key-of .ensures ∙ copy-key (c .before .before .before .before .before .before .before .before .before .before .before .before .before .before .before .before .args .message .now) _ (sym (c .before .before .before .before .before .before .before .before .before .before .before .decode .ensures) ∙ c .before .before .before .before .before .before .before .before .before .p .given .1) v d
 
 same-length : tie.Need-same-length
@@ -51,7 +51,7 @@ same-length-3 c = search needs
 returns-3 : tie.Need-returns-3
 returns-3 c =
     copy-inside (c .before .before .before .before .before .before .before .before .before .before .before .before .before .before .before .before .before .before .before .before .before .before .before .args .message .now) _ (sym (c .before .before .before .before .before .before .before .before .before .before .before .before .before .before .before .before .before .before .decode .ensures) ∙ c .before .before .before .before .before .before .before .before .before .before .before .before .before .before .before .before .p .given .1) _ _ (c .before .before .before .before .before .before .before .before .before .before .before .before .before .entries-in-domain .ensures) (not-false _ (c .before .before .before .before .before .before .before .before .before .before .before .before .if1 .left)) _ (c .before .before .before .before .before .before .before .before .before .before .key-of .ensures) _ _
-    (c .before .before .before .before .before .before .copy-at .ensures)
+    (c .before .before .before .before .before .before .at-shard .ensures)
 
 pub copy-spec : {M : Type 1} → statement M
 copy-spec =
@@ -63,7 +63,7 @@ copy-spec =
     entries-in-domain-requires
     returns-2
     key-of-requires
-    copy-at-requires
+    at-shard-requires
     same-length
     same-length-2
     same-length-3

@@ -25,8 +25,8 @@ key-of-requires : tie.Need-key-of-requires
 key-of-requires c κs =
     new-epoch-key-there (c .before .before .before .before .before .before .before .before .before .args .message .now) _ (sym (c .before .before .before .before .decode .ensures) ∙ c .before .before .p .given .1)
 
-new-epoch-at-requires : tie.Need-new-epoch-at-requires
-new-epoch-at-requires c κs =
+at-shard-requires : tie.Need-at-shard-requires
+at-shard-requires c κs =
     λ v d. c .before .before .before .key-of .ensures ∙ new-epoch-key (c .before .before .before .before .before .before .before .before .before .before .before .before .before .args .message .now) _ (sym (c .before .before .before .before .before .before .before .before .decode .ensures) ∙ c .before .before .before .before .before .before .p .given .1) v d
 
 same-length : tie.Need-same-length
@@ -40,7 +40,7 @@ same-length-3 c = search needs
 
 returns-2 : tie.Need-returns-2
 returns-2 c =
-    new-epoch-inside (c .before .before .before .before .before .before .before .before .before .before .before .before .before .before .before .before .before .before .before .before .args .message .now) _ (sym (c .before .before .before .before .before .before .before .before .before .before .before .before .before .before .before .decode .ensures) ∙ c .before .before .before .before .before .before .before .before .before .before .before .before .before .p .given .1) _ _ (c .before .before .before .before .before .before .before .before .before .before .key-of .ensures) _ _ (c .before .before .before .before .before .before .new-epoch-at .ensures)
+    new-epoch-inside (c .before .before .before .before .before .before .before .before .before .before .before .before .before .before .before .before .before .before .before .before .args .message .now) _ (sym (c .before .before .before .before .before .before .before .before .before .before .before .before .before .before .before .decode .ensures) ∙ c .before .before .before .before .before .before .before .before .before .before .before .before .before .p .given .1) _ _ (c .before .before .before .before .before .before .before .before .before .before .key-of .ensures) _ _ (c .before .before .before .before .before .before .at-shard .ensures)
 
 pub new-epoch-spec : {M : Type 1} → statement M
 new-epoch-spec =
@@ -50,7 +50,7 @@ new-epoch-spec =
     enum-known-p
     returns
     key-of-requires
-    new-epoch-at-requires
+    at-shard-requires
     same-length
     same-length-2
     same-length-3

@@ -35,8 +35,8 @@ key-of-requires : tie.Need-key-of-requires
 key-of-requires c κs =
     replicate-key-there (c .before .before .before .before .before .before .before .before .before .before .before .args .message .now) _ (sym (c .before .before .before .before .before .before .decode .ensures) ∙ c .before .before .before .before .p .given .1)
 
-replicate-at-requires : tie.Need-replicate-at-requires
-replicate-at-requires c κs =
+at-shard-requires : tie.Need-at-shard-requires
+at-shard-requires c κs =
     λ v d. c .before .before .before .key-of .ensures ∙ replicate-key (c .before .before .before .before .before .before .before .before .before .before .before .before .before .before .before .args .message .now) _ (sym (c .before .before .before .before .before .before .before .before .before .before .decode .ensures) ∙ c .before .before .before .before .before .before .before .before .p .given .1) v d
 
 same-length : tie.Need-same-length
@@ -51,7 +51,7 @@ same-length-3 c = search needs
 returns-3 : tie.Need-returns-3
 returns-3 c =
     replicate-inside (c .before .before .before .before .before .before .before .before .before .before .before .before .before .before .before .before .before .before .before .before .before .before .args .message .now) _ (sym (c .before .before .before .before .before .before .before .before .before .before .before .before .before .before .before .before .before .decode .ensures) ∙ c .before .before .before .before .before .before .before .before .before .before .before .before .before .before .before .p .given .1) _ _ (c .before .before .before .before .before .before .before .before .before .before .before .before .before .op-in-domain .ensures) (not-false _ (c .before .before .before .before .before .before .before .before .before .before .before .before .if1 .left)) _ (c .before .before .before .before .before .before .before .before .before .before .key-of .ensures) _ _
-    (c .before .before .before .before .before .before .replicate-at .ensures)
+    (c .before .before .before .before .before .before .at-shard .ensures)
 
 pub replicate-spec : {M : Type 1} → statement M
 replicate-spec =
@@ -63,7 +63,7 @@ replicate-spec =
     op-in-domain-requires
     returns-2
     key-of-requires
-    replicate-at-requires
+    at-shard-requires
     same-length
     same-length-2
     same-length-3
