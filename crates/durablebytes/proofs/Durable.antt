@@ -1,0 +1,107 @@
+-- Demand 3, of the entry points for C: in every run of their calls that the rules allow, from all images that are read as fresh, each
+-- acknowledged write stands in the log of every node that the map lists in sync, with its offset and its operation, and that node's vectors
+-- are its log played from the start. Assumes nothing.
+use mathlib.Core.Path.{_≡_, refl, sym, ap, subst, _∙_}
+use mathlib.Core.Bool.{true, false}
+use mathlib.Core.List.{List, [], _∷_}
+use mathlib.Core.Option.{Option, none, some}
+use Prim.Native.Nat.{ℕ}
+use Rattle.model.specs.Lists.{nth}
+use Rattle.run.specs.State.{State, Offer, Outcome, setRequests, setReplies, setOffers, setOutcomes}
+use Rattle.run.specs.Event.{
+  Event,
+  command,
+  mapShown,
+  leaseGranted,
+  clientWrites,
+  clientSearches,
+  nodeWaits,
+  workerSteps,
+  requestArrives,
+  requestLost,
+  replyArrives,
+  replyLost,
+  offerArrives,
+  offerLost,
+  offerTimesOut,
+  outcomeArrives,
+  outcomeLost,
+  outcomeTimesOut,
+}
+use Rattle.run.specs.Rules.{allowed}
+use Rattle.run.specs.Step.{step, onRequestLost, onReplyLost, onOfferLost, givenUp, onOfferTimeout, onOutcomeLost, late, onOutcomeTimeout}
+use Rattle.run.specs.Fresh.{Fresh}
+use Rattle.run.specs.Claim.{Durable}
+use Rattle.run.proofs.Demand3 as model
+use Rattle.durable.proofs.Simulated.{Simulated, nothing, one, then}
+use Rattle.durable.proofs.Seen.{Beside}
+use Rattle.durable.proofs.OnMap.{told-beside}
+use Rattle.durablebytes.specs.Dome.{Dome, seen, InMemory, host}
+use Rattle.durablebytes.specs.Calls.{Called, Calls}
+use Rattle.durablebytes.proofs.Seen.{hosted}
+use Rattle.durablebytes.proofs.OnMap.{on-command, on-offer}
+use Rattle.durablebytes.proofs.OnHeader.{on-shown, on-grant, on-reply, on-outcome}
+use Rattle.durablebytes.proofs.OnWait.{on-wait}
+use Rattle.durablebytes.proofs.OnArrivals.{on-arrival}
+use Rattle.durablebytes.proofs.OnClients.{on-write, on-search}
+use Rattle.durablebytes.proofs.OnWorkers.{on-work}
+
+-- ---- what is no call
+
+timeout-beside : (s : State) (i : ℕ) (o : Option Offer) → Beside s (givenUp s i o)
+unfolding givenUp setOffers
+timeout-beside s i none = record { map = refl; nodes = refl; clients = refl }
+timeout-beside s i (some o) = let b = told-beside s o false in record { map = b .map; nodes = b .nodes; clients = b .clients }
+
+late-beside : (s : State) (i : ℕ) (o : Option Outcome) → Beside s (late s i o)
+unfolding late setOutcomes
+late-beside s i none = record { map = refl; nodes = refl; clients = refl }
+late-beside s i (some o) = record { map = refl; nodes = refl; clients = refl }
+
+module _ (d f : Dome) where
+  -- an event that is the host's alone
+  alone : (v : Event) (deed : State → State) → allowed (seen d) v ≡ true → step (seen d) v ≡ deed (seen d) → Beside (seen d) (deed (seen d))
+      → f ≡ host d deed → Simulated (seen d) (seen f)
+  alone v deed may does b q = one (seen d) (seen f) v may (does ∙ sym (ap seen q ∙ hosted d deed b))
+
+  -- every event of the dome is a run of `run`: the same event, or, where a call was refused, one that does without it
+  pub simulated : InMemory d → (v : Event) → allowed (seen d) v ≡ true → Called d v f → Simulated (seen d) (seen f)
+  unfolding step Called onRequestLost onReplyLost onOfferLost onOutcomeLost onOfferTimeout onOutcomeTimeout setRequests setReplies setOffers setOutcomes
+  simulated mem (command m) may c = on-command d f m may c
+  simulated mem (mapShown n fresh) may c = on-shown d f n fresh may c
+  simulated mem (leaseGranted n i sent lease) may c = on-grant d f n i sent lease may c
+  simulated mem (clientWrites n now least m) may c = on-write d f mem n now least m may c
+  simulated mem (clientSearches n now space m) may c = on-search d f n now space m c
+  simulated mem (nodeWaits i now timeout) may c = on-wait d f mem i now timeout may c
+  simulated mem (workerSteps n k epoch peer metric space) may c = on-work d f mem n k epoch peer metric space may c
+  simulated mem (requestArrives from to i) may c = on-arrival d f mem from to i may c
+  simulated mem (requestLost from to i) may c =
+      alone (requestLost from to i) (λ s. onRequestLost s from to i) may refl (record { map = refl; nodes = refl; clients = refl }) c
+  simulated mem (replyArrives i) may c = on-reply d f i may c
+  simulated mem (replyLost i) may c =
+      alone (replyLost i) (λ s. onReplyLost s i) may refl (record { map = refl; nodes = refl; clients = refl }) c
+  simulated mem (offerArrives i index seq) may c = on-offer d f i index seq may c
+  simulated mem (offerLost i) may c =
+      alone (offerLost i) (λ s. onOfferLost s i) may refl (record { map = refl; nodes = refl; clients = refl }) c
+  simulated mem (offerTimesOut i) may c =
+      alone (offerTimesOut i) (λ s. onOfferTimeout s i) may refl (timeout-beside (seen d) i (nth (seen d .offers) i)) c
+  simulated mem (outcomeArrives i) may c = on-outcome d f i may c
+  simulated mem (outcomeLost i) may c =
+      alone (outcomeLost i) (λ s. onOutcomeLost s i) may refl (record { map = refl; nodes = refl; clients = refl }) c
+  simulated mem (outcomeTimesOut i) may c =
+      alone (outcomeTimesOut i) (λ s. onOutcomeTimeout s i) may refl (late-beside (seen d) i (nth (seen d .outcomes) i)) c
+
+-- ---- the run
+
+pub runs : (d f : Dome) (vs : List Event) → Calls d vs f → Simulated (seen d) (seen f)
+unfolding Calls
+runs d f [] c = nothing (seen d) (seen f) (sym (ap seen c))
+runs d f (v ∷ vs) c =
+    let g = c .0 in
+    then (seen d) (seen g) (seen f) (simulated d g (c .1) v (c .2) (c .3)) (runs g f vs (c .4))
+
+-- demand 3
+pub durable : (d f : Dome) (vs : List Event) → Fresh (seen d) → Calls d vs f → Durable (seen f)
+durable d f vs fresh c =
+    let r = runs d f vs c in
+    subst Durable (r .ends) (model.durable (seen d) fresh (r .events) (r .may))

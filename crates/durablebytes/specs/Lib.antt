@@ -1,0 +1,3 @@
+pub mod Dome
+pub mod Calls
+pub mod Start
