@@ -1,9 +1,10 @@
 -- A client's Write and Search on a node's images are runs of `run`. Assumes nothing.
 use Prim.Native.Nat.{ℕ}
 use mathlib.Core.Path.{_≡_, refl, sym, ap, _∙_}
-use mathlib.Core.Bool.{Bool, true, cond}
+use mathlib.Core.Bool.{true, false}
 use mathlib.Core.List.{List}
 use mathlib.Core.Option.{Option, none, some}
+use lib.Dec.{eqb}
 use Rattle.model.specs.Refusals.{Refusal, malformed}
 use Rattle.model.specs.Layout.Message as message
 use Rattle.model.specs.Node.Held as held
@@ -31,6 +32,13 @@ write-beside s n none none = record { map = refl; nodes = refl; clients = refl }
 write-beside s n none (some o) = record { map = refl; nodes = refl; clients = refl }
 write-beside s n (some m) none = record { map = refl; nodes = refl; clients = refl }
 write-beside s n (some m) (some o) = record { map = refl; nodes = refl; clients = refl }
+
+module _ (s : State) (n : ℕ) (m : Option message.Write) (r : ℕ) (answer : List ℕ) where
+  not-recorded : eqb r 0 ≡ false → writeSaid s n m (offsetIn r answer) ≡ s
+  not-recorded e = rw e
+
+  is-recorded : (o : ℕ) → r ≡ 0 → beside answer ≡ o → writeSaid s n m (offsetIn r answer) ≡ recordWrite s n m (client.accepted o)
+  is-recorded o e f = ap (λ (i : ℕ). writeSaid s n m (offsetIn i answer)) e ∙ ap (λ (i : ℕ). recordWrite s n m (client.accepted i)) f
 
 refused-keeps : (s : State) (n : ℕ) (m : Option message.Write) (r : Refusal) → recordWrite s n m (client.writeRefused r) ≡ s
 unfolding recordWrite
@@ -68,14 +76,13 @@ module _ (d f : Dome) (mem : InMemory d) (n now least : ℕ) (m : List ℕ) (may
     wrote (refused z header stores) =
         turned-away client.writeRefused (seen d) n y (λ a x. recordWrite x n read a) (clientWrites n now least m) may refl without (seen f) malformed
         (to-end
-        ∙ ap (λ (b : Bool). writeSaid (left (stateAt (c .0) (c .1))) n read (cond b (some (beside (c .3))) none)) z
+        ∙ not-recorded (left (stateAt (c .0) (c .1))) n read (c .6) (c .3) z
         ∙ ap (λ (l : List ℕ). left (stateAt l (c .1))) header ∙ ap (λ (l : List ℕ). left (stateAt h l)) stores
         ∙ sym (refused-keeps (left (stateAt h s)) n read malformed))
     wrote (taken x way o is after offset z) =
         called client.writeRefused (seen d) n y (λ a x. recordWrite x n read a) (clientWrites n now least m) may refl without (seen f) x way
         (to-end
-        ∙ ap (λ (i : ℕ). writeSaid (left (stateAt (c .0) (c .1))) n read (offsetIn i (c .3))) z
-        ∙ ap (λ (i : ℕ). recordWrite (left (stateAt (c .0) (c .1))) n read (client.accepted i)) offset
+        ∙ is-recorded (left (stateAt (c .0) (c .1))) n read (c .6) (c .3) o z offset
         ∙ ap (λ (u : held.Node). recordWrite (left u) n read (client.accepted o)) after
         ∙ ap (recordWrite (left (x .after)) n read) (sym is))
 
