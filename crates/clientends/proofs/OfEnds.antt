@@ -29,10 +29,10 @@ module _ (h s a : List ℕ) (n : Node) (at : ℕ) (l : Lot) (w : WriteAnswer) wh
   as-told : (x : WriteReply) → w .answer ≡ x → (e : WriteEnded) → e ≡ endedAs b h₁ s₁ x → e ≡ writeEnded b n at l w
   as-told x q e f = f ∙ ap (endedAs b h₁ s₁) (sym q)
 
-  pub told-short : (o : ℕ) → w .answer ≡ R.Accepted (record { 0 = o }) → answerLent a ≡ false → (a′ : List ℕ) → a′ ≡ numberPut a o
+  pub told-short : (o : ℕ) → w .answer ≡ R.Accepted (record { 0 = o }) → answerLent a ≡ false → (x : ℕ) (a′ : List ℕ) → a′ ≡ numberPut a x
       → ended 23 (buffers h s a′) ≡ writeEnded b n at l w
-  told-short o q e a′ f = as-told (R.Accepted (record { 0 = o })) q _
-      (ap (λ (x : List ℕ). ended 23 (buffers h s x)) (f ∙ number-unput a o e) ∙ (rw e refl))
+  told-short o q e x a′ f = as-told (R.Accepted (record { 0 = o })) q _
+      (ap (λ (y : List ℕ). ended 23 (buffers h s y)) (f ∙ number-unput a x e) ∙ (rw e refl))
 
   pub told-accepted : (o : ℕ) → w .answer ≡ R.Accepted (record { 0 = o }) → answerLent a ≡ true → (h′ s′ a′ : List ℕ)
       → Puts h h′ s s′ n (w .node) l at → a′ ≡ numberPut a o → ended 0 (buffers h′ s′ a′) ≡ writeEnded b n at l w

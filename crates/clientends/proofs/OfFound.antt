@@ -21,8 +21,8 @@ use Rattle.clientends.specs.Hits.{hitsBytes}
 use Rattle.clientends.specs.Found.{SearchEnded, ended, foundIn, searchEnded, freshHits, hitsLent, SearchServed}
 
 module _ (o a : List ℕ) (p : Output) (n : ℕ) where
-  pub found-short : answerLent a ≡ false → (a′ : List ℕ) → a′ ≡ numberPut a n → ended 23 o a′ ≡ foundIn o a p n
-  found-short e a′ f = ap (ended 23 o) (f ∙ number-unput a n e) ∙ (rw e refl)
+  pub found-short : answerLent a ≡ false → (x : ℕ) (a′ : List ℕ) → a′ ≡ numberPut a x → ended 23 o a′ ≡ foundIn o a p n
+  found-short e x a′ f = ap (ended 23 o) (f ∙ number-unput a x e) ∙ (rw e refl)
 
   pub found-put : answerLent a ≡ true → (o′ a′ : List ℕ) → o′ ≡ sets o 0 (hitsBytes (p .ids) (p .distances) n) → a′ ≡ numberPut a n
       → ended 0 o′ a′ ≡ foundIn o a p n

@@ -18,7 +18,7 @@ returns c =
     let p = c .before .before .before .put-number in
     let a = c .before .before .before .before .before .before .before .before .before .args in
     found-short (a .hits .now) (a .answer .now) (output (a .ids .now) (a .distances .now)) (a .n)
-    (sym (p .ensures .0) ∙ not-true _ (c .if1 .taken)) _ (p .ensures .1)
+    (sym (p .ensures .0) ∙ not-true _ (c .if1 .taken)) _ _ (p .ensures .1)
 
 put-hits-requires : tie.Need-put-hits-requires
 put-hits-requires c κs = search needs

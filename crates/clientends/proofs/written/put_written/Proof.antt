@@ -22,7 +22,7 @@ returns c =
     let p = c .before .before .before .put-number in
     let a = c .before .before .before .before .before .before .before .before .before .before .before .before .before .before .before .before .before .before .before .args in
     record {
-      is = told-short (a .header .now) (a .stores .now) (a .answer .now) (a .n) (a .at) (lot (a .epochs .now) (a .offsets .now) (a .ids .now) (a .codes .now) (a .lengths .now) (a .floats .now) (a .keys .now) (a .places .now)) (a .told) _ (c .before .before .before .before .before .before .reply .given .1) (sym (p .ensures .0) ∙ not-true _ (c .if1 .taken)) _ (p .ensures .1);
+      is = told-short (a .header .now) (a .stores .now) (a .answer .now) (a .n) (a .at) (lot (a .epochs .now) (a .offsets .now) (a .ids .now) (a .codes .now) (a .lengths .now) (a .floats .now) (a .keys .now) (a .places .now)) (a .told) _ (c .before .before .before .before .before .before .reply .given .1) (sym (p .ensures .0) ∙ not-true _ (c .if1 .taken)) _ _ (p .ensures .1);
       puts = λ f z. absurd (omega arith);
     }
 
