@@ -8,7 +8,9 @@
  * A call answers a number. CATALOGUE_DONE is 0; other answers are listed at the call, and a refusal is its number
  * (CATALOGUE_UNDECODABLE and so on). A refused call leaves every byte of every buffer as it was, two apart: `answer`
  * gets the own epoch beside 18, and the count of refused client calls rises, which only catalogue_write and
- * catalogue_search do. No bytes, numbers or clock readings make a call fault or run on without end.
+ * catalogue_search do. No bytes, numbers or clock readings make a call fault or run on without end. Images that only
+ * these calls have written are never called malformed, and a host that keeps the rules which examples/dome.c points
+ * out never loses an acknowledged edit. All of this is proved (docs/CLAIMS.md).
  *
  * What a host owes:
  *   - each pointer is valid for as many bytes as the length behind it says (never NULL, even with length 0), and no two
