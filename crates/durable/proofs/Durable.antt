@@ -45,12 +45,12 @@ use Rattle.durable.proofs.OnWorkers.{on-work}
 
 -- ---- what is no call
 
-given-beside : (s : State) (i : ℕ) (o : Option Offer) → Beside s (givenUp s i o)
+pub given-beside : (s : State) (i : ℕ) (o : Option Offer) → Beside s (givenUp s i o)
 unfolding givenUp setOffers
 given-beside s i none = record { map = refl; nodes = refl; clients = refl }
 given-beside s i (some o) = let b = told-beside s o false in record { map = b .map; nodes = b .nodes; clients = b .clients }
 
-late-beside : (s : State) (i : ℕ) (o : Option Outcome) → Beside s (late s i o)
+pub late-beside : (s : State) (i : ℕ) (o : Option Outcome) → Beside s (late s i o)
 unfolding late setOutcomes
 late-beside s i none = record { map = refl; nodes = refl; clients = refl }
 late-beside s i (some o) = record { map = refl; nodes = refl; clients = refl }

@@ -40,7 +40,8 @@ pub seen-map : (e : Engine) (m : ShardMap) → seen (withMap e m) ≡ setMap (se
 unfolding seen withMap setMap
 seen-map e m = refl
 
-abbrev nodesAs : State → (ℕ → held.Node) → State
+-- a state with other nodes
+abbrev pub nodesAs : State → (ℕ → held.Node) → State
 nodesAs s f = record {
   map = s .map;
   nodes = f;

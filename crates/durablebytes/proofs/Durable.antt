@@ -2,12 +2,11 @@
 -- acknowledged write stands in the log of every node that the map lists in sync, with its offset and its operation, and that node's vectors
 -- are its log played from the start. Assumes nothing.
 use mathlib.Core.Path.{_≡_, refl, sym, ap, subst, _∙_}
-use mathlib.Core.Bool.{true, false}
+use mathlib.Core.Bool.{true}
 use mathlib.Core.List.{List, [], _∷_}
-use mathlib.Core.Option.{Option, none, some}
 use Prim.Native.Nat.{ℕ}
 use Rattle.model.specs.Lists.{nth}
-use Rattle.run.specs.State.{State, Offer, Outcome, setRequests, setReplies, setOffers, setOutcomes}
+use Rattle.run.specs.State.{State, setRequests, setReplies, setOffers, setOutcomes}
 use Rattle.run.specs.Event.{
   Event,
   command,
@@ -29,13 +28,13 @@ use Rattle.run.specs.Event.{
   outcomeTimesOut,
 }
 use Rattle.run.specs.Rules.{allowed}
-use Rattle.run.specs.Step.{step, onRequestLost, onReplyLost, onOfferLost, givenUp, onOfferTimeout, onOutcomeLost, late, onOutcomeTimeout}
+use Rattle.run.specs.Step.{step, onRequestLost, onReplyLost, onOfferLost, onOfferTimeout, onOutcomeLost, onOutcomeTimeout}
 use Rattle.run.specs.Fresh.{Fresh}
 use Rattle.run.specs.Claim.{Durable}
 use Rattle.run.proofs.Demand3 as model
 use Rattle.durable.proofs.Simulated.{Simulated, nothing, one, then}
 use Rattle.durable.proofs.Seen.{Beside}
-use Rattle.durable.proofs.OnMap.{told-beside}
+use Rattle.durable.proofs.Durable.{given-beside, late-beside}
 use Rattle.durablebytes.specs.Dome.{Dome, seen, InMemory, host}
 use Rattle.durablebytes.specs.Calls.{Called, Calls}
 use Rattle.durablebytes.proofs.Seen.{hosted}
@@ -45,18 +44,6 @@ use Rattle.durablebytes.proofs.OnWait.{on-wait}
 use Rattle.durablebytes.proofs.OnArrivals.{on-arrival}
 use Rattle.durablebytes.proofs.OnClients.{on-write, on-search}
 use Rattle.durablebytes.proofs.OnWorkers.{on-work}
-
--- ---- what is no call
-
-timeout-beside : (s : State) (i : ℕ) (o : Option Offer) → Beside s (givenUp s i o)
-unfolding givenUp setOffers
-timeout-beside s i none = record { map = refl; nodes = refl; clients = refl }
-timeout-beside s i (some o) = let b = told-beside s o false in record { map = b .map; nodes = b .nodes; clients = b .clients }
-
-late-beside : (s : State) (i : ℕ) (o : Option Outcome) → Beside s (late s i o)
-unfolding late setOutcomes
-late-beside s i none = record { map = refl; nodes = refl; clients = refl }
-late-beside s i (some o) = record { map = refl; nodes = refl; clients = refl }
 
 module _ (d f : Dome) where
   -- an event that is the host's alone
@@ -84,7 +71,7 @@ module _ (d f : Dome) where
   simulated mem (offerLost i) may c =
       alone (offerLost i) (λ s. onOfferLost s i) may refl (record { map = refl; nodes = refl; clients = refl }) c
   simulated mem (offerTimesOut i) may c =
-      alone (offerTimesOut i) (λ s. onOfferTimeout s i) may refl (timeout-beside (seen d) i (nth (seen d .offers) i)) c
+      alone (offerTimesOut i) (λ s. onOfferTimeout s i) may refl (given-beside (seen d) i (nth (seen d .offers) i)) c
   simulated mem (outcomeArrives i) may c = on-outcome d f i may c
   simulated mem (outcomeLost i) may c =
       alone (outcomeLost i) (λ s. onOutcomeLost s i) may refl (record { map = refl; nodes = refl; clients = refl }) c

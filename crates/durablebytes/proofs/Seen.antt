@@ -4,13 +4,12 @@ use mathlib.Core.Path.{_≡_, refl, sym, ap, fun-ext, _∙_}
 use mathlib.Core.List.{List}
 use lib.Dec.{eqb}
 use borrow.Author.Tests.{eqb-true}
-use Rattle.model.specs.Node.Held as held
 use Rattle.run.specs.State.{State, at, setMap, setNode}
 use Rattle.state.specs.View.{viewMap}
 use Rattle.header.proofs.OfLists.{by-case}
 use Rattle.mapimage.specs.Image.{mapAt}
 use Rattle.lentimage.specs.State.{stateAt}
-use Rattle.durable.proofs.Seen.{Beside}
+use Rattle.durable.proofs.Seen.{Beside, nodesAs}
 use Rattle.durablebytes.specs.Dome.{Dome, seen, withMap, withHeader, withNode, host}
 
 -- ---- what a call left
@@ -18,19 +17,6 @@ use Rattle.durablebytes.specs.Dome.{Dome, seen, withMap, withHeader, wit
 pub seen-map : (d : Dome) (m : List ℕ) → seen (withMap d m) ≡ setMap (seen d) (viewMap (mapAt m))
 unfolding seen withMap setMap
 seen-map d m = refl
-
-abbrev nodesAs : State → (ℕ → held.Node) → State
-nodesAs s f = record {
-  map = s .map;
-  nodes = f;
-  clients = s .clients;
-  requests = s .requests;
-  replies = s .replies;
-  offers = s .offers;
-  outcomes = s .outcomes;
-  accepted = s .accepted;
-  acknowledged = s .acknowledged;
-}
 
 pub seen-node : (d : Dome) (n : ℕ) (h s : List ℕ) → seen (withNode d n h s) ≡ setNode (seen d) n (stateAt h s)
 unfolding seen withNode setNode at
