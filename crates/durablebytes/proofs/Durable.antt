@@ -35,7 +35,7 @@ use Rattle.run.proofs.Demand3 as model
 use Rattle.durable.proofs.Simulated.{Simulated, nothing, one, then}
 use Rattle.durable.proofs.Seen.{Beside}
 use Rattle.durable.proofs.Durable.{given-beside, late-beside}
-use Rattle.durablebytes.specs.Dome.{Dome, seen, InMemory, host}
+use Rattle.durablebytes.specs.Cluster.{Cluster, seen, InMemory, host}
 use Rattle.durablebytes.specs.Calls.{Called, Calls}
 use Rattle.durablebytes.proofs.Seen.{hosted}
 use Rattle.durablebytes.proofs.OnMap.{on-command, on-offer}
@@ -45,13 +45,13 @@ use Rattle.durablebytes.proofs.OnArrivals.{on-arrival}
 use Rattle.durablebytes.proofs.OnClients.{on-write, on-search}
 use Rattle.durablebytes.proofs.OnWorkers.{on-work}
 
-module _ (d f : Dome) where
+module _ (d f : Cluster) where
   -- an event that is the host's alone
   alone : (v : Event) (deed : State → State) → allowed (seen d) v ≡ true → step (seen d) v ≡ deed (seen d) → Beside (seen d) (deed (seen d))
       → f ≡ host d deed → Simulated (seen d) (seen f)
   alone v deed may does b q = one (seen d) (seen f) v may (does ∙ sym (ap seen q ∙ hosted d deed b))
 
-  -- every event of the dome is a run of `run`: the same event, or, where a call was refused, one that does without it
+  -- every event of the cluster is a run of `run`: the same event, or, where a call was refused, one that does without it
   pub simulated : InMemory d → (v : Event) → allowed (seen d) v ≡ true → Called d v f → Simulated (seen d) (seen f)
   unfolding step Called onRequestLost onReplyLost onOfferLost onOutcomeLost onOfferTimeout onOutcomeTimeout setRequests setReplies setOffers setOutcomes
   simulated mem (command m) may c = on-command d f m may c
@@ -80,7 +80,7 @@ module _ (d f : Dome) where
 
 -- ---- the run
 
-pub runs : (d f : Dome) (vs : List Event) → Calls d vs f → Simulated (seen d) (seen f)
+pub runs : (d f : Cluster) (vs : List Event) → Calls d vs f → Simulated (seen d) (seen f)
 unfolding Calls
 runs d f [] c = nothing (seen d) (seen f) (sym (ap seen c))
 runs d f (v ∷ vs) c =
@@ -88,7 +88,7 @@ runs d f (v ∷ vs) c =
     then (seen d) (seen g) (seen f) (simulated d g (c .1) v (c .2) (c .3)) (runs g f vs (c .4))
 
 -- demand 3
-pub durable : (d f : Dome) (vs : List Event) → Fresh (seen d) → Calls d vs f → Durable (seen f)
+pub durable : (d f : Cluster) (vs : List Event) → Fresh (seen d) → Calls d vs f → Durable (seen f)
 durable d f vs fresh c =
     let r = runs d f vs c in
     subst Durable (r .ends) (model.durable (seen d) fresh (r .events) (r .may))

@@ -42,7 +42,7 @@ use Rattle.peercalls.specs.PeerCalls.{replicates, announces, copies}
 use Rattle.durable.proofs.Simulated.{Simulated, nothing, one}
 use Rattle.durable.proofs.Seen.{Beside}
 use Rattle.durable.proofs.Tested.{replicate-as, new-epoch-as, copy-as}
-use Rattle.durablebytes.specs.Dome.{Dome, seen, InMemory}
+use Rattle.durablebytes.specs.Cluster.{Cluster, seen, InMemory}
 use Rattle.durablebytes.specs.Calls.{replying, answered, Hears, Arrives, Called}
 use Rattle.durablebytes.proofs.Arrived.{Way, refused, sent, way}
 use Rattle.durablebytes.proofs.Seen.{left-node}
@@ -83,7 +83,7 @@ module _ (s : State) (from to : ℕ) (m : Request) where
       ap (λ (i : ℕ). answered s from to m i reply) e
       ∙ ap (replying s from to m) b
 
-module _ (d f : Dome) (mem : InMemory d) (from to i : ℕ) (may : allowed (seen d) (requestArrives from to i) ≡ true) where
+module _ (d f : Cluster) (mem : InMemory d) (from to i : ℕ) (may : allowed (seen d) (requestArrives from to i) ≡ true) where
   abbrev gone : State → State
   gone x = setRequests x from to (removed (x .requests from to) i)
 

@@ -18,7 +18,7 @@ use Rattle.run.specs.Step.{recordWrite, onWrite, step}
 use Rattle.lentimage.specs.State.{stateAt}
 use Rattle.durable.proofs.Simulated.{Simulated, nothing}
 use Rattle.durable.proofs.Seen.{Beside}
-use Rattle.durablebytes.specs.Dome.{Dome, seen, InMemory}
+use Rattle.durablebytes.specs.Cluster.{Cluster, seen, InMemory}
 use Rattle.durablebytes.specs.Calls.{beside, offsetIn, writeSaid, Writes, Called}
 use Rattle.durablebytes.proofs.Seen.{left-node}
 use Rattle.durablebytes.proofs.Ways.{called, turned-away}
@@ -47,7 +47,7 @@ refused-keeps s n (some m) r = refl
 
 -- ---- Write
 
-module _ (d f : Dome) (mem : InMemory d) (n now least : ℕ) (m : List ℕ) (may : allowed (seen d) (clientWrites n now least m) ≡ true) (c : Writes d n now least m f)
+module _ (d f : Cluster) (mem : InMemory d) (n now least : ℕ) (m : List ℕ) (may : allowed (seen d) (clientWrites n now least m) ≡ true) (c : Writes d n now least m f)
   where
     abbrev h : List ℕ
     h = d .headers n
@@ -91,6 +91,6 @@ module _ (d f : Dome) (mem : InMemory d) (n now least : ℕ) (m : List ℕ) (may
 
 -- ---- Search: it changes nothing
 
-pub on-search : (d f : Dome) (n now space : ℕ) (m : List ℕ) → Called d (clientSearches n now space m) f → Simulated (seen d) (seen f)
+pub on-search : (d f : Cluster) (n now space : ℕ) (m : List ℕ) → Called d (clientSearches n now space m) f → Simulated (seen d) (seen f)
 unfolding Called
 on-search d f n now space m c = nothing (seen d) (seen f) (sym (ap seen (c .8)))

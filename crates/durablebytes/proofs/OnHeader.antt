@@ -39,7 +39,7 @@ use Rattle.headercalls.specs.Settles.{proposalAt, unreadOutcome, isSettled, Set
 use Rattle.durable.proofs.Simulated.{Simulated, nothing, one}
 use Rattle.durable.proofs.Seen.{Beside}
 use Rattle.durable.proofs.Tested.{grant-as, outcome-as, ack-as, shown-as}
-use Rattle.durablebytes.specs.Dome.{Dome, seen}
+use Rattle.durablebytes.specs.Cluster.{Cluster, seen}
 use Rattle.durablebytes.specs.Calls.{sentCode, ackSaid, Acks, proposalCode, appliedCode, Settles, Called}
 use Rattle.durablebytes.proofs.Asked.{asked}
 use Rattle.durablebytes.proofs.Numbers.{refusal-number}
@@ -55,7 +55,7 @@ unfolding _and_
 unwritten S.Shown s p a l n e = rw e
 unwritten (S.Refused k) s p a l n e = refl
 
-module _ (d f : Dome) where
+module _ (d f : Cluster) where
   pub on-shown : (n fresh : ℕ) → allowed (seen d) (mapShown n fresh) ≡ true → Called d (mapShown n fresh) f → Simulated (seen d) (seen f)
   unfolding Called step onShown seen
   on-shown n fresh may c =
@@ -119,7 +119,7 @@ sent-code ack.sentAlign = refl
 sent-code ack.sentReplicate = refl
 sent-code ack.sentCopy = refl
 
-module _ (d f : Dome) (i : ℕ) (may : allowed (seen d) (replyArrives i) ≡ true) where
+module _ (d f : Cluster) (i : ℕ) (may : allowed (seen d) (replyArrives i) ≡ true) where
   abbrev gone : State → State
   gone s = setReplies s (removed (s .replies) i)
 
@@ -175,7 +175,7 @@ applied-code : (b : Bool) → eqb (appliedCode b) 1 ≡ b
 applied-code true = refl
 applied-code false = refl
 
-module _ (d f : Dome) (i : ℕ) (may : allowed (seen d) (outcomeArrives i) ≡ true) where
+module _ (d f : Cluster) (i : ℕ) (may : allowed (seen d) (outcomeArrives i) ≡ true) where
   abbrev heard : State → State
   heard s = setOutcomes s (removed (s .outcomes) i)
 

@@ -49,7 +49,7 @@ use Rattle.mapcalls.specs.Calls.{AppliesTo, AppliesImage}
 use Rattle.durable.proofs.Simulated.{Simulated, nothing, one}
 use Rattle.durable.proofs.Lent.{map-well}
 use Rattle.durable.proofs.OnMap.{told-beside, not-applied}
-use Rattle.durablebytes.specs.Dome.{Dome, seen, withMap}
+use Rattle.durablebytes.specs.Cluster.{Cluster, seen, withMap}
 use Rattle.durablebytes.specs.Calls.{Offers, Called}
 use Rattle.durablebytes.proofs.Numbers.{refusal-number}
 use Rattle.durablebytes.proofs.Seen.{seen-map, hosted}
@@ -126,11 +126,11 @@ module _ (s t bytes : List ℕ) (r : ℕ) where
 
 -- ---- a command
 
-same-map : (d : Dome) → setMap (seen d) (viewMap (mapAt (d .map))) ≡ seen d
+same-map : (d : Cluster) → setMap (seen d) (viewMap (mapAt (d .map))) ≡ seen d
 unfolding seen setMap
 same-map d = refl
 
-module _ (d f : Dome) where
+module _ (d f : Cluster) where
   pub on-command : (bytes : List ℕ) → allowed (seen d) (command bytes) ≡ true → Called d (command bytes) f → Simulated (seen d) (seen f)
   unfolding Called step onCommand seen
   on-command bytes may c = go (way (d .map) (c .0) bytes (c .1) (c .2))
@@ -144,7 +144,7 @@ module _ (d f : Dome) where
 
 -- ---- a proposal
 
-module _ (d f : Dome) (i index seq : ℕ) (may : allowed (seen d) (offerArrives i index seq) ≡ true) where
+module _ (d f : Cluster) (i index seq : ℕ) (may : allowed (seen d) (offerArrives i index seq) ≡ true) where
   abbrev s : State
   s = seen d
 

@@ -34,7 +34,7 @@ use Rattle.durable.proofs.Simulated.{Simulated, nothing}
 use Rattle.durable.proofs.Seen.{Beside}
 use Rattle.durable.proofs.Tested.{wait-as}
 use Rattle.asked.specs.Answer.{numberPut}
-use Rattle.durablebytes.specs.Dome.{Dome, seen, InMemory}
+use Rattle.durablebytes.specs.Cluster.{Cluster, seen, InMemory}
 use Rattle.durablebytes.specs.Calls.{named, waitSaid, Waits, Called}
 use Rattle.durablebytes.proofs.Asked.{asked}
 use Rattle.durablebytes.proofs.Named.{Answer, Ids, wait-ids, named-back}
@@ -111,7 +111,7 @@ module _ (s : State) (w : Write) where
 
 -- ---- the wait
 
-module _ (d f : Dome) (mem : InMemory d) (i now timeout : ℕ) (may : allowed (seen d) (nodeWaits i now timeout) ≡ true) where
+module _ (d f : Cluster) (mem : InMemory d) (i now timeout : ℕ) (may : allowed (seen d) (nodeWaits i now timeout) ≡ true) where
   waits : (w : Write) → nth (seen d .accepted) i ≡ some w → Waits d now timeout (some w) f → Simulated (seen d) (seen f)
   unfolding step onWait waitFor waited seen
   waits w found c =

@@ -39,7 +39,7 @@ use Rattle.outgoing.specs.Requested.{answerOf, leftOf}
 use Rattle.workercalls.specs.Steps.{Asking, asking, decodes, metricOf, sentNumber, quietNumber, stepNumber, answerLeft, outputs, Tells}
 use Rattle.durable.proofs.Simulated.{Simulated, nothing, one}
 use Rattle.durable.proofs.Seen.{Beside}
-use Rattle.durablebytes.specs.Dome.{Dome, seen, InMemory}
+use Rattle.durablebytes.specs.Cluster.{Cluster, seen, InMemory}
 use Rattle.durablebytes.specs.Calls.{beside, sentBy, posted, Asks}
 use Rattle.durablebytes.proofs.Entry.{columns, test, before, lends-before, same-test, entry, state-well}
 use Rattle.durablebytes.proofs.Numbers.{refusal-number}
@@ -119,7 +119,7 @@ metric-code : (m : Metric) → metricOf (metricCode m) ≡ m
 metric-code Euclidean = refl
 metric-code Angular = refl
 
-module _ (d f : Dome) (mem : InMemory d) (n : ℕ) (k : Key) (epoch peer : ℕ) (metric : Metric) (space : ℕ)
+module _ (d f : Cluster) (mem : InMemory d) (n : ℕ) (k : Key) (epoch peer : ℕ) (metric : Metric) (space : ℕ)
     (may : allowed (seen d) (workerSteps n k epoch peer metric space) ≡ true) (c : Asks d n k epoch peer metric space f) where
   abbrev h : List ℕ
   h = d .headers n

@@ -1,4 +1,4 @@
--- How a dome is read after a call left other bytes of the map, a header or a node's stores, and after the host's own deeds. Assumes nothing.
+-- How a cluster is read after a call left other bytes of the map, a header or a node's stores, and after the host's own deeds. Assumes nothing.
 use Prim.Native.Nat.{ℕ}
 use mathlib.Core.Path.{_≡_, refl, sym, ap, fun-ext, _∙_}
 use mathlib.Core.List.{List}
@@ -10,19 +10,19 @@ use Rattle.header.proofs.OfLists.{by-case}
 use Rattle.mapimage.specs.Image.{mapAt}
 use Rattle.lentimage.specs.State.{stateAt}
 use Rattle.durable.proofs.Seen.{Beside, nodesAs}
-use Rattle.durablebytes.specs.Dome.{Dome, seen, withMap, withHeader, withNode, host}
+use Rattle.durablebytes.specs.Cluster.{Cluster, seen, withMap, withHeader, withNode, host}
 
 -- ---- what a call left
 
-pub seen-map : (d : Dome) (m : List ℕ) → seen (withMap d m) ≡ setMap (seen d) (viewMap (mapAt m))
+pub seen-map : (d : Cluster) (m : List ℕ) → seen (withMap d m) ≡ setMap (seen d) (viewMap (mapAt m))
 unfolding seen withMap setMap
 seen-map d m = refl
 
-pub seen-node : (d : Dome) (n : ℕ) (h s : List ℕ) → seen (withNode d n h s) ≡ setNode (seen d) n (stateAt h s)
+pub seen-node : (d : Cluster) (n : ℕ) (h s : List ℕ) → seen (withNode d n h s) ≡ setNode (seen d) n (stateAt h s)
 unfolding seen withNode setNode at
 seen-node d n h s = ap (nodesAs (seen d)) (fun-ext (λ m. by-case (eqb m n) (λ e. rw e) (λ e. rw e)))
 
-pub seen-header : (d : Dome) (n : ℕ) (h : List ℕ) → seen (withHeader d n h) ≡ setNode (seen d) n (stateAt h (d .stores n))
+pub seen-header : (d : Cluster) (n : ℕ) (h : List ℕ) → seen (withHeader d n h) ≡ setNode (seen d) n (stateAt h (d .stores n))
 unfolding seen withHeader setNode at
 seen-header d n h =
     ap (nodesAs (seen d))
@@ -30,7 +30,7 @@ seen-header d n h =
 
 -- ---- and the host's deed after it
 
-pub hosted : (d : Dome) (deed : State → State) → Beside (seen d) (deed (seen d)) → seen (host d deed) ≡ deed (seen d)
+pub hosted : (d : Cluster) (deed : State → State) → Beside (seen d) (deed (seen d)) → seen (host d deed) ≡ deed (seen d)
 unfolding host seen
 hosted d deed b = λ i.
     let s = deed (seen d) in
@@ -46,7 +46,7 @@ hosted d deed b = λ i.
       acknowledged = s .acknowledged;
     }
 
-module _ (d f : Dome) (n : ℕ) (deed : State → State) (b : (s : State) → Beside s (deed s)) where
+module _ (d f : Cluster) (n : ℕ) (deed : State → State) (b : (s : State) → Beside s (deed s)) where
   pub left-header : (h : List ℕ) → f ≡ host (withHeader d n h) deed → seen f ≡ deed (setNode (seen d) n (stateAt h (d .stores n)))
   left-header h q = ap seen q ∙ hosted (withHeader d n h) deed (b (seen (withHeader d n h))) ∙ ap deed (seen-header d n h)
 

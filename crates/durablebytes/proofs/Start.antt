@@ -36,7 +36,7 @@ use Rattle.headercalls.specs.Waits.{Left, rowsRoom}
 use Rattle.headercalls.specs.Fresh.{FreshImage}
 use Rattle.headercalls.specs.Shows.{workerBytes, showSaid, isShown, showWrites, shownCall, ShowsImage, Shows}
 use Rattle.durable.proofs.Lent.{map-well}
-use Rattle.durablebytes.specs.Dome.{Dome, seen}
+use Rattle.durablebytes.specs.Cluster.{Cluster, seen}
 use Rattle.durablebytes.specs.Start.{New, Begun}
 use Rattle.durablebytes.proofs.Asked as calls
 use Rattle.durablebytes.proofs.Numbers.{refusal-number}
@@ -84,7 +84,7 @@ module _ (h t m p q a b : List ℕ) (fresh : ℕ) (d : Shows h t m p q a b fresh
       (λ why number e. not-both (eqb 0 0) refl (ap (λ (i : ℕ). eqb i 0) number ∙ refusal-number why .zero))
       (λ g. g .leaves (written g) .read st)
 
-module _ (d : Dome) (b : Begun d) where
+module _ (d : Cluster) (b : Begun d) where
   abbrev m : Map
   m = viewMap (mapAt (d .map))
 

@@ -55,7 +55,7 @@ use Rattle.clientcalls.specs.Written.{WritesImages}
 use Rattle.clientcalls.specs.Searched.{SearchesImages}
 use Rattle.peercalls.specs.PeerCalls.{buffers, ReplicatesImage, AnnouncesImage, CopiesImage}
 use Rattle.workercalls.specs.Steps.{asking, outputs, StepsImage}
-use Rattle.durablebytes.specs.Dome.{Dome, seen, InMemory, withMap, withHeader, withNode, host}
+use Rattle.durablebytes.specs.Cluster.{Cluster, seen, InMemory, withMap, withHeader, withNode, host}
 
 -- the number beside an answer: `catalogue_u64`
 abbrev pub beside : List ℕ → ℕ
@@ -73,14 +73,14 @@ writeSaid s n m none = s
 writeSaid s n m (some o) = run.recordWrite s n m (client.accepted o)
 
 -- `catalogue_write`, with any `answer` (a, then b) and count of refused calls
-abbrev pub Writes : Dome → (node now least : ℕ) → List ℕ → Dome → Type 0
+abbrev pub Writes : Cluster → (node now least : ℕ) → List ℕ → Cluster → Type 0
 Writes d n now least m f =
     (h s a b count counted : List ℕ) × (r : ℕ)
     × WritesImages (write.buffers (d .headers n) (d .stores n) a) (write.buffers h s b) count counted now least m r
     × (f ≡ host (withNode d n h s) (λ x. writeSaid x n (message.decodeWrite m) (offsetIn r b)))
 
 -- `catalogue_search`: header and stores are lent for reading, and stay
-abbrev pub Searches : Dome → (node now : ℕ) → List ℕ → Dome → Type 0
+abbrev pub Searches : Cluster → (node now : ℕ) → List ℕ → Cluster → Type 0
 Searches d n now m f =
     (hits answer count found told counted : List ℕ) × (r : ℕ)
     × SearchesImages (d .headers n) (d .stores n) count now m hits answer counted found told r × (f ≡ d)
@@ -98,7 +98,7 @@ waitSaid s w r peers answer =
     (cond (eqb r 1) (run.waited s w (client.waiting (named peers answer))) s)
 
 -- `catalogue_wait`, for a write that the node accepted; `peers` is p, then q, `answer` a, then b
-abbrev pub Waits : Dome → (now timeout : ℕ) → Option Write → Dome → Type 0
+abbrev pub Waits : Cluster → (now timeout : ℕ) → Option Write → Cluster → Type 0
 Waits d now timeout none f = f ≡ d
 Waits d now timeout (some w) f =
     (h p q a b : List ℕ) × (r : ℕ)
@@ -120,7 +120,7 @@ posted s n k epoch peer (some sent) request answer =
     (s .requests n peer ++ (record { sent = sent; key = k; epoch = epoch; bytes = take (beside answer) request } ∷ []))
 
 -- `catalogue_step` with form 1, and a `request` (q, then p) of so many bytes, a `size_t`: header and stores are lent for reading, and stay
-abbrev pub Asks : Dome → (node : ℕ) → Key → (epoch peer : ℕ) → Metric → (space : ℕ) → Dome → Type 0
+abbrev pub Asks : Cluster → (node : ℕ) → Key → (epoch peer : ℕ) → Metric → (space : ℕ) → Cluster → Type 0
 Asks d n k epoch peer metric space f =
     (q p a b : List ℕ) × (r : ℕ) × (length q ≡ space) × (space < 256 ^ 8)
     × StepsImage (d .headers n) (d .stores n) (asking (k .collection) (k .shard) epoch peer (metricCode metric) 1) (outputs q a) (outputs p b) r
@@ -144,7 +144,7 @@ Hears ack.sentReplicate h s h′ s′ p q m r = ReplicatesImage m (buffers h s p
 Hears ack.sentCopy h s h′ s′ p q m r = CopiesImage m (buffers h s p) (buffers h′ s′ q) r
 
 -- a request that arrives at `to` leaves its link
-abbrev pub Arrives : Dome → (from to place : ℕ) → Option Request → Dome → Type 0
+abbrev pub Arrives : Cluster → (from to place : ℕ) → Option Request → Cluster → Type 0
 Arrives d from to i none f = f ≡ d
 Arrives d from to i (some m) f =
     (h s p q : List ℕ) × (r : ℕ) × Hears (m .sent) (d .headers to) (d .stores to) h s p q (m .bytes) r
@@ -163,7 +163,7 @@ abbrev pub ackSaid : State → Reply → (number : ℕ) → State
 ackSaid s m r = cond (eqb r 1) (run.acked s m ack.expand) s
 
 -- `catalogue_ack`: a reply that arrives is under way no more
-abbrev pub Acks : Dome → (place : ℕ) → Option Reply → Dome → Type 0
+abbrev pub Acks : Cluster → (place : ℕ) → Option Reply → Cluster → Type 0
 Acks d i none f = f ≡ d
 Acks d i (some m) f =
     (h : List ℕ) × (r : ℕ)
@@ -173,7 +173,7 @@ Acks d i (some m) f =
 -- ---- proposals and outcomes
 
 -- `catalogue_apply`: a proposal that reaches the map, and its outcome goes under way: applied if the number is 0
-abbrev pub Offers : Dome → (place index seq : ℕ) → Option Offer → Dome → Type 0
+abbrev pub Offers : Cluster → (place index seq : ℕ) → Option Offer → Cluster → Type 0
 Offers d i index seq none f = f ≡ d
 Offers d i index seq (some o) f =
     (m : List ℕ) × (r : ℕ) × AppliesTo (d .map) m (run.offerBytes (seen d) o index seq) r
@@ -189,7 +189,7 @@ appliedCode true = 1
 appliedCode false = 0
 
 -- `catalogue_outcome`: an outcome that is told is under way no more
-abbrev pub Settles : Dome → (place : ℕ) → Option Outcome → Dome → Type 0
+abbrev pub Settles : Cluster → (place : ℕ) → Option Outcome → Cluster → Type 0
 Settles d i none f = f ≡ d
 Settles d i (some o) f =
     (h : List ℕ) × (r : ℕ)
@@ -198,8 +198,8 @@ Settles d i (some o) f =
 
 -- ---- the run
 
--- 'Rules of a run': an event of the dome d leaves f
-unfoldable pub Called : Dome → Event → Dome → Type 0
+-- 'Rules of a run': an event of the cluster d leaves f
+unfoldable pub Called : Cluster → Event → Cluster → Type 0
 -- `catalogue_apply`
 Called d (command bytes) f = (m : List ℕ) × (r : ℕ) × AppliesTo (d .map) m bytes r × (f ≡ withMap d m)
 -- `catalogue_show_map`, with any `starts` (p, then q) and `answer` (a, then b)
@@ -224,6 +224,6 @@ Called d (outcomeLost i) f = f ≡ host d (λ s. run.onOutcomeLost s i)
 Called d (outcomeTimesOut i) f = f ≡ host d (λ s. run.onOutcomeTimeout s i)
 
 -- 'Rules of a run': a list of events, each of which may happen when its turn comes
-unfoldable pub Calls : Dome → List Event → Dome → Type 0
+unfoldable pub Calls : Cluster → List Event → Cluster → Type 0
 Calls d [] f = f ≡ d
-Calls d (v ∷ vs) f = (g : Dome) × InMemory d × (allowed (seen d) v ≡ true) × Called d v g × Calls g vs f
+Calls d (v ∷ vs) f = (g : Cluster) × InMemory d × (allowed (seen d) v ≡ true) × Called d v g × Calls g vs f

@@ -1,3 +1,3 @@
-pub mod Dome
+pub mod Cluster
 pub mod Calls
 pub mod Start

@@ -16,7 +16,7 @@ use Rattle.mapcheck.specs.Lent.{wellFormedLent}
 use Rattle.mapimage.specs.Image.{mapAt, mapLent}
 use Rattle.headercalls.specs.Fresh.{Freshens}
 use Rattle.headercalls.specs.Shows.{Shows}
-use Rattle.durablebytes.specs.Dome.{Dome}
+use Rattle.durablebytes.specs.Cluster.{Cluster}
 
 -- ---- the map
 
@@ -34,7 +34,7 @@ pub record New (h : List ℕ) (me incarnation : ℕ) : Type 0 where
   pub made : Freshens buffer h me incarnation 0
 
 -- a holder's header after `catalogue_show_map` on a new one: it answered 0, with any outputs
-pub record ShownFirst (d : Dome) (me incarnation : ℕ) : Type 0 where
+pub record ShownFirst (d : Cluster) (me incarnation : ℕ) : Type 0 where
   pub header : List ℕ
   pub new : New header me incarnation
   pub fresh : ℕ
@@ -47,7 +47,7 @@ pub record ShownFirst (d : Dome) (me incarnation : ℕ) : Type 0 where
 -- ---- all of it
 
 -- the map's image is well formed, and is read as a map with one shard, as Create leaves it. Stores are free
-pub record Begun (d : Dome) : Type 0 where
+pub record Begun (d : Cluster) : Type 0 where
   pub shard : ShardInfo
   pub tested : wellFormedLent (mapAt (d .map)) ≡ true
   pub created : Created (viewMap (mapAt (d .map))) shard

@@ -9,7 +9,7 @@ use Rattle.mapimage.specs.Image.{mapAt}
 use Rattle.lentimage.specs.State.{stateAt}
 
 -- the images by node, of any length; the rest is as in `run`
-pub record Dome : Type 0 where
+pub record Cluster : Type 0 where
   pub map : List ℕ
   pub headers : ℕ → List ℕ
   pub stores : ℕ → List ℕ
@@ -24,7 +24,7 @@ pub record Dome : Type 0 where
 -- ---- how it is read
 
 -- the state of `run` that the images are read as, by the readers that the contracts cite
-unfoldable pub seen : Dome → State
+unfoldable pub seen : Cluster → State
 seen d = record {
   map = viewMap (mapAt (d .map));
   nodes = λ n. stateAt (d .headers n) (d .stores n);
@@ -38,14 +38,14 @@ seen d = record {
 }
 
 -- memory holds bytes, numbers below 256: all that is asked of a node's images, and of the map's not even that
-pub record InMemory (d : Dome) : Type 0 where
+pub record InMemory (d : Cluster) : Type 0 where
   pub headers : (n : ℕ) → Bytes (d .headers n)
   pub stores : (n : ℕ) → Bytes (d .stores n)
 
 -- ---- what a call leaves: 'each call gets what the last one on that map or node left, and nobody else writes it'
 
 -- another image of the map
-unfoldable pub withMap : Dome → List ℕ → Dome
+unfoldable pub withMap : Cluster → List ℕ → Cluster
 withMap d m = record {
   map = m;
   headers = d .headers;
@@ -60,7 +60,7 @@ withMap d m = record {
 }
 
 -- another header of one node
-unfoldable pub withHeader : Dome → (node : ℕ) → List ℕ → Dome
+unfoldable pub withHeader : Cluster → (node : ℕ) → List ℕ → Cluster
 withHeader d n h = record {
   map = d .map;
   headers = at (d .headers) n h;
@@ -75,7 +75,7 @@ withHeader d n h = record {
 }
 
 -- another header and other stores of one node
-unfoldable pub withNode : Dome → (node : ℕ) → (header stores : List ℕ) → Dome
+unfoldable pub withNode : Cluster → (node : ℕ) → (header stores : List ℕ) → Cluster
 withNode d n h s = record {
   map = d .map;
   headers = at (d .headers) n h;
@@ -90,7 +90,7 @@ withNode d n h s = record {
 }
 
 -- what the host does beside the calls, in the words of `run`: it changes nothing but what is under way and the lists of writes
-unfoldable pub host : Dome → (State → State) → Dome
+unfoldable pub host : Cluster → (State → State) → Cluster
 host d deed = let s = deed (seen d) in record {
   map = d .map;
   headers = d .headers;
