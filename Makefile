@@ -18,7 +18,7 @@ ENGINE_SOURCES := crates.txt $(shell find crates -name must-fail -prune -o -type
 # One crate as a static library. What it stands on is proved first, as many crates at once as there are processors.
 target/staticlib/lib%.a: $(ENGINE_SOURCES)
 	@mkdir -p $(@D)
-	@echo "proving and building the library of crate $*: from nothing some 20 minutes ($(@D)/$*.log says how far it is)"
+	@echo "proving and building the library of crate $*: from nothing up to a quarter of an hour on two cores ($(@D)/$*.log says how far it is)"
 	@{ rt check $$(sed -n 's/^$*: //p' crates.txt) && rt staticlib $*; } >$(@D)/$*.log 2>&1 || \
 	    { tail -n 20 $(@D)/$*.log >&2; echo "the library of crate $* was not built; all that was said is in $(@D)/$*.log" >&2; exit 1; }
 
@@ -36,7 +36,7 @@ export ENGINE_STREAMS ?= target/bin/streams
 
 programs: ## the engine's programs, proved, built and run on their stored input (target/bin)
 	@mkdir -p target
-	@echo "proving and building the engine's programs: from nothing some 15 minutes (target/programs.log says how far it is)"
+	@echo "proving and building the engine's programs: the first time this takes minutes (target/programs.log says how far it is)"
 	@rt check $(PROGRAMS) >target/programs.log 2>&1 || \
 	    { tail -n 20 target/programs.log >&2; echo "a program was not built; all that was said is in target/programs.log" >&2; exit 1; }
 
