@@ -9,8 +9,9 @@
  * older epoch; node 1 comes back and has one too many. At the end the logs are read from the images: every edit that
  * was acknowledged stands on every node in sync.
  *
- * The host keeps the rules of a run, and for every run that keeps them this ending is proved. Comments say where a rule
- * is at work. Read from the bottom: main is the story, tick the host's loop, and the engine's calls stand above.
+ * The host begins by the engine's calls and keeps the rules of a run, and for every run that does both this ending is
+ * proved (docs/CLAIMS.md, 'Rules of a run'). Comments say where a rule is at work. Read from the bottom: main is the
+ * story, tick the host's loop, and the engine's calls stand above.
  *
  * Nothing is random: each run prints the same. Build with -Iinclude, and link the engine's library.
  */

@@ -9,9 +9,9 @@
  * (CATALOGUE_UNDECODABLE and so on). A refused call leaves every byte of every buffer as it was, two apart: `answer`
  * gets the own epoch beside 18, and the count of refused client calls rises, which only catalogue_write and
  * catalogue_search do. No bytes, numbers or clock readings make a call fault or run on without end. Images that only
- * these calls have written are never called malformed. In a run of one shard that keeps the rules of a run no
- * acknowledged edit is lost; examples/dome.c points them out. What is proved of this, and on which assumptions, is in
- * docs/CLAIMS.md and the README.
+ * these calls have written are never called malformed. In a run of one shard that these calls began and that keeps the
+ * rules of a run no acknowledged edit is lost; examples/dome.c points the rules out. What is proved of this, on which
+ * assumptions, and of which images and calls the checker has seen it, is in docs/CLAIMS.md and the README.
  *
  * What a host owes:
  *   - each pointer is valid for as many bytes as the length behind it says (never NULL, even with length 0), and no two

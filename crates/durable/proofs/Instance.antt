@@ -1,6 +1,6 @@
 -- A run of the calls that the checker follows: node 1 alone holds a shard; it was shown the map, is granted a lease, takes a Write and
--- acknowledges it. Maps, headers and stores are arrays of the code's own lengths. So the theorem is of engines and runs that there are.
--- Assumes nothing.
+-- acknowledges it. Every other node is new, with id 0. Maps, headers and stores are arrays of the code's own lengths, and every number fits
+-- its width. So the theorem is of engines and runs that there are. Assumes nothing.
 use Prim.Native.Nat.{ℕ, zero, suc, _-_, _<_}
 use native.Mathlib.Omega.{arith}
 use mathlib.Core.Path.{_≡_, refl, sym, ap, subst, _∙_}
@@ -310,10 +310,11 @@ writes = record {
 
 -- ---- the engine
 
+-- whatever number a node has, its id is a u64: all but node 1 have id 0
 nodes : ℕ → Node
 nodes zero = new 0
 nodes (suc zero) = leads Never 0
-nodes (suc (suc n)) = new (suc (suc n))
+nodes (suc (suc n)) = new 0
 
 pub first : Engine
 first = record {
@@ -342,11 +343,15 @@ holders zero h = not-both false h refl
 holders (suc zero) h = record { new = new 1; made = is-new 1; fresh = 0; answer = shown; promised = shows; node = refl }
 holders (suc (suc n)) h = let k = suc (suc n) in not-both (holds k copies) h (far k (omega arith))
 
-others : (n : ℕ) → holds n copies ≡ false → New (first .nodes n) n 4
+none-zero : holds 0 copies ≡ false
+unfolding holds any
+none-zero = refl
+
+others : (n : ℕ) → holds n copies ≡ false → New (first .nodes n) 0 4
 unfolding first nodes holds any
 others zero h = is-new 0
 others (suc zero) h = not-both true refl h
-others (suc (suc n)) h = is-new (suc (suc n))
+others (suc (suc n)) h = is-new 0
 
 listed : (r : Replica) (place : ℕ) → nth copies place ≡ some r → 4 ≡ r .incarnation
 unfolding nth
@@ -362,6 +367,8 @@ first-begun = record {
   incarnation = λ n. 4;
   listed = listed;
   holders = holders;
+  id = λ n. 0;
+  apart = λ n h. none-zero;
   others = others;
   clients = λ n. omega arith;
   requests = λ a b. refl;

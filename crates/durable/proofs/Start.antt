@@ -93,8 +93,8 @@ module _ (e : Engine) (b : Begun e) where
   other : (n : ℕ) → holds n (b .shard .replicas) ≡ false → Shown m (b .shard) n (viewNode (storesOf (e .lots n)) (e .nodes n))
   other n h =
       let k = b .incarnation n in
-      subst (Shown m (b .shard) n) (sym (new-empty (e .nodes n) n k (b .others n h) (storesOf (e .lots n))))
-      (shown-other m (b .shard) (b .created) (held.emptyNode n k) h refl)
+      subst (Shown m (b .shard) n) (sym (new-empty (e .nodes n) (b .id n) k (b .others n h) (storesOf (e .lots n))))
+      (shown-other m (b .shard) (b .created) n (held.emptyNode (b .id n) k) h (b .apart n h) refl)
 
   pub begun-fresh : Fresh (seen e)
   unfolding seen

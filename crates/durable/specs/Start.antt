@@ -36,7 +36,8 @@ pub record ShownFirst (e : Engine) (me incarnation : ℕ) : Type 0 where
   pub promised : HearsMap new (e .map) fresh answer
   pub node : e .nodes me ≡ answer .node
 
--- the map is one that `mapcheck::well_formed` passes; what it is read as is a map with one shard, as Create leaves it. Stores are free
+-- the map is one that `mapcheck::well_formed` passes; what it is read as is a map with one shard, as Create leaves it. Who is no holder has
+-- some id that is no holder's: ids are u64, so that it need not be the number under which the run knows the node. Stores are free
 pub record Begun (e : Engine) : Type 0 where
   pub shard : ShardInfo
   pub tested : wellFormedLent (e .map) ≡ true
@@ -44,7 +45,9 @@ pub record Begun (e : Engine) : Type 0 where
   pub incarnation : ℕ → ℕ
   pub listed : (r : Replica) (place : ℕ) → nth (shard .replicas) place ≡ some r → incarnation (r .node .0) ≡ r .incarnation
   pub holders : (n : ℕ) → holds n (shard .replicas) ≡ true → ShownFirst e n (incarnation n)
-  pub others : (n : ℕ) → holds n (shard .replicas) ≡ false → New (e .nodes n) n (incarnation n)
+  pub id : ℕ → ℕ
+  pub apart : (n : ℕ) → holds n (shard .replicas) ≡ false → holds (id n) (shard .replicas) ≡ false
+  pub others : (n : ℕ) → holds n (shard .replicas) ≡ false → New (e .nodes n) (id n) (incarnation n)
   pub clients : (n : ℕ) → U64 (e .clients n)
   pub requests : (a b : ℕ) → e .requests a b ≡ []
   pub replies : e .replies ≡ []

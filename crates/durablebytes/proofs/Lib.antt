@@ -1,3 +1,4 @@
+pub mod Instance
 pub mod Seen
 pub mod Ways
 pub mod Numbers

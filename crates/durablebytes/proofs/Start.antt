@@ -111,8 +111,8 @@ module _ (d : Cluster) (b : Begun d) where
   other : (n : ℕ) → holds n (b .shard .replicas) ≡ false → Shown m (b .shard) n (stateAt (d .headers n) (d .stores n))
   other n h =
       let k = b .incarnation n in
-      subst (Shown m (b .shard) n) (sym (new-empty (d .headers n) n k (b .others n h) (storesIn (d .stores n))))
-      (shown-other m (b .shard) (b .created) (held.emptyNode n k) h refl)
+      subst (Shown m (b .shard) n) (sym (new-empty (d .headers n) (b .id n) k (b .others n h) (storesIn (d .stores n))))
+      (shown-other m (b .shard) (b .created) n (held.emptyNode (b .id n) k) h (b .apart n h) refl)
 
   pub begun-fresh : Fresh (seen d)
   unfolding seen

@@ -46,7 +46,8 @@ pub record ShownFirst (d : Cluster) (me incarnation : ℕ) : Type 0 where
 
 -- ---- all of it
 
--- the map's image is well formed, and is read as a map with one shard, as Create leaves it. Stores are free
+-- the map's image is well formed, and is read as a map with one shard, as Create leaves it. Who is no holder was made under some id that is
+-- no holder's: an id has eight bytes, so that it need not be the number under which the run knows the node. Stores are free
 pub record Begun (d : Cluster) : Type 0 where
   pub shard : ShardInfo
   pub tested : wellFormedLent (mapAt (d .map)) ≡ true
@@ -54,7 +55,9 @@ pub record Begun (d : Cluster) : Type 0 where
   pub incarnation : ℕ → ℕ
   pub listed : (r : Replica) (place : ℕ) → nth (shard .replicas) place ≡ some r → incarnation (r .node .0) ≡ r .incarnation
   pub holders : (n : ℕ) → holds n (shard .replicas) ≡ true → ShownFirst d n (incarnation n)
-  pub others : (n : ℕ) → holds n (shard .replicas) ≡ false → New (d .headers n) n (incarnation n)
+  pub id : ℕ → ℕ
+  pub apart : (n : ℕ) → holds n (shard .replicas) ≡ false → holds (id n) (shard .replicas) ≡ false
+  pub others : (n : ℕ) → holds n (shard .replicas) ≡ false → New (d .headers n) (id n) (incarnation n)
   pub clients : (n : ℕ) → U64 (d .clients n)
   pub requests : (a b : ℕ) → d .requests a b ≡ []
   pub replies : d .replies ≡ []

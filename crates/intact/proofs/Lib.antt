@@ -12,3 +12,4 @@ pub mod OnPeers
 pub mod OnClients
 pub mod OnWorkers
 pub mod Intact
+pub mod Instance

@@ -37,6 +37,8 @@ use Rattle.model.proofs.Map.Sets.{in-put, rest-of-put}
 use Rattle.model.proofs.Map.WellFormed.{stays-well-formed, map-parts}
 use Rattle.run.specs.Fresh.{Distinct, Live, AllLive, Created, Shown, Fresh}
 use Rattle.run.specs.State.{State}
+use Rattle.run.proofs.Ids as ids
+use Rattle.run.proofs.Ids.{own-number}
 
 -- an id is in a list; no id is in it twice
 unfoldable pub has : ℕ → List ℕ → Bool
@@ -298,25 +300,25 @@ module _ (m : Map) (i : ShardInfo) (c : Created m i) where
         rw shown-takes
         (by-test (λ (v : Result ShownAnswer Node). v .after .held ≡ takeMap new m .after .held → Shown m i me (v .after))
         (tooMany (showings new m (m .shards)))
-        (λ q e. record { id = refl; held = e; listed = own })
-        (λ q e. record { id = refl; held = e; listed = own })
+        (λ q e. record { id = own-number (i .replicas) me; held = e; listed = own })
+        (λ q e. record { id = own-number (i .replicas) me; held = e; listed = own })
         refl)
 
-  -- a node that is no holder, and holds nothing, whatever it was shown
-  module _ (n : Node) (unlisted : holds (n .id) (i .replicas) ≡ false) (empty : n .held ≡ []) where
-    not-listed : (rs : List Replica) → holds (n .id) rs ≡ false → any (listedAs (n .id) (n .incarnation)) rs ≡ false
+  -- a node that is no holder, and holds nothing, whatever it was shown; its id is any but a holder's
+  module _ (me : ℕ) (n : Node) (unlisted : holds me (i .replicas) ≡ false) (apart : holds (n .id) (i .replicas) ≡ false) (empty : n .held ≡ []) where
+    not-listed : (rs : List Replica) → holds me rs ≡ false → any (listedAs me (n .incarnation)) rs ≡ false
     unfolding holds any _and_
     not-listed [] h = refl
-    not-listed (r ∷ rs) h = go (eqb (r .node .0) (n .id)) refl h (not-listed rs)
+    not-listed (r ∷ rs) h = go (eqb (r .node .0) me) refl h (not-listed rs)
       where
-        go : (b : Bool) → eqb (r .node .0) (n .id) ≡ b → cond b true (any (isOn (n .id)) rs) ≡ false
-            → (any (isOn (n .id)) rs ≡ false → any (listedAs (n .id) (n .incarnation)) rs ≡ false)
-            → cond (b and eqb (r .incarnation) (n .incarnation)) true (any (listedAs (n .id) (n .incarnation)) rs) ≡ false
+        go : (b : Bool) → eqb (r .node .0) me ≡ b → cond b true (any (isOn me) rs) ≡ false
+            → (any (isOn me) rs ≡ false → any (listedAs me (n .incarnation)) rs ≡ false)
+            → cond (b and eqb (r .incarnation) (n .incarnation)) true (any (listedAs me (n .incarnation)) rs) ≡ false
         go true e q more = not-both true refl q
         go false e q more = more q
 
     abbrev none-held : Node
-    none-held = emptyNode (n .id) (n .incarnation)
+    none-held = emptyNode me (n .incarnation)
 
     nothing : takeMap none-held m .after .held ≡ []
     unfolding takeMap showings showShard any _or_
@@ -329,21 +331,21 @@ module _ (m : Map) (i : ShardInfo) (c : Created m i) where
     holder-at (x ∷ xs) (suc p) r e =
         by-test (λ v. v ≡ true) (eqb (x .node .0) (r .node .0)) (λ q. refl) (λ q. holder-at xs p r e)
 
-    pub shown-other : Shown m i (n .id) n
+    pub shown-other : Shown m i me n
     shown-other = record {
-      id = refl;
+      id = ids.apart (i .replicas) me (n .id) unlisted apart;
       held = empty ∙ sym nothing;
-      listed = λ r place at same. not-both (holds (n .id) (i .replicas)) (rw (← same) (holder-at (i .replicas) place r at)) unlisted;
+      listed = λ r place at same. not-both (holds me (i .replicas)) (rw (← same) (holder-at (i .replicas) place r at)) unlisted;
     }
 
 -- ---- all of it
 
--- the state in which each holder has been made under its incarnation and shown the map; others have been made
-unfoldable pub started : (m : Map) (i : ShardInfo) → (incarnation fresh clients : ℕ → ℕ) → State
-started m i incarnation fresh clients = record {
+-- the state in which each holder has been made under its incarnation and shown the map; all others have been made, under one id
+unfoldable pub started : (m : Map) (i : ShardInfo) → (other : ℕ) → (incarnation fresh clients : ℕ → ℕ) → State
+started m i other incarnation fresh clients = record {
   map = m;
   nodes =
-      λ n. cond (holds n (i .replicas)) (callShown (emptyNode n (incarnation n)) (fresh n) m .after) (emptyNode n (incarnation n));
+      λ n. cond (holds n (i .replicas)) (callShown (emptyNode n (incarnation n)) (fresh n) m .after) (emptyNode other (incarnation n));
   clients = clients;
   requests = λ a b. [];
   replies = [];
@@ -354,18 +356,18 @@ started m i incarnation fresh clients = record {
 }
 
 -- Register, Create and the first maps shown give a fresh state
-pub started-fresh : (m : Map) (i : ShardInfo) → Created m i → (incarnation fresh clients : ℕ → ℕ)
+pub started-fresh : (m : Map) (i : ShardInfo) → Created m i → (other : ℕ) → holds other (i .replicas) ≡ false → (incarnation fresh clients : ℕ → ℕ)
     → ((r : Replica) (place : ℕ) → nth (i .replicas) place ≡ some r → incarnation (r .node .0) ≡ r .incarnation)
-    → ((n : ℕ) → U64 (clients n)) → Fresh (started m i incarnation fresh clients)
+    → ((n : ℕ) → U64 (clients n)) → Fresh (started m i other incarnation fresh clients)
 unfolding started
-started-fresh m i c incarnation fresh clients listed fit = record {
+started-fresh m i c other apart incarnation fresh clients listed fit = record {
   shard = i;
   created = c;
   shown =
       λ n. by-test (Shown m i n) (holds n (i .replicas))
       (λ h. shown-holder m i c n (incarnation n) (fresh n) h
       (λ r place at same. subst (λ (k : ℕ). incarnation k ≡ r .incarnation) same (listed r place at)))
-      (λ h. shown-other m i c (emptyNode n (incarnation n)) h refl);
+      (λ h. shown-other m i c n (emptyNode other (incarnation n)) h apart refl);
   clients = fit;
   requests = λ a b. refl;
   replies = refl;

@@ -1,4 +1,5 @@
 pub mod Cases
+pub mod Ids
 pub mod Created
 pub mod Protocol
 pub mod Simulation

@@ -1,11 +1,12 @@
 -- Paper 01, 'Rules of a run', Fresh: one shard, created with distinct live holders, each listed under its own incarnation; all have been
 -- shown that map, with no earlier history; nothing is under way or acknowledged. Ids, incarnations, key, metric, leases, versions, other
--- nodes, collections and sessions are free. Definitions only.
+-- nodes, collections and sessions are free, but that no other node has a holder's id. Definitions only.
 use Prim.Native.Nat.{ℕ, _<_, _^_}
-use mathlib.Core.Bool.{Bool, true, false}
+use mathlib.Core.Bool.{Bool, true, false, cond, not}
 use mathlib.Core.Path.{_≡_}
 use mathlib.Core.List.{List, [], _∷_}
 use mathlib.Core.Option.{Option, some}
+use lib.Dec.{eqb}
 use Rattle.model.specs.Lists.{nth}
 use Rattle.model.specs.Map.Tables.{Map, ShardInfo, NodeInfo}
 use Rattle.model.specs.Map.Change.{holds, inSync}
@@ -45,10 +46,15 @@ pub record Created (m : Map) (i : ShardInfo) : Type 0 where
   pub everyone : (n : ℕ) → inSync n (i .insync) ≡ holds n (i .replicas)
   pub epoch : i .epoch ≡ 1
 
+-- whether the node of a number may have an id: a holder's id is its number, and no other node has a holder's. Another's id need not be its
+-- number, for a run numbers its nodes without end, and ids are u64
+unfoldable pub properId : List Replica → (number id : ℕ) → Bool
+properId rs n id = cond (holds n rs) (eqb id n) (not (holds id rs))
+
 -- 'Fresh': a node that has been shown the map, with no earlier history. One that is no holder holds nothing, whether it has been or not.
 -- Its lease and the version it knows are free
 pub record Shown (m : Map) (i : ShardInfo) (me : ℕ) (n : Node) : Type 0 where
-  pub id : n .id ≡ me
+  pub id : properId (i .replicas) me (n .id) ≡ true
   pub held : n .held ≡ takeMap (emptyNode me (n .incarnation)) m .after .held
   pub listed : (r : Replica) (place : ℕ) → nth (i .replicas) place ≡ some r → r .node .0 ≡ me → n .incarnation ≡ r .incarnation
 

@@ -1,12 +1,13 @@
 -- The state in which the examples start is fresh, so every theorem about runs speaks of them. Assumes nothing.
 use Prim.Native.Nat.{ℕ, zero, suc}
 use mathlib.Core.Path.{_≡_, refl}
-use mathlib.Core.Bool.{true}
+use mathlib.Core.Bool.{true, false}
 use mathlib.Core.Option.{some}
 use mathlib.Core.List.{[]}
 use native.Mathlib.Omega.{arith}
 use Rattle.model.specs.Lists.{nth}
 use Rattle.model.specs.Map.Tables.{NodeInfo}
+use Rattle.model.specs.Map.Change.{holds}
 use Rattle.model.proofs.Lists.{none-some}
 use Rattle.model.specs.declared.Replica.{Replica}
 use Rattle.model.specs.declared.Metric.the-variants.{Euclidean}
@@ -39,6 +40,11 @@ listed r zero e = cc
 listed r (suc zero) e = cc
 listed r (suc (suc place)) e = none-some e
 
+-- node 0 holds nothing, so that every other node may have its id
+no-holder : holds 0 (info .replicas) ≡ false
+unfolding opened
+no-holder = refl
+
 pub start-fresh : Fresh start
 unfolding start
-start-fresh = started-fresh created info is-created (λ n. 4) (λ n. 0) (λ n. 100) listed (λ n. omega arith)
+start-fresh = started-fresh created info is-created 0 no-holder (λ n. 4) (λ n. 0) (λ n. 100) listed (λ n. omega arith)

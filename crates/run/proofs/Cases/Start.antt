@@ -42,9 +42,9 @@ info = record {
   epoch = 1;
 }
 
--- the two nodes have been shown that map
+-- the two nodes have been shown that map; every other has been made with id 0, as a machine's zeroed memory is read
 unfoldable pub start : State
-start = started created info (λ n. 4) (λ n. 0) (λ n. 100)
+start = started created info 0 (λ n. 4) (λ n. 0) (λ n. 100)
 
 -- a Write that deletes an id
 abbrev pub deletes : (node epoch id : ℕ) → Event

@@ -36,6 +36,7 @@ use Rattle.model.specs.declared.Role as role
 use Rattle.model.specs.declared.Role.the-variants.{Backup, Primary}
 use Rattle.model.proofs.Node.Formed.{FormedNode}
 use Rattle.run.specs.State as run
+use Rattle.run.specs.Fresh.{properId}
 use Rattle.run.proofs.Protocol.Base.{All}
 use Rattle.run.proofs.Protocol.Sets.{member, In}
 use Rattle.run.proofs.Protocol.State.{Map, Lead, Role, backup, lead, Node, Request, align, send, Answer, adopts, stores, staleAlign, staleSend, Reply, Proposal, Outcome, Accepted, Acknowledged, State}
@@ -118,7 +119,7 @@ module _ (w : World) where
     pub role : RoleSim top n (h .role) (h .replica) (h .peers) (b .role)
 
   pub record NodeSim (top n : ℕ) (x : held.Node) (b : Node) : Type 0 where
-    pub id : x .id ≡ n
+    pub id : properId (w .holders) n (x .id) ≡ true
     pub formed : FormedNode x
     pub here : holds n (w .holders) ≡ true → (h : Held) × (x .held ≡ h ∷ []) × HeldSim top n h b
     pub gone : holds n (w .holders) ≡ false → x .held ≡ []

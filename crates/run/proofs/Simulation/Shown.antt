@@ -29,6 +29,8 @@ use Rattle.model.proofs.Node.Formed.{FormedNode, node-formed, formed-node}
 use Rattle.model.proofs.Node.KeptCalls.{call-shown-kept}
 use Rattle.run.specs.State as real
 use Rattle.run.specs.Step as step
+use Rattle.run.specs.Fresh.{properId}
+use Rattle.run.proofs.Ids.{holder-id, other-id}
 use Rattle.run.proofs.Protocol.State as proto
 use Rattle.run.proofs.Protocol.State.{Map, Role, backup, lead, Node, State, leadAt, leader, withRole, showing}
 use Rattle.run.proofs.Simulation.Relation.{World, deadRow, MapSim, RoleSim, HeldSim, NodeSim, Sim}
@@ -59,21 +61,20 @@ no-lead w top n r s ps (lead l) k e t =
 
 -- ---- what a node makes of the map's one shard
 
-module _ (w : World) (m : tables.Map) (am : Map) (t : MapSim w m am) (x : held.Node) (n : ℕ) (id : x .id ≡ n) where
+module _ (w : World) (m : tables.Map) (am : Map) (t : MapSim w m am) (x : held.Node) (n : ℕ) where
   -- who is no holder: nothing
-  pub shows-none : holds n (w .holders) ≡ false → showings x m (m .shards) ≡ []
+  pub shows-none : holds (x .id) (w .holders) ≡ false → showings x m (m .shards) ≡ []
   unfolding showings showShard
   shows-none h =
       let u : any (listedAs (x .id) (x .incarnation)) (t .shard .replicas) ≡ false =
-      ap (λ (z : ℕ). any (listedAs z (x .incarnation)) (t .shard .replicas)) id
-      ∙ ap (λ (rs : List Replica). any (listedAs n (x .incarnation)) rs) (t .replicas) ∙ not-listed n (x .incarnation) (w .holders) h in
+      ap (λ (rs : List Replica). any (listedAs (x .id) (x .incarnation)) rs) (t .replicas) ∙ not-listed (x .id) (x .incarnation) (w .holders) h in
       ap (showings x m) (t .only) ∙ rw u
 
   -- a holder: the one that it holds, or one that begins
-  pub shows-one : any (listedAs n (x .incarnation)) (w .holders) ≡ true
+  pub shows-one : x .id ≡ n → any (listedAs n (x .incarnation)) (w .holders) ≡ true
       → showings x m (m .shards) ≡ orNot (showListed n (t .shard) (some (w .metric)) (shardOf x (w .key))) []
   unfolding showings showShard
-  shows-one h =
+  shows-one id h =
       let u : any (listedAs (x .id) (x .incarnation)) (t .shard .replicas) ≡ true =
       ap (λ (z : ℕ). any (listedAs z (x .incarnation)) (t .shard .replicas)) id
       ∙ ap (λ (rs : List Replica). any (listedAs n (x .incarnation)) rs) (t .replicas) ∙ h in
@@ -113,11 +114,14 @@ module _ (w : World) (s : real.State) (a : State) (k : Sim w s a) (n : ℕ) wher
   -- ---- who is no holder
 
   module _ (out : holds n (w .holders) ≡ false) where
-    nothing : (y : held.Node) → y .id ≡ n → y .held ≡ [] → After y
+    apart : holds (x .id) (w .holders) ≡ false
+    apart = other-id (w .holders) n (x .id) out (k .nodes n .id)
+
+    nothing : (y : held.Node) → y .id ≡ x .id → y .held ≡ [] → After y
     nothing y i e f =
         quiet y
         (record {
-          id = i;
+          id = ap (properId (w .holders) n) i ∙ k .nodes n .id;
           formed = f;
           here = λ z. not-both (holds n (w .holders)) z out;
           gone = λ z. e;
@@ -129,14 +133,17 @@ module _ (w : World) (s : real.State) (a : State) (k : Sim w s a) (n : ℕ) wher
     outside fresh =
         let P : Result ShownAnswer held.Node → Type 0 = λ v. After (v .after) in
         by-test P (ltb (m .version) (x .version)) (λ p f. quiet x (k .nodes n))
-        (λ p. by-test P (any (deadAs x) (m .nodes)) (λ q. nothing (emptyNode (x .id) fresh) (k .nodes n .id) refl)
+        (λ p. by-test P (any (deadAs x) (m .nodes)) (λ q. nothing (emptyNode (x .id) fresh) refl refl)
         (λ q. by-test P (tooMany (showings x m (m .shards))) (λ u f. quiet x (k .nodes n))
-        (λ u. nothing (taken (map heldOf (showings x m (m .shards)))) (k .nodes n .id)
-        (ap (map heldOf) (shows-none w m (a .map) (k .table) x n (k .nodes n .id) out)))))
+        (λ u. nothing (taken (map heldOf (showings x m (m .shards)))) refl
+        (ap (map heldOf) (shows-none w m (a .map) (k .table) x n apart)))))
 
   -- ---- a holder
 
   module _ (y : holds n (w .holders) ≡ true) where
+    own : x .id ≡ n
+    own = holder-id (w .holders) n (x .id) y (k .nodes n .id)
+
     h : Held
     h = k .nodes n .here y .0
 
@@ -200,13 +207,13 @@ module _ (w : World) (s : real.State) (a : State) (k : Sim w s a) (n : ℕ) wher
     alive : any (deadAs x) (m .nodes) ≡ false
     alive =
         ap (any (deadAs x)) (k .table .nodes)
-        ∙ ap (λ (z : ℕ). any (deadRow z (x .incarnation)) (w .nodes)) (k .nodes n .id)
+        ∙ ap (λ (z : ℕ). any (deadRow z (x .incarnation)) (w .nodes)) own
         ∙ w .alive n (x .incarnation) (k .nodes n .listed y)
 
     one : showings x m (m .shards) ≡ showHeld n i (w .metric) h ∷ []
     unfolding showListed h
     one =
-        shows-one w m (a .map) (k .table) x n (k .nodes n .id) (k .nodes n .listed y)
+        shows-one w m (a .map) (k .table) x n own (k .nodes n .listed y)
         ∙ ap (λ (o : Option Held). orNot (showListed n i (some (w .metric)) o) []) (shard-found w top n x b (k .nodes n) h (k .nodes n .here y .1) hs)
 
     inside : (fresh : ℕ) → After (onMap x fresh m .after)

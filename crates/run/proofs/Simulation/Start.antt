@@ -266,7 +266,7 @@ module _ (m : tables.Map) (i : ShardInfo) (c : Created m i) where
     none-held y =
         shown′ .held
         ∙ by-test (λ (v : Result ShownAnswer held.Node). v .after .held ≡ []) (tooMany (showings new m (m .shards))) (λ t. refl)
-        (λ t. ap (map heldOf) (shows-none world m (start .map) table new n refl y))
+        (λ t. ap (map heldOf) (shows-none world m (start .map) table new n y))
 
     one : holds n (i .replicas) ≡ true → showings new m (m .shards) ≡ showHeld n i (c .metric .0) h ∷ []
     unfolding showListed shardOf find table
