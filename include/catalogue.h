@@ -73,7 +73,7 @@ extern "C" {
 #define CATALOGUE_REJECTED_NOT_ALIVE 5u         /* a node is not alive */
 #define CATALOGUE_REJECTED_NO_COLLECTION 6u     /* no such collection */
 #define CATALOGUE_REJECTED_KNOWN_INCARNATION 7u /* the node is known under this incarnation or a later one */
-#define CATALOGUE_REJECTED_OTHER_INCARNATION 8u /* the node is not alive under that incarnation */
+#define CATALOGUE_REJECTED_OTHER_INCARNATION 8u /* the node is unknown, or known under another incarnation */
 #define CATALOGUE_REJECTED_NO_SHARD 9u          /* no such shard */
 #define CATALOGUE_REJECTED_OTHER_EPOCH 10u      /* the shard has another epoch */
 #define CATALOGUE_REJECTED_ALREADY_HELD 11u     /* the node holds the shard already */

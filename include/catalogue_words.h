@@ -18,7 +18,7 @@ static inline const char *catalogue_rejection(uint32_t number)
                                         "a node is not alive",
                                         "no such collection",
                                         "the node is known under this incarnation or a later one",
-                                        "the node is not alive under that incarnation",
+                                        "the node is unknown, or known under another incarnation",
                                         "no such shard",
                                         "the shard has another epoch",
                                         "the node holds the shard already",
