@@ -21,9 +21,3 @@ pub record Realigns (h : Held) (epoch kept : ℕ) (r : Held) : Type 0 where
   pub same : (k : Key) (l₀ l : Log) (v₀ v : Vectors)
       → viewHeld k l v r
       ≡ demoted (withReplica (viewHeld k l₀ v₀ h) (record { epoch = epoch; metric = h .metric; log = l; vectors = v }))
-
--- node.rs, write and on_replicate: the log l and the vectors v instead of l₀ and v₀
-pub record Relogs (h : Held) (entries : ℕ) (r : Held) : Type 0 where
-  pub last : r .last ≡ entries
-  pub same : (k : Key) (l₀ l : Log) (v₀ v : Vectors)
-      → viewHeld k l v r ≡ withReplica (viewHeld k l₀ v₀ h) (record { epoch = h .epoch .0; metric = h .metric; log = l; vectors = v })

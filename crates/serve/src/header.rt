@@ -2,7 +2,7 @@
 // store's.
 ghost use mathlib.Core.Path.{_≡_};
 ghost use Prim.Native.Nat.{_≤_};
-ghost use Rattle.serve.specs.Headers.{Begins, Realigns, Relogs};
+ghost use Rattle.serve.specs.Headers.{Begins, Realigns};
 use model::DataNodeId;
 use model::Epoch;
 use model::Metric;
@@ -61,13 +61,4 @@ pub fn realigned(h: Held, epoch: Epoch, kept: u64) -> Held
         peers: peers,
         count: 0,
     }
-}
-
-// Internal: the shard whose log has `last` entries then; nothing else changes.
-pub fn relogged(h: Held, last: u64) -> Held
-    ensures { λ r. ⌜ Relogs h last r ⌝ }
-{
-    let mut out = h;
-    out.last = last;
-    out
 }

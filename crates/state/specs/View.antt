@@ -128,12 +128,6 @@ answerIn (Refused r) k = tables.refused (refusalOf r)
 abbrev pub answerOf : Verdict → tables.Answer
 answerOf v = answerIn (v .answer) (viewKey (v .key))
 
--- 'the command takes effect'
-abbrev pub isApplied : tables.Answer → Bool
-isApplied (tables.outcome tables.applied) = true
-isApplied (tables.outcome (tables.rejected r)) = false
-isApplied (tables.refused r) = false
-
 abbrev pub viewSession : SessionRow → tables.Session
 viewSession s = record { client = s .client; seq = s .seq; outcome = outcomeOf (s .outcome) (viewKey (s .key)) }
 

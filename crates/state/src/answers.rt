@@ -3,7 +3,7 @@ ghost use mathlib.Core.Path.{_≡_};
 ghost use Rattle.model.specs.Map.Tables as tables;
 ghost use Rattle.model.specs.Map.Change.{accepts, rejects};
 ghost use Rattle.state.specs.Names.{viewKey};
-ghost use Rattle.state.specs.View.{answerOf, rejectionOf, refusalOf, isApplied};
+ghost use Rattle.state.specs.View.{answerOf, rejectionOf, refusalOf};
 use crate::Answer;
 use crate::Name;
 use crate::Outcome;
@@ -53,19 +53,5 @@ pub fn refused(r: Refusal) -> Verdict
     Verdict {
         answer: Answer::Refused(r),
         key: key,
-    }
-}
-
-// Internal: whether a command takes effect.
-pub fn is_applied(v: Verdict) -> bool
-    ensures { λ r. ⌜ r ≡ isApplied (answerOf v) ⌝ }
-{
-    let a = v.answer;
-    match a {
-        Answer::Done(o) => match o {
-            Outcome::Applied => true,
-            Outcome::Rejected(_) => false,
-        },
-        Answer::Refused(_) => false,
     }
 }
