@@ -5,9 +5,9 @@ use mathlib.Core.Path.{_≡_, refl, sym, ap, subst, _∙_}
 use mathlib.Core.Bool.{Bool, true, false}
 use mathlib.Core.List.{List, [], _∷_, _++_, map}
 use lib.ListN.{length, take, drop, length-map}
-use lib.Seq.{sets, length-sets}
+use lib.Seq.{sets, length-sets, length-take-le}
 use native.Mathlib.Omega.{arith}
-use borrow.Author.Tests.{lt-ltb}
+use borrow.Author.Tests.{lt-ltb, le-leb}
 use Rattle.model.specs.Layout.Format.{numberAt, concatMap, All}
 use Rattle.model.specs.Layout.Parts.{metricCode}
 use Rattle.model.specs.Node.Held as held
@@ -33,8 +33,9 @@ use Rattle.image.proofs.Back.{length-encode, value-encode, Holds, holds-stored,
 use Rattle.image.proofs.OfCodes.{flag-back, flag-small, replicas-back}
 use Rattle.headerrows.specs.Rows.{bitOf, weigh, peerOf, peerValue, roleOf, roleValue, keptF, keptOf, keptValue, keptAt, keptBytes, expiryOf, expiryCode, expiryTime}
 use Rattle.headerrows.specs.Tidy.{tidyKept}
+use Rattle.headerimage.proofs.OfFlags.{flags-back}
 use Rattle.headerimage.proofs.OfTidy.{KeptFits, all-fit, view-tidied, slots-tidied}
-use Rattle.headerimage.specs.Image.{noKept, codesListed, nodeAt, headBytes, shardsBytes, headerPut}
+use Rattle.headerimage.specs.Image.{noKept, shardCodes, flagsListed, codesListed, nodeAt, headBytes, shardsBytes, headerPut}
 
 -- ---- parts
 
@@ -204,16 +205,30 @@ module _ (s : List ℕ) (n : Node) (room : 10288 ≤ length s) (fits : Fits n) w
   codes-below o law =
       table-codes KeptFits keptBytes 1280 kept-long 8 count rows (table n fits) (headerPut s n) 48 2 o law shards-held (numberAt 8 (headerPut s n) 24) count-back
 
-  -- what was written lends a header
-  pub codes-listed : codesListed (headerPut s n) ≡ true
-  unfolding codesListed
-  codes-listed =
+  shard-codes : shardCodes (headerPut s n) ≡ true
+  unfolding shardCodes
+  shard-codes =
       let w = headerPut s n in
       let e : numberAt 4 w 36 ≡ expiryCode (n .expiry) = ap (λ (v : Value headF). v .0 .1) head-back in
       let h : numberAt 4 w 36 < 2 = rw e (expiry-small (n .expiry)) in
       and-intro
       (and-intro (lt-ltb (numberAt 4 w 36) 2 h) refl)
       (and-intro (codes-below 96 (metric-code w)) (and-intro (codes-below 100 (own-code w)) (codes-below 108 (role-code w))))
+
+  flags-listed : flagsListed (headerPut s n) (inUse 8 (numberAt 8 (headerPut s n) 24)) 48 ≡ true
+  flags-listed =
+      let w = headerPut s n in
+      let k = table n fits in
+      let c = k .count in
+      let l = k .long in
+      let used : length (take count rows) ≡ count = length-take-le count rows (omega arith) in
+      ap (λ (m : ℕ). flagsListed w m 48) (ap (inUse 8) count-back ∙ (rw (le-leb count 8 c)) ∙ sym used)
+      ∙ flags-back w (kept-value w) kept-long (take count rows) 48 (shards-held .tail) (k .rows) (shards-held .here)
+
+  -- what was written lends a header
+  pub codes-listed : codesListed (headerPut s n) ≡ true
+  unfolding codesListed
+  codes-listed = and-intro shard-codes flags-listed
 
   -- and its shards are those written
   pub used-back : used (nodeAt (headerPut s n)) ≡ map tidyKept (used n)

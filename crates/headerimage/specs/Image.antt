@@ -1,7 +1,7 @@
 -- A header's image (docs/IMAGES.md): 48 bytes, then 8 held shards of 1280 bytes, 10288 bytes in all. Only the shards in use are read and
 -- written, and each is written in the canonical form. Definitions only.
-use Prim.Native.Nat.{ℕ}
-use mathlib.Core.Bool.{Bool, false, cond}
+use Prim.Native.Nat.{ℕ, zero, suc, _+_}
+use mathlib.Core.Bool.{Bool, true, false, cond}
 use mathlib.Core.List.{List, _++_, map}
 use lib.ListN.{length, take, replicate}
 use lib.Dec.{leb}
@@ -59,12 +59,21 @@ nodeAt s = record {
   count = numberAt 8 s 24;
 }
 
--- every code is listed: the lease's end, and of each shard in use its metric, own and role
-unfoldable pub codesListed : List ℕ → Bool
-codesListed s =
+-- the lease's code, and of each shard in use the codes of its metric, own and role
+unfoldable pub shardCodes : List ℕ → Bool
+shardCodes s =
     codesBelow 2 4 s 1 36
     and (codesBelow 2 1280 s (inUse 8 (numberAt 8 s 24)) 144
     and (codesBelow 2 1280 s (inUse 8 (numberAt 8 s 24)) 148 and codesBelow 2 1280 s (inUse 8 (numberAt 8 s 24)) 156))
+
+-- the flags of each peer in use, of n shards from a position on: no bit but the four that a peer has
+abbrev pub flagsListed : List ℕ → (n at : ℕ) → Bool
+flagsListed s zero at = true
+flagsListed s (suc n) at = codesBelow 16 32 s (inUse 32 (numberAt 8 s (at + 88))) (at + 280) and flagsListed s n (at + 1280)
+
+-- 'an unlisted code': every code and flag in use is listed
+unfoldable pub codesListed : List ℕ → Bool
+codesListed s = shardCodes s and flagsListed s (inUse 8 (numberAt 8 s 24)) 48
 
 -- a header is lent: the buffer holds an image, in which every code is listed
 unfoldable pub headerLent : List ℕ → Bool

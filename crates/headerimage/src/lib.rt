@@ -7,7 +7,7 @@ ghost use Prim.Native.Nat.{_≤_};
 ghost use lib.ListN.{length};
 ghost use Rattle.image.specs.Shape.{Stored};
 ghost use Rattle.headerrows.specs.Rows.{expiryOf, expiryCode, expiryTime};
-ghost use Rattle.headerimage.specs.Image.{codesListed, nodeAt, noNode, lentHeader, headBytes, headerPut};
+ghost use Rattle.headerimage.specs.Image.{shardCodes, flagsListed, codesListed, nodeAt, noNode, lentHeader, headBytes, headerPut};
 ghost use Rattle.headerimage.specs.Becomes.{HeaderWrites};
 use crate::held::no_kept;
 use crate::held::put_shards;
@@ -55,9 +55,9 @@ fn expiry_time(e: Expiry) -> u64
     }
 }
 
-fn codes_listed(s: &[u8]) -> bool
+fn shard_codes(s: &[u8]) -> bool
     requires { ⌜ 10288 ≤ length (now s) ⌝ }
-    ensures { λ r. ⌜ r ≡ codesListed (now (s .entry)) ⌝ }
+    ensures { λ r. ⌜ r ≡ shardCodes (now (s .entry)) ⌝ }
 {
     let n = count_at(s, 24, 8);
     if !codes_below(s, 2, 4, 1, 36) {
@@ -70,6 +70,33 @@ fn codes_listed(s: &[u8]) -> bool
         return false;
     }
     codes_below(s, 2, 1280, n, 156)
+}
+
+// A peer has four flags: a number with any other bit is no code of theirs.
+fn flags_listed(s: &[u8], n: usize) -> bool
+    requires { ⌜ (10288 ≤ length (now s)) × (n ≤ 8) ⌝ }
+    ensures { λ r. ⌜ r ≡ flagsListed (now (s .entry)) n 48 ⌝ }
+{
+    let mut i: usize = 0;
+    while i < n {
+        let row = 48 + 1280 * i;
+        let peers = count_at(s, row + 88, 32);
+        if !codes_below(s, 16, 32, peers, row + 280) {
+            return false;
+        }
+        i += 1;
+    }
+    true
+}
+
+fn codes_listed(s: &[u8]) -> bool
+    requires { ⌜ 10288 ≤ length (now s) ⌝ }
+    ensures { λ r. ⌜ r ≡ codesListed (now (s .entry)) ⌝ }
+{
+    if !shard_codes(s) {
+        return false;
+    }
+    flags_listed(s, count_at(s, 24, 8))
 }
 
 fn node_at(s: &[u8]) -> Node
