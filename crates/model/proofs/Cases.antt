@@ -2,3 +2,9 @@
 pub mod Starred
 pub mod NearMisses
 pub mod Guards
+pub mod Numbers
+pub mod Commands
+pub mod Placing
+pub mod Full
+pub mod Malformed
+pub mod Bytes

@@ -9,3 +9,4 @@ pub mod Node
 pub mod Layout
 pub mod Starred
 pub mod NearMisses
+pub mod Cases

@@ -1,0 +1,221 @@
+-- Paper 01, 'Who is turned down', 24: for each clause a lent state that just keeps it, and one that just breaks it. That every row holds
+-- is computed in proofs/Cases/Malformed.antt. Definitions only.
+use Prim.Native.Nat.{ℕ, zero, suc, _+_}
+use mathlib.Core.Bool.{Bool, true, false}
+use mathlib.Core.List.{List, [], _∷_, _++_}
+use mathlib.Core.Option.{none, some}
+use lib.Ieee.{Float}
+use lib.ListN.{replicate}
+use Rattle.model.specs.Keys.{Name, Key}
+use Rattle.model.specs.Refusals.{Rejection, older, exists, noCollection, noShard, otherEpoch}
+use Rattle.model.specs.Log.{Log, Entry, Op, upsert, delete, Vectors, ShardReplica}
+use Rattle.model.specs.Map.Tables.{NodeInfo, Collection, ShardInfo, rejected, Session, Map}
+use Rattle.model.specs.Node.Held.{Held, Node}
+use Rattle.model.specs.Starred.{floats}
+use Rattle.model.specs.declared.DataNodeId.{DataNodeId}
+use Rattle.model.specs.declared.Metric.the-variants.{Euclidean}
+use Rattle.model.specs.declared.Peer.{Peer}
+use Rattle.model.specs.declared.Replica.{Replica}
+use Rattle.model.specs.declared.Role.the-variants.{Primary}
+use Rattle.model.specs.Cases.Commands.{node, on, id, shard, session, sized, base, c, d}
+use Rattle.model.specs.Cases.Numbers.{rejections}
+use Rattle.model.specs.Cases.Full.{named, collectionsFrom, shardsFrom, replicasFrom, sizes, only, holding, heldFrom, keeper}
+use Rattle.model.specs.Cases.Placing.{liveTo}
+
+-- a lent state, and whether it is well formed
+pub record Row (A : Type 0) : Type 0 where
+  pub lent : A
+  pub formed : Bool
+
+-- a state that a call takes
+abbrev pub taken : {A : Type 0} → A → Row A
+taken a = record { lent = a; formed = true }
+
+-- a state that a call refuses with 24
+abbrev pub turned : {A : Type 0} → A → Row A
+turned a = record { lent = a; formed = false }
+
+-- ---- the map
+
+-- a text of so many bytes
+abbrev pub text : ℕ → Name
+text n = replicate n 0x63
+
+-- maps of one table each
+abbrev pub withNodes : List NodeInfo → Map
+withNodes ns = record { version = 0; nodes = ns; collections = []; shards = []; sessions = [] }
+
+-- a map of those collections
+abbrev pub withCollections : List Collection → Map
+withCollections cs = record { version = 0; nodes = []; collections = cs; shards = []; sessions = [] }
+
+-- a map of those shards
+abbrev pub withShards : List ShardInfo → Map
+withShards ss = record { version = 0; nodes = []; collections = []; shards = ss; sessions = [] }
+
+-- a map of those clients
+abbrev pub withSessions : List Session → Map
+withSessions ss = record { version = 0; nodes = []; collections = []; shards = []; sessions = ss }
+
+-- a map that remembers one rejection
+abbrev pub remembering : Rejection → Map
+remembering why = withSessions (session 1 1 (rejected why) ∷ [])
+
+-- a shard of nodes 1, 2 and 3, with those in sync
+abbrev pub syncing : List DataNodeId → Map
+syncing ds = withShards (shard only (on 1 1 ∷ on 2 1 ∷ on 3 1 ∷ []) 1 ds ∷ [])
+
+-- 'a count over its limit'
+abbrev pub counts : List (Row Map)
+counts =
+    taken base
+    ∷ taken (sizes 32 (collectionsFrom 0x21 16) (shardsFrom 0x21 0 64) 64)
+    ∷ turned (sizes 33 [] [] 1)
+    ∷ turned (sizes 1 (collectionsFrom 0x21 17) [] 1)
+    ∷ turned (sizes 1 [] (shardsFrom 0x21 0 65) 1)
+    ∷ turned (sizes 1 [] [] 65)
+    ∷ taken (holding 8)
+    ∷ turned (holding 9)
+    ∷ taken (withNodes (node 1 (text 64) 1 true ∷ []))
+    ∷ turned (withNodes (node 1 (text 65) 1 true ∷ []))
+    ∷ taken (withCollections (record { name = text 32; spec = sized 0 0 0 } ∷ []))
+    ∷ turned (withCollections (record { name = text 33; spec = sized 1 1 1 } ∷ []))
+    ∷ taken (withShards (shard (record { collection = text 32; shard = 0 }) [] 1 [] ∷ []))
+    ∷ turned (withShards (shard (record { collection = text 33; shard = 0 }) [] 1 [] ∷ []))
+    ∷ []
+
+-- 'sorted keys that do not rise', each table and the in-sync nodes; names by their bytes, then the shorter first
+abbrev pub orders : List (Row Map)
+orders =
+    turned (withNodes (node 2 [] 1 true ∷ node 1 [] 1 true ∷ []))
+    ∷ turned (withNodes (node 2 [] 1 true ∷ node 2 [] 2 true ∷ []))
+    ∷ taken (withCollections (record { name = c; spec = sized 1 1 1 } ∷ record { name = 0x63 ∷ 0x20 ∷ []; spec = sized 1 1 1 } ∷ record { name = d; spec = sized 1 1 1 } ∷ []))
+    ∷ turned (withCollections (record { name = d; spec = sized 1 1 1 } ∷ record { name = c; spec = sized 1 1 1 } ∷ []))
+    ∷ turned (withCollections (record { name = d; spec = sized 1 1 1 } ∷ record { name = d; spec = sized 1 1 1 } ∷ []))
+    ∷ taken (withShards (shard (record { collection = c; shard = 9 }) [] 1 [] ∷ shard (record { collection = d; shard = 0 }) [] 1 [] ∷ []))
+    ∷ turned (withShards (shard (record { collection = c; shard = 9 }) [] 1 [] ∷ shard (record { collection = c; shard = 9 }) [] 1 [] ∷ []))
+    ∷ turned (withShards (shard (record { collection = c; shard = 9 }) [] 1 [] ∷ shard (record { collection = c; shard = 8 }) [] 1 [] ∷ []))
+    ∷ turned (withSessions (session 2 1 (rejected (exists [])) ∷ session 1 1 (rejected (exists [])) ∷ []))
+    ∷ taken (syncing (id 1 ∷ id 2 ∷ id 3 ∷ []))
+    ∷ turned (syncing (id 2 ∷ id 1 ∷ []))
+    ∷ turned (syncing (id 2 ∷ id 2 ∷ []))
+    ∷ []
+
+-- 'an in-sync node that is not a holder'; none in sync is none that is not
+abbrev pub inSync : List (Row Map)
+inSync = turned (syncing (id 1 ∷ id 4 ∷ [])) ∷ taken (syncing []) ∷ []
+
+-- 'an unlisted code': of a remembered reason all but 1 are listed; a name among its operands keeps its limit
+abbrev pub reasons : List Bool
+reasons = false ∷ replicate 15 true
+
+-- names among the operands
+abbrev pub operands : List (Row Map)
+operands =
+    taken (remembering (exists (text 32)))
+    ∷ turned (remembering (exists (text 33)))
+    ∷ taken (remembering (noCollection (text 32)))
+    ∷ turned (remembering (noCollection (text 33)))
+    ∷ taken (remembering (noShard (record { collection = text 32; shard = 0 })))
+    ∷ turned (remembering (noShard (record { collection = text 33; shard = 0 })))
+    ∷ taken (remembering (otherEpoch (record { collection = text 32; shard = 0 }) 1 2))
+    ∷ turned (remembering (otherEpoch (record { collection = text 33; shard = 0 }) 1 2))
+    ∷ []
+
+-- ---- a node's header
+
+-- rows of so many peers, from a number on, each with that ack
+abbrev pub peersFrom : (acked node count : ℕ) → List Peer
+peersFrom a k zero = []
+peersFrom a k (suc n) =
+    record {
+      node = record { 0 = k };
+      acked = record { 0 = a };
+      aligned = false;
+      behind = false;
+      since = 0;
+      proposing = false;
+      member = false;
+    }
+    ∷ peersFrom a (suc k) n
+
+-- a node with one shard: its name, its holders, how many entries its log has, its peers
+abbrev pub heading : Name → List Replica → (entries : ℕ) → List Peer → Node
+heading name hs n ps = record {
+  id = 1;
+  incarnation = 1;
+  expiry = none;
+  version = 0;
+  held =
+      record {
+        key = record { collection = name; shard = 0 };
+        replica = record { epoch = 1; metric = Euclidean; log = replicate n (record { epoch = 1; offset = 0; op = delete 0 }); vectors = [] };
+        holders = hs;
+        role = Primary (record { 0 = 1 }) (record { 0 = 0 });
+        own = true;
+        peers = ps;
+      }
+      ∷ [];
+}
+
+-- counts, keys that rise, acks up to 2^62
+abbrev pub headers : List (Row Node)
+headers =
+    taken (keeper 8)
+    ∷ turned (keeper 9)
+    ∷ turned (record { id = 1; incarnation = 1; expiry = none; version = 0; held = heldFrom 1 1 ++ heldFrom 0 1 })
+    ∷ taken (heading (text 32) (replicasFrom 1 8) 1024 (peersFrom 4611686018427387904 1 32))
+    ∷ turned (heading (text 33) [] 0 [])
+    ∷ turned (heading [] (replicasFrom 1 9) 0 [])
+    ∷ turned (heading [] [] 1025 [])
+    ∷ turned (heading [] [] 0 (peersFrom 0 1 33))
+    ∷ turned (heading [] [] 0 (peersFrom 4611686018427387905 1 1))
+    ∷ turned (heading [] [] 0 (peersFrom 0 2 1 ++ peersFrom 0 1 1))
+    ∷ turned (heading [] [] 0 (peersFrom 0 2 1 ++ peersFrom 0 2 1))
+    ∷ []
+
+-- ---- a log and its vectors
+
+-- a replica at epoch 1
+abbrev pub replicaOf : Log → Vectors → ShardReplica
+replicaOf l vs = record { epoch = 1; metric = Euclidean; log = l; vectors = vs }
+
+-- the entry at an offset that sets a vector, by its bits; one that deletes
+abbrev pub sets : (offset id : ℕ) → List ℕ → Entry
+sets o n bits = record { epoch = 1; offset = o; op = upsert n (floats bits) }
+
+-- the entry at an offset that deletes
+abbrev pub deletes : (offset id : ℕ) → Entry
+deletes o n = record { epoch = 1; offset = o; op = delete n }
+
+-- a log of one entry that sets id 7, with the table that follows
+abbrev pub vectorOf : List ℕ → ShardReplica
+vectorOf bits = replicaOf (sets 1 7 bits ∷ []) (record { id = 7; components = floats bits } ∷ [])
+
+-- offsets 1, 2, 3; components up to 2^32, which is 4F800000; 1 to 32 of them; the table that the log plays, by rising id
+abbrev pub logs : List (Row ShardReplica)
+logs =
+    taken (replicaOf [] [])
+    ∷ taken (replicaOf (deletes 1 7 ∷ deletes 2 7 ∷ []) [])
+    ∷ turned (replicaOf (deletes 0 7 ∷ []) [])
+    ∷ turned (replicaOf (deletes 1 7 ∷ deletes 3 7 ∷ []) [])
+    ∷ taken (vectorOf (0x4F800000 ∷ 0xCF800000 ∷ []))
+    ∷ turned (vectorOf (0x4F800001 ∷ []))
+    ∷ turned (vectorOf (0 ∷ 0xCF800001 ∷ []))
+    ∷ turned (vectorOf (0x7F800000 ∷ []))
+    ∷ turned (vectorOf (0x7FC00000 ∷ []))
+    ∷ turned (vectorOf [])
+    ∷ taken (vectorOf (replicate 32 0))
+    ∷ turned (vectorOf (replicate 33 0))
+    ∷ turned (replicaOf (sets 1 7 (0 ∷ []) ∷ []) [])
+    ∷ turned (replicaOf [] (record { id = 7; components = floats (0 ∷ []) } ∷ []))
+    ∷ turned (replicaOf (sets 1 7 (0 ∷ []) ∷ []) (record { id = 8; components = floats (0 ∷ []) } ∷ []))
+    ∷ turned (replicaOf (sets 1 7 (0 ∷ []) ∷ []) (record { id = 7; components = floats (0x80000000 ∷ []) } ∷ []))
+    ∷ turned (replicaOf (sets 1 7 (0 ∷ []) ∷ []) (record { id = 7; components = floats (0 ∷ 0 ∷ []) } ∷ []))
+    ∷ taken
+    (replicaOf (sets 1 7 (0 ∷ []) ∷ sets 2 5 (0 ∷ []) ∷ [])
+    (record { id = 5; components = floats (0 ∷ []) } ∷ record { id = 7; components = floats (0 ∷ []) } ∷ []))
+    ∷ turned
+    (replicaOf (sets 1 7 (0 ∷ []) ∷ sets 2 5 (0 ∷ []) ∷ [])
+    (record { id = 7; components = floats (0 ∷ []) } ∷ record { id = 5; components = floats (0 ∷ []) } ∷ []))
+    ∷ []
