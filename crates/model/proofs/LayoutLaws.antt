@@ -4,3 +4,4 @@ pub mod Formats
 pub mod Data
 pub mod Messages
 pub mod Requests
+pub mod ShardOf

@@ -4,4 +4,7 @@ pub mod Orders
 pub mod Sessions
 pub mod Sets
 pub mod Shards
+pub mod Lightest
+pub mod Placements
+pub mod Replacements
 pub mod WellFormed

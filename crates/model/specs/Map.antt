@@ -3,5 +3,6 @@ pub mod Change
 pub mod Create
 pub mod Apply
 pub mod Place
+pub mod Lightest
 pub mod WellFormed
 pub mod Calls

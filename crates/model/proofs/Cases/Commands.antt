@@ -1,6 +1,5 @@
 -- Paper 01, 'Who is turned down', Apply: the map of the cases is the one that its requests make, and every row holds, computed by the
 -- checker. Assumes nothing.
-use Prim.Native.Nat.{ℕ}
 use mathlib.Core.Path.{_≡_, refl}
 use mathlib.Core.List.{List, map}
 use Rattle.model.specs.Limits.{maxU64}
@@ -9,12 +8,12 @@ use Rattle.model.specs.Map.Tables.{emptyMap, refused}
 use Rattle.model.specs.Map.Change.{promote, decideChange, accepts, rejects}
 use Rattle.model.specs.Map.Apply.{Applied, apply}
 use Rattle.model.specs.NearMisses.{after}
-use Rattle.model.specs.Cases.Commands.{Row, begun, base, creating, ofNodes, lacking, changing, again, atEpoch}
+use Rattle.model.specs.Cases.Commands.{Row, built, base, creating, ofNodes, lacking, changing, again, atEpoch}
 use Rattle.model.proofs.Opened.{opened}
 
-pub begun-makes-base : after emptyMap begun ≡ base
+pub built-is-base : after emptyMap built ≡ base
 unfolding opened
-begun-makes-base = refl
+built-is-base = refl
 
 -- what the map answers, and what the table says
 abbrev answered : List Row → List Applied

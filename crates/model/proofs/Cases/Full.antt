@@ -1,5 +1,4 @@
 -- Paper 01, 'Who is turned down', 23: each limit is met, and refuses one past it, computed by the checker. Assumes nothing.
-use Prim.Native.Nat.{ℕ}
 use mathlib.Core.Path.{_≡_, refl}
 use mathlib.Core.Bool.{true}
 use mathlib.Core.List.{List, [], _∷_, map}
@@ -12,7 +11,7 @@ use Rattle.model.specs.Layout.Message.{replyStored, replyAdopted}
 use Rattle.model.specs.Node.Client.{writeHeld, accepted, writeRefused}
 use Rattle.model.specs.Node.Backup.{replied, backupRefused, replicateHeld, copyHeld, onNewEpoch}
 use Rattle.model.specs.declared.Metric.the-variants.{Euclidean}
-use Rattle.model.specs.Cases.Full.{Row, clients, nodes, collections, shards, replicas, logged, leading, entryAt, keeper}
+use Rattle.model.specs.Cases.Full.{Row, clients, nodes, collections, shards, replicas, logged, leading, deleteAt, keeper}
 use Rattle.model.proofs.Opened.{opened}
 
 abbrev answered : List Row → List Answer
@@ -59,15 +58,15 @@ pub replicate-1025 : replicateHeld 1 1025 (delete 0) (logged 1024) .answer ≡ b
 unfolding opened
 replicate-1025 = refl
 
-pub copy-1024 : copyHeld 1 (entryAt 1023 ∷ entryAt 1024 ∷ []) (logged 1022) .answer ≡ replied (replyStored 1024)
+pub copy-1024 : copyHeld 1 (deleteAt 1023 ∷ deleteAt 1024 ∷ []) (logged 1022) .answer ≡ replied (replyStored 1024)
 unfolding opened
 copy-1024 = refl
 
-pub copy-1025 : copyHeld 1 (entryAt 1024 ∷ entryAt 1025 ∷ []) (logged 1023) .answer ≡ backupRefused noRoom
+pub copy-1025 : copyHeld 1 (deleteAt 1024 ∷ deleteAt 1025 ∷ []) (logged 1023) .answer ≡ backupRefused noRoom
 unfolding opened
 copy-1025 = refl
 
-pub copy-1025-kept : length (copyHeld 1 (entryAt 1024 ∷ entryAt 1025 ∷ []) (logged 1023) .after .replica .log) ≡ 1023
+pub copy-1025-kept : length (copyHeld 1 (deleteAt 1024 ∷ deleteAt 1025 ∷ []) (logged 1023) .after .replica .log) ≡ 1023
 unfolding opened
 copy-1025-kept = refl
 

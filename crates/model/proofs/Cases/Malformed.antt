@@ -1,4 +1,4 @@
--- Paper 01, 'Who is turned down', 24: every row of the table holds, computed by the checker. Assumes nothing.
+-- Paper 01, 'Who is broken down', 24: every row of the table holds, computed by the checker. Assumes nothing.
 use mathlib.Core.Path.{_≡_, refl}
 use mathlib.Core.Bool.{Bool}
 use mathlib.Core.List.{List, map}
@@ -13,7 +13,7 @@ abbrev said : {A : Type 0} → (A → Bool) → List (Row A) → List Bool
 said formed rows = map (λ r. formed (r .lent)) rows
 
 abbrev expected : {A : Type 0} → List (Row A) → List Bool
-expected rows = map (λ r. r .formed) rows
+expected rows = map (λ r. r .well) rows
 
 pub counts-hold : said wellFormedMap counts ≡ expected counts
 unfolding opened

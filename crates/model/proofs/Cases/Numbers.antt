@@ -1,8 +1,7 @@
 -- Paper 01: every limit, every number of a rejection or a refusal and every row of `shard_of` is as the table has it, computed by the
 -- checker. Assumes nothing.
-use Prim.Native.Nat.{ℕ}
 use mathlib.Core.Path.{_≡_, refl}
-use mathlib.Core.List.{List, map}
+use mathlib.Core.List.{map}
 use Rattle.model.specs.Refusals.{reasonOf, numberOf}
 use Rattle.model.specs.Layout.ShardOf.{shardOf, mixed}
 use Rattle.model.specs.Cases.Numbers.{ofMap, ofOthers, rejections, oneToSixteen, refusals, seventeenOn, spread}

@@ -14,7 +14,7 @@ use Rattle.model.specs.Refusals.{Rejection, older, Refusal, noRoom}
 use Rattle.model.specs.Map.Tables.{Outcome, applied, rejected, Session, Map, Answer, outcome, refused}
 use Rattle.model.specs.Map.Change.{accepts, rejects}
 use Rattle.model.specs.Map.Apply.{Applied, apply, applyTo, settle, decide, commit, remembered, sessionAt, isClient, sessionBelow, setsVersion}
-use Rattle.model.specs.Layout.Request.{Request, Command, bench}
+use Rattle.model.specs.Layout.Request.{Request, Command, create, dropCollection, register, markDead, addReplica, removeReplica, promotePrimary, shrinkInSync, expandInSync, bench}
 use mathlib.Core.Logic.{_⊎_, inl, inr}
 use Rattle.model.proofs.Lists.{by-test}
 use Rattle.model.proofs.Map.Rows.{find-put, find-put-other}
@@ -119,6 +119,28 @@ module _ (m : Map) (r : Request) where
       → apply m r .map .version ≡ r .index
   unfolding settle remembered
   version-set way yes′ h = ap (λ (v : Applied). v .map .version) (way ∙ ap (settle m r) yes′) ∙ rw h
+
+-- Bench never sets it
+pub bench-keeps-version : (m : Map) (r : Request) (bs : List ℕ) → r .command ≡ bench bs → apply m r .map .version ≡ m .version
+bench-keeps-version m r bs e = version-kept m r (inr (ap setsVersion e))
+
+-- and of the commands it is the only one that does not
+sets-version : (c : Command) → ((bs : List ℕ) → c ≡ bench bs → ⊥) → setsVersion c ≡ true
+sets-version (create n s p) other = refl
+sets-version (dropCollection n) other = refl
+sets-version (register n a i) other = refl
+sets-version (markDead n i) other = refl
+sets-version (addReplica k n i e) other = refl
+sets-version (removeReplica k n e) other = refl
+sets-version (promotePrimary k n e) other = refl
+sets-version (shrinkInSync k n e) other = refl
+sets-version (expandInSync k n e) other = refl
+sets-version (bench bs) other = absurd (other bs refl)
+
+-- every other command that is decided now and applied sets it to its index
+pub applied-sets-version : (m : Map) (r : Request) → apply m r ≡ settle m r (decide m (r .command)) → decide m (r .command) ≡ accepts
+    → ((bs : List ℕ) → r .command ≡ bench bs → ⊥) → apply m r .map .version ≡ r .index
+applied-sets-version m r way yes′ other = version-set m r way yes′ (sets-version (r .command) other)
 
 -- ---- what is remembered
 

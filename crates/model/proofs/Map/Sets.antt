@@ -132,7 +132,7 @@ module _ {ℓ} {A : Type ℓ} where
       every-cons r y ys (f y (s .0) (t .0)) (every-both p q r f ys (s .1) (t .1))
 
   -- leaving out something that is there makes a list shorter
-  shorter : (p : A → Bool) (l : List A) → any p l ≡ true → length (filter (λ x. not (p x)) l) < length l
+  pub shorter : (p : A → Bool) (l : List A) → any p l ≡ true → length (filter (λ x. not (p x)) l) < length l
   unfolding any filter
   shorter p [] h = not-both false h refl
   shorter p (y ∷ ys) h = go (p y) (shorter p ys) h

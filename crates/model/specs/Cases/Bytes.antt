@@ -4,9 +4,7 @@ use Prim.Native.Nat.{ℕ}
 use mathlib.Core.List.{List, [], _∷_, _++_, flatten}
 use mathlib.Core.Option.{Option, none, some}
 use lib.ListN.{replicate}
-use Rattle.model.specs.Keys.{Name, Key}
-use Rattle.model.specs.Log.{End}
-use Rattle.model.specs.Map.Tables.{Spec}
+use Rattle.model.specs.Keys.{Key}
 use Rattle.model.specs.Layout.Parts.{WireOp, wireUpsert, wireDelete, WireEntry}
 use Rattle.model.specs.Layout.Request.{Command, create, dropCollection, register, markDead, addReplica, removeReplica, promotePrimary, shrinkInSync, expandInSync, bench, Request, encodeRequest, decodeRequest}
 use Rattle.model.specs.Layout.Message.{
@@ -81,16 +79,16 @@ pub record Row : Type 0 where
 -- ---- parts as bytes
 
 -- a number below 256 in eight bytes, least significant first; in four; in two
-abbrev pub u64 : ℕ → List ℕ
-u64 n = n ∷ replicate 7 0
+abbrev pub eight : ℕ → List ℕ
+eight n = n ∷ replicate 7 0
 
 -- in four bytes
-abbrev pub u32 : ℕ → List ℕ
-u32 n = n ∷ replicate 3 0
+abbrev pub four : ℕ → List ℕ
+four n = n ∷ replicate 3 0
 
 -- in two bytes
-abbrev pub u16 : ℕ → List ℕ
-u16 n = n ∷ 0 ∷ []
+abbrev pub two : ℕ → List ℕ
+two n = n ∷ 0 ∷ []
 
 -- the name 'ab': length byte, 32 bytes, of which the unused are zero
 abbrev pub ab : List ℕ
@@ -98,7 +96,7 @@ ab = 2 ∷ 0x61 ∷ 0x62 ∷ replicate 30 0
 
 -- the key of its shard 5
 abbrev pub abKey : List ℕ
-abKey = ab ++ u32 5
+abKey = ab ++ four 5
 
 -- the same as data
 abbrev pub key : Key
@@ -116,7 +114,7 @@ asking c = request (record { index = 0x0807060504030201; client = 2; seq = 3; co
 
 -- its bytes before the command's
 abbrev pub head : List ℕ
-head = 0x01 ∷ 1 ∷ 2 ∷ 3 ∷ 4 ∷ 5 ∷ 6 ∷ 7 ∷ 8 ∷ u64 2 ++ u64 3
+head = 0x01 ∷ 1 ∷ 2 ∷ 3 ∷ 4 ∷ 5 ∷ 6 ∷ 7 ∷ 8 ∷ eight 2 ++ eight 3
 
 -- a command, with its own bytes
 abbrev pub ordered : Command → List ℕ → Row
@@ -127,19 +125,19 @@ abbrev pub commands : List Row
 commands =
     ordered
     (create (0x61 ∷ 0x62 ∷ []) (record { dimension = 7; metric = Angular; shards = 2; replication = 4 }) ((9 ∷ 8 ∷ []) ∷ (6 ∷ []) ∷ []))
-    (0x10 ∷ ab ++ u32 7 ++ (1 ∷ u32 2 ++ u32 4 ++ (2 ∷ 2 ∷ u64 9 ++ u64 8 ++ (1 ∷ u64 6))))
+    (0x10 ∷ ab ++ four 7 ++ (1 ∷ four 2 ++ four 4 ++ (2 ∷ 2 ∷ eight 9 ++ eight 8 ++ (1 ∷ eight 6))))
     ∷ ordered
     (create (0x61 ∷ 0x62 ∷ []) (record { dimension = 7; metric = Euclidean; shards = 2; replication = 4 }) [])
-    (0x10 ∷ ab ++ u32 7 ++ (0 ∷ u32 2 ++ u32 4 ++ (0 ∷ [])))
+    (0x10 ∷ ab ++ four 7 ++ (0 ∷ four 2 ++ four 4 ++ (0 ∷ [])))
     ∷ ordered (dropCollection (0x61 ∷ 0x62 ∷ [])) (0x11 ∷ ab)
-    ∷ ordered (register 9 (0x20 ∷ 0x7E ∷ []) 4) (0x12 ∷ u64 9 ++ (2 ∷ 0x20 ∷ 0x7E ∷ replicate 62 0) ++ u64 4)
-    ∷ ordered (markDead 9 4) (0x13 ∷ u64 9 ++ u64 4)
-    ∷ ordered (addReplica key 9 4 6) (0x14 ∷ abKey ++ u64 9 ++ u64 4 ++ u64 6)
-    ∷ ordered (removeReplica key 9 6) (0x15 ∷ abKey ++ u64 9 ++ u64 6)
-    ∷ ordered (promotePrimary key 9 6) (0x16 ∷ abKey ++ u64 9 ++ u64 6)
-    ∷ ordered (shrinkInSync key 9 6) (0x17 ∷ abKey ++ u64 9 ++ u64 6)
-    ∷ ordered (expandInSync key 9 6) (0x18 ∷ abKey ++ u64 9 ++ u64 6)
-    ∷ ordered (bench (0 ∷ 255 ∷ 7 ∷ [])) (0x19 ∷ u16 3 ++ (0 ∷ 255 ∷ 7 ∷ []))
+    ∷ ordered (register 9 (0x20 ∷ 0x7E ∷ []) 4) (0x12 ∷ eight 9 ++ (2 ∷ 0x20 ∷ 0x7E ∷ replicate 62 0) ++ eight 4)
+    ∷ ordered (markDead 9 4) (0x13 ∷ eight 9 ++ eight 4)
+    ∷ ordered (addReplica key 9 4 6) (0x14 ∷ abKey ++ eight 9 ++ eight 4 ++ eight 6)
+    ∷ ordered (removeReplica key 9 6) (0x15 ∷ abKey ++ eight 9 ++ eight 6)
+    ∷ ordered (promotePrimary key 9 6) (0x16 ∷ abKey ++ eight 9 ++ eight 6)
+    ∷ ordered (shrinkInSync key 9 6) (0x17 ∷ abKey ++ eight 9 ++ eight 6)
+    ∷ ordered (expandInSync key 9 6) (0x18 ∷ abKey ++ eight 9 ++ eight 6)
+    ∷ ordered (bench (0 ∷ 255 ∷ 7 ∷ [])) (0x19 ∷ two 3 ++ (0 ∷ 255 ∷ 7 ∷ []))
     ∷ []
 
 -- ---- 20 to 24, 30 to 33
@@ -150,11 +148,11 @@ put = wireUpsert 3 (0x3F800000 ∷ 0xC0000000 ∷ [])
 
 -- its bytes
 abbrev pub putBytes : List ℕ
-putBytes = 1 ∷ u64 3 ++ twoFloats
+putBytes = 1 ∷ eight 3 ++ twoFloats
 
 -- Op 2: id 3
 abbrev pub removed : List ℕ
-removed = 2 ∷ u64 3
+removed = 2 ∷ eight 3
 
 -- an entry that deletes id 3
 abbrev pub entry : WireEntry
@@ -165,11 +163,11 @@ abbrev pub messages : List Row
 messages =
     record {
       message = replicated (record { key = key; epoch = 6; offset = 4; op = put });
-      bytes = 0x20 ∷ abKey ++ u64 6 ++ u64 4 ++ putBytes;
+      bytes = 0x20 ∷ abKey ++ eight 6 ++ eight 4 ++ putBytes;
     }
     ∷ record {
       message = newEpoch (record { key = key; epoch = 6; end = 4; table = upTo 1 2 ∷ upTo 5 4 ∷ []; metric = Angular });
-      bytes = 0x21 ∷ abKey ++ u64 6 ++ u64 4 ++ u16 2 ++ u64 1 ++ u64 2 ++ u64 5 ++ u64 4 ++ (1 ∷ []);
+      bytes = 0x21 ∷ abKey ++ eight 6 ++ eight 4 ++ two 2 ++ eight 1 ++ eight 2 ++ eight 5 ++ eight 4 ++ (1 ∷ []);
     }
     ∷ record {
       message =
@@ -179,17 +177,17 @@ messages =
             epoch = 6;
             entries = entry ∷ record { epoch = 5; offset = 4; op = put } ∷ [];
           });
-      bytes = 0x22 ∷ abKey ++ u64 6 ++ u16 2 ++ u64 1 ++ u64 2 ++ removed ++ u64 5 ++ u64 4 ++ putBytes;
+      bytes = 0x22 ∷ abKey ++ eight 6 ++ two 2 ++ eight 1 ++ eight 2 ++ removed ++ eight 5 ++ eight 4 ++ putBytes;
     }
-    ∷ record { message = write (record { key = key; epoch = 6; op = wireDelete 3 }); bytes = 0x23 ∷ abKey ++ u64 6 ++ removed }
+    ∷ record { message = write (record { key = key; epoch = 6; op = wireDelete 3 }); bytes = 0x23 ∷ abKey ++ eight 6 ++ removed }
     ∷ record {
       message = query (record { key = key; epoch = 6; k = 4; bits = 0x3F800000 ∷ 0xC0000000 ∷ [] });
-      bytes = 0x24 ∷ abKey ++ u64 6 ++ u32 4 ++ twoFloats;
+      bytes = 0x24 ∷ abKey ++ eight 6 ++ four 4 ++ twoFloats;
     }
-    ∷ record { message = reply (replyStored 7); bytes = 0x30 ∷ u64 7 }
-    ∷ record { message = reply (replyGap 7); bytes = 0x31 ∷ u64 7 }
-    ∷ record { message = reply (replyStale 7); bytes = 0x32 ∷ u64 7 }
-    ∷ record { message = reply (replyAdopted 7); bytes = 0x33 ∷ u64 7 }
+    ∷ record { message = reply (replyStored 7); bytes = 0x30 ∷ eight 7 }
+    ∷ record { message = reply (replyGap 7); bytes = 0x31 ∷ eight 7 }
+    ∷ record { message = reply (replyStale 7); bytes = 0x32 ∷ eight 7 }
+    ∷ record { message = reply (replyAdopted 7); bytes = 0x33 ∷ eight 7 }
     ∷ []
 
 -- ---- limits
@@ -198,17 +196,17 @@ messages =
 abbrev pub atLimit : List Row
 atLimit =
     ordered (dropCollection (replicate 32 0x7E)) (0x11 ∷ 32 ∷ replicate 32 0x7E)
-    ∷ ordered (register 9 (replicate 64 0x20) 4) (0x12 ∷ u64 9 ++ (64 ∷ replicate 64 0x20) ++ u64 4)
+    ∷ ordered (register 9 (replicate 64 0x20) 4) (0x12 ∷ eight 9 ++ (64 ∷ replicate 64 0x20) ++ eight 4)
     ∷ ordered
     (create (0x61 ∷ 0x62 ∷ []) (record { dimension = 7; metric = Euclidean; shards = 2; replication = 4 }) (replicate 16 []))
-    (0x10 ∷ ab ++ u32 7 ++ (0 ∷ u32 2 ++ u32 4 ++ (16 ∷ replicate 16 0)))
+    (0x10 ∷ ab ++ four 7 ++ (0 ∷ four 2 ++ four 4 ++ (16 ∷ replicate 16 0)))
     ∷ ordered
     (create (0x61 ∷ 0x62 ∷ []) (record { dimension = 7; metric = Euclidean; shards = 2; replication = 4 }) (replicate 8 0 ∷ []))
-    (0x10 ∷ ab ++ u32 7 ++ (0 ∷ u32 2 ++ u32 4 ++ (1 ∷ 8 ∷ replicate 64 0)))
+    (0x10 ∷ ab ++ four 7 ++ (0 ∷ four 2 ++ four 4 ++ (1 ∷ 8 ∷ replicate 64 0)))
     ∷ ordered (bench (replicate 1024 0)) (0x19 ∷ 0 ∷ 4 ∷ replicate 1024 0)
     ∷ record {
       message = query (record { key = key; epoch = 6; k = 4; bits = replicate 32 0 });
-      bytes = 0x24 ∷ abKey ++ u64 6 ++ u32 4 ++ (32 ∷ replicate 128 0);
+      bytes = 0x24 ∷ abKey ++ eight 6 ++ four 4 ++ (32 ∷ replicate 128 0);
     }
     ∷ []
 
@@ -245,24 +243,24 @@ aNewEpoch = newEpoch (record { key = key; epoch = 6; end = 4; table = []; metric
 abbrev pub undecoded : List Row
 undecoded =
     unread aRequest (head ++ (0x11 ∷ 33 ∷ replicate 33 0x63))
-    ∷ unread aRequest (head ++ (0x12 ∷ u64 9 ++ (65 ∷ replicate 65 0x20) ++ u64 4))
+    ∷ unread aRequest (head ++ (0x12 ∷ eight 9 ++ (65 ∷ replicate 65 0x20) ++ eight 4))
     ∷ unread aRequest (head ++ (0x11 ∷ 1 ∷ 0x1F ∷ replicate 31 0))
     ∷ unread aRequest (head ++ (0x11 ∷ 1 ∷ 0x7F ∷ replicate 31 0))
     ∷ unread aRequest (head ++ (0x11 ∷ 1 ∷ 0x63 ∷ 0x63 ∷ replicate 30 0))
-    ∷ unread aRequest (head ++ (0x10 ∷ ab ++ u32 7 ++ (0 ∷ u32 2 ++ u32 4 ++ (17 ∷ replicate 17 0))))
-    ∷ unread aRequest (head ++ (0x10 ∷ ab ++ u32 7 ++ (0 ∷ u32 2 ++ u32 4 ++ (1 ∷ 9 ∷ replicate 72 0))))
-    ∷ unread aRequest (head ++ (0x10 ∷ ab ++ u32 7 ++ (2 ∷ u32 2 ++ u32 4 ++ (0 ∷ []))))
+    ∷ unread aRequest (head ++ (0x10 ∷ ab ++ four 7 ++ (0 ∷ four 2 ++ four 4 ++ (17 ∷ replicate 17 0))))
+    ∷ unread aRequest (head ++ (0x10 ∷ ab ++ four 7 ++ (0 ∷ four 2 ++ four 4 ++ (1 ∷ 9 ∷ replicate 72 0))))
+    ∷ unread aRequest (head ++ (0x10 ∷ ab ++ four 7 ++ (2 ∷ four 2 ++ four 4 ++ (0 ∷ []))))
     ∷ unread aRequest (head ++ (0x19 ∷ 1 ∷ 4 ∷ replicate 1025 0))
     ∷ unread aRequest (head ++ (0x1A ∷ []))
     ∷ unread aRequest (head ++ (0x0F ∷ []))
-    ∷ unread aRequest (head ++ (0x19 ∷ u16 1))
-    ∷ unread aRequest (head ++ (0x19 ∷ u16 1 ++ (0 ∷ 0 ∷ [])))
-    ∷ unread aQuery (0x24 ∷ abKey ++ u64 6 ++ u32 4 ++ (0 ∷ []))
-    ∷ unread aQuery (0x24 ∷ abKey ++ u64 6 ++ u32 4 ++ (33 ∷ replicate 132 0))
-    ∷ unread aQuery (0x25 ∷ abKey ++ u64 6 ++ u32 4 ++ twoFloats)
-    ∷ unread aCopy (0x22 ∷ abKey ++ u64 6 ++ u16 1 ++ u64 1 ++ u64 2 ++ (3 ∷ u64 3))
-    ∷ unread aCopy (0x22 ∷ abKey ++ u64 6 ++ (1 ∷ 1 ∷ flatten (replicate 257 (u64 1 ++ u64 2 ++ removed))))
-    ∷ unread aNewEpoch (0x21 ∷ abKey ++ u64 6 ++ u64 4 ++ (1 ∷ 4 ∷ replicate 16401 0))
-    ∷ unread (reply (replyStored 0)) (0x34 ∷ u64 7)
-    ∷ unread (reply (replyStored 0)) (0x2F ∷ u64 7)
+    ∷ unread aRequest (head ++ (0x19 ∷ two 1))
+    ∷ unread aRequest (head ++ (0x19 ∷ two 1 ++ (0 ∷ 0 ∷ [])))
+    ∷ unread aQuery (0x24 ∷ abKey ++ eight 6 ++ four 4 ++ (0 ∷ []))
+    ∷ unread aQuery (0x24 ∷ abKey ++ eight 6 ++ four 4 ++ (33 ∷ replicate 132 0))
+    ∷ unread aQuery (0x25 ∷ abKey ++ eight 6 ++ four 4 ++ twoFloats)
+    ∷ unread aCopy (0x22 ∷ abKey ++ eight 6 ++ two 1 ++ eight 1 ++ eight 2 ++ (3 ∷ eight 3))
+    ∷ unread aCopy (0x22 ∷ abKey ++ eight 6 ++ (1 ∷ 1 ∷ flatten (replicate 257 (eight 1 ++ eight 2 ++ removed))))
+    ∷ unread aNewEpoch (0x21 ∷ abKey ++ eight 6 ++ eight 4 ++ (1 ∷ 4 ∷ replicate 16401 0))
+    ∷ unread (reply (replyStored 0)) (0x34 ∷ eight 7)
+    ∷ unread (reply (replyStored 0)) (0x2F ∷ eight 7)
     ∷ []

@@ -6,29 +6,8 @@ use mathlib.Core.Bool.{Bool, true, false}
 use mathlib.Core.List.{List, [], _∷_}
 use mathlib.Core.Option.{some}
 use Rattle.model.specs.Keys.{Name, Key}
-use Rattle.model.specs.Limits.{maxU64}
-use Rattle.model.specs.Refusals.{
-  Rejection,
-  older,
-  exists,
-  zeroSpec,
-  placementMismatch,
-  notAlive,
-  noCollection,
-  knownIncarnation,
-  notAtIncarnation,
-  noShard,
-  otherEpoch,
-  alreadyHeld,
-  removesPrimary,
-  notHeld,
-  notInSync,
-  shrinksPrimary,
-  alreadyInSync,
-  Refusal,
-  lastEpoch,
-}
-use Rattle.model.specs.Map.Tables.{NodeInfo, Spec, Collection, ShardInfo, Outcome, applied, rejected, Session, Map, Answer, outcome, refused}
+use Rattle.model.specs.Refusals.{Rejection, older, exists, zeroSpec, placementMismatch, notAlive, noCollection, knownIncarnation, notAtIncarnation, noShard, otherEpoch, alreadyHeld, removesPrimary, notHeld, notInSync, shrinksPrimary, alreadyInSync}
+use Rattle.model.specs.Map.Tables.{NodeInfo, Spec, Collection, ShardInfo, Outcome, applied, rejected, Session, Map, Answer, outcome}
 use Rattle.model.specs.Map.Apply.{Applied}
 use Rattle.model.specs.Layout.Request.{Command, create, dropCollection, register, markDead, addReplica, removeReplica, promotePrimary, shrinkInSync, expandInSync, bench, Request}
 use Rattle.model.specs.declared.DataNodeId.{DataNodeId}
@@ -80,8 +59,8 @@ abbrev pub part : ℕ → Key
 part n = record { collection = c; shard = n }
 
 -- four nodes, of which 3 is dead; 'c' with a shard on 2 and 1, of which only 2 is in sync, and one that lists node 4 twice
-abbrev pub begun : List Request
-begun =
+abbrev pub built : List Request
+built =
     from 9 11 1 (register 4 [] 7)
     ∷ from 9 12 2 (register 1 (0x61 ∷ []) 4)
     ∷ from 9 13 3 (register 3 [] 6)

@@ -1,16 +1,15 @@
 -- Paper 01, 'Who is turned down', 23: each limit of the map and of the log met exactly, and passed by one. That every row holds is
 -- computed in proofs/Cases/Full.antt. Definitions only.
 use Prim.Native.Nat.{ℕ, zero, suc}
-use mathlib.Core.Bool.{Bool, true, false}
+use mathlib.Core.Bool.{true}
 use mathlib.Core.List.{List, [], _∷_}
-use mathlib.Core.Option.{none, some}
+use mathlib.Core.Option.{none}
 use lib.ListN.{replicate}
 use Rattle.model.specs.Keys.{Key}
 use Rattle.model.specs.Refusals.{exists, zeroSpec, placementMismatch, notAlive, knownIncarnation, alreadyHeld, older, noRoom}
 use Rattle.model.specs.Log.{Entry, delete}
-use Rattle.model.specs.Map.Tables.{NodeInfo, Collection, ShardInfo, applied, rejected, Session, Map, Answer, outcome, refused}
+use Rattle.model.specs.Map.Tables.{Collection, ShardInfo, applied, rejected, Session, Map, Answer, outcome, refused}
 use Rattle.model.specs.Layout.Request.{Command, create, register, addReplica, bench, Request}
-use Rattle.model.specs.Layout.Message.{Reply, replyStored, replyAdopted}
 use Rattle.model.specs.Node.Held.{Held, Node}
 use Rattle.model.specs.Node.Shards.{begun}
 use Rattle.model.specs.Starred.{backupAt}
@@ -140,8 +139,8 @@ leading n = record {
 }
 
 -- an entry at an offset
-abbrev pub entryAt : ℕ → Entry
-entryAt o = record { epoch = 1; offset = o; op = delete 0 }
+abbrev pub deleteAt : ℕ → Entry
+deleteAt o = record { epoch = 1; offset = o; op = delete 0 }
 
 -- ---- the node: 8 shards
 

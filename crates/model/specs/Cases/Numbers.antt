@@ -148,17 +148,17 @@ seventeenOn = 17 ∷ 18 ∷ 19 ∷ 20 ∷ 21 ∷ 22 ∷ 23 ∷ 24 ∷ 25 ∷ 26 
 -- ---- shard_of
 
 -- an id of a collection with so many shards, and the shard that holds it
-pub record Held : Type 0 where
+pub record Spread : Type 0 where
   pub id : ℕ
   pub shards : ℕ
   pub shard : ℕ
 
 -- a row
-abbrev pub at : (id shards shard : ℕ) → Held
+abbrev pub at : (id shards shard : ℕ) → Spread
 at id shards shard = record { id = id; shards = shards; shard = shard }
 
 -- the Rust's answers (oracle/stored/shardof): few shards and many, none, the ends of the ids
-abbrev pub spread : List Held
+abbrev pub spread : List Spread
 spread =
     at 0 2 1
     ∷ at 3 0 0

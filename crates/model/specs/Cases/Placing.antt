@@ -1,9 +1,8 @@
 -- Paper 01, 'Place' (state.rs, place and replacement): one small map, and where it puts new replicas. That every row holds is computed in
 -- proofs/Cases/Placing.antt. Definitions only.
 use Prim.Native.Nat.{ℕ, zero, suc}
-use mathlib.Core.Bool.{Bool, true, false}
+use mathlib.Core.Bool.{true, false}
 use mathlib.Core.List.{List, [], _∷_}
-use lib.ListN.{replicate}
 use Rattle.model.specs.Keys.{Key}
 use Rattle.model.specs.Refusals.{noRoom}
 use Rattle.model.specs.Map.Tables.{NodeInfo, Spec, Map}
