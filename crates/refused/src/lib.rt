@@ -15,6 +15,22 @@ pub fn next_count(n: u32) -> u32
     if n < 4294967295 { n + 1 } else { n }
 }
 
+// One more refused call, in place.
+pub fn count_refused(r: &mut Refused)
+    ensures { λ _. ⌜ now (r .exit) .count ≡ bumped (now (r .entry) .count) ⌝ }
+{
+    r.count = next_count(r.count);
+}
+
+// One more, through a record that is made for it and lent.
+pub fn one_more(n: u32) -> u32
+    ensures { λ r. ⌜ r ≡ bumped n ⌝ }
+{
+    let mut r = Refused { count: n };
+    count_refused(&mut r);
+    r.count
+}
+
 // The count after a call that was answered by that refusal's number, 0 where it was not refused.
 pub fn counted(n: u32, number: u8) -> u32
     ensures { λ r. ⌜ r ≡ after n number ⌝ }
@@ -22,12 +38,5 @@ pub fn counted(n: u32, number: u8) -> u32
     if number == 0 {
         return n;
     }
-    next_count(n)
-}
-
-// One more refused call, in place.
-pub fn count_refused(r: &mut Refused)
-    ensures { λ _. ⌜ now (r .exit) .count ≡ bumped (now (r .entry) .count) ⌝ }
-{
-    r.count = next_count(r.count);
+    one_more(n)
 }
