@@ -1,3 +1,4 @@
+pub mod AnyRoot
 pub mod Floats
 pub mod Roots
 pub mod Scale

@@ -97,8 +97,8 @@ fn near_root(n: u64, g: u64) -> u64
     lowered(n, raised(n, q))
 }
 
-// Internal: IEEE 754's square root of a finite float with a plus sign, as every sum of squares in the domain is.
-pub fn sqrt_f32(x: f32) -> f32
+// The root of a finite float with a plus sign, as every sum of squares in the domain is.
+fn plus_root(x: f32) -> f32
     requires { ⌜ T (rootable x) ⌝ }
     ensures { λ r. ⌜ r ≡ sqrt binary32 x ⌝ }
 {
@@ -111,4 +111,25 @@ pub fn sqrt_f32(x: f32) -> f32
     let j = d.power;
     let q = near_root(radicand(m, j), guess(m, j));
     f32::from_bits((j / 2 - 1) * 8388608 + (q as u32))
+}
+
+// Internal: IEEE 754's squareRoot of any float: plus infinity and minus zero are their own roots, and a NaN or a float
+// below zero has none but a NaN.
+pub fn sqrt_f32(x: f32) -> f32
+    ensures { λ r. ⌜ r ≡ sqrt binary32 x ⌝ }
+{
+    if x != x {
+        return x;
+    }
+    let b = f32::to_bits(x);
+    if b < 0x7f80_0000 {
+        return plus_root(x);
+    }
+    if b == 0x7f80_0000 {
+        return x;
+    }
+    if b == 0x8000_0000 {
+        return x;
+    }
+    0.0 / 0.0
 }

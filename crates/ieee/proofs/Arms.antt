@@ -6,7 +6,7 @@ use lib.Dec.{T}
 use lib.Ieee.{Float, binary32, sub, mul, div, eq, ofBits, isNan}
 use Rattle.model.specs.declared.Metric.{Metric}
 use Rattle.model.specs.declared.Metric.the-variants.{Euclidean, Angular}
-use Rattle.model.specs.Nearest.Root.{sqrt, rootable}
+use Rattle.model.specs.Nearest.Root.{sqrt}
 use Rattle.model.specs.Nearest.Distance.{squares, dot, norm, angle, one, plusZero, distance, Bounded}
 use Rattle.model.proofs.Nearest.NoNan.{distance-no-nan}
 
@@ -50,10 +50,6 @@ angle-other x d n m e h =
 pub measured : (m : Metric) (q v : List Float) (r : Float) → Bounded q → Bounded v → r ≡ distance m q v
     → (r ≡ distance m q v) × T (not (isNan r))
 measured m q v r a b e = (e, subst (λ (x : Float). T (not (isNan x))) (sym e) (distance-no-nan m q v a b))
-
--- what equals the products of one vector with itself has a root where they have one
-pub own-root : (o : Float) (v : List Float) → o ≡ dot v v → T (rootable (dot v v)) → T (rootable o)
-own-root o v e h = subst (λ (x : Float). T (rootable x)) (sym e) h
 
 -- a distance from its sums
 pub euclid-made : (m : Metric) (q v : List Float) (a r : Float) → m ≡ Euclidean → a ≡ squares q v

@@ -1,26 +1,17 @@
 -- One of four distances in step. Assumes nothing.
-use mathlib.Core.Path.{_≡_, sym, subst}
+use mathlib.Core.Path.{_≡_}
 use mathlib.Core.List.{List}
 use Prim.Native.Nat.{ℕ}
-use lib.Dec.{T}
 use lib.Ieee.{Float, binary32, mul}
 use Rattle.model.specs.declared.Metric.{Metric}
 use Rattle.model.specs.declared.Metric.the-variants.{Euclidean, Angular}
-use Rattle.model.specs.Nearest.Root.{sqrt, rootable}
+use Rattle.model.specs.Nearest.Root.{sqrt}
 use Rattle.model.specs.Nearest.Distance.{squares, dot, norm, angle, Bounded}
-use Rattle.model.proofs.Nearest.NoNan.{squares-rootable, norm-rootable}
 use Rattle.ieee.specs.Lanes.{stored, IsDistance}
 use Rattle.ieee.proofs.Arms.{euclid-made, angle-made, measured}
 
 module _ (m : Metric) (query floats : List Float) (p n : ℕ) (asked : Bounded query)
     (held : Bounded (stored floats p n)) where
-  pub sum-rootable : (a : Float) → a ≡ squares query (stored floats p n) → T (rootable a)
-  sum-rootable a e = subst (λ (z : Float). T (rootable z)) (sym e)
-      (squares-rootable query (stored floats p n) asked held)
-
-  pub own-rootable : (a : Float) → a ≡ dot (stored floats p n) (stored floats p n) → T (rootable a)
-  own-rootable a e = subst (λ (z : Float). T (rootable z)) (sym e) (norm-rootable (stored floats p n) held)
-
   pub euclid-lane : (a r : Float) → m ≡ Euclidean → a ≡ squares query (stored floats p n) → r ≡ sqrt binary32 a
       → IsDistance m query floats p n r
   euclid-lane a r k e f =

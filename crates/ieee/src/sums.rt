@@ -1,12 +1,11 @@
 // Paper 01, 'Nearest objects': sums from left to right in f32, each operation rounded, and the distances made of them.
-// Sums over two vectors end with the shorter; a norm is over its whole vector.
+// Sums over two vectors end with the shorter; a norm is over its whole vector. All of it is defined on any floats, as the
+// source's `distance` is: outside the domain a distance may be an infinity or a NaN.
 ghost use mathlib.Core.Path.{_≡_};
-ghost use mathlib.Core.Bool.{not};
-ghost use lib.Dec.{T};
-ghost use lib.Ieee.{isNan, binary32, mul};
-ghost use Rattle.model.specs.Nearest.Root.{sqrt, rootable};
+ghost use lib.Ieee.{binary32, mul};
+ghost use Rattle.model.specs.Nearest.Root.{sqrt};
 ghost use Rattle.model.specs.Nearest.Distance as Distance;
-ghost use Rattle.model.specs.Nearest.Search.{neighbor};
+ghost use Rattle.ieee.specs.Halves.{settled, kindOf, elementOf, neighborOf, distanceGiven};
 
 // Internal: the sum of the squared differences.
 pub fn squares(a: &[f32], b: &[f32]) -> f32
@@ -41,7 +40,6 @@ pub fn dot(a: &[f32], b: &[f32]) -> f32
 
 // Internal: the root of a vector's own products.
 pub fn norm(v: &[f32]) -> f32
-    requires { ⌜ Distance.Bounded (now v) ⌝ }
     ensures { λ r. ⌜ r ≡ Distance.norm (now (v .entry)) ⌝ }
 {
     super::root::sqrt_f32(dot(v, v))
@@ -49,7 +47,6 @@ pub fn norm(v: &[f32]) -> f32
 
 // Internal: the angular distance, from the product of query and vector, the query's norm and the vector's own products.
 pub fn angle(product: f32, qnorm: f32, own: f32) -> f32
-    requires { ⌜ T (rootable own) ⌝ }
     ensures { λ r. ⌜ r ≡ Distance.angle product (mul binary32 qnorm (sqrt binary32 own)) ⌝ }
 {
     let d = qnorm * super::root::sqrt_f32(own);
@@ -59,18 +56,54 @@ pub fn angle(product: f32, qnorm: f32, own: f32) -> f32
     1.0 - product / d
 }
 
-// Internal: the distance alone. The query's norm is given, since it serves every vector.
-pub fn measure(metric: model::Metric, query: &[f32], qnorm: f32, vector: &[f32]) -> f32
-    requires { ⌜ Distance.Bounded (now query) × Distance.Bounded (now vector) × (qnorm ≡ Distance.norm (now query)) ⌝ }
-    ensures { λ r. ⌜ (r ≡ Distance.distance metric (now (query .entry)) (now (vector .entry))) × T (not (isNan r)) ⌝ }
+// What is made of a vector before its distance is asked for: the sum whose root that is, or the distance itself.
+pub enum Kind {
+    Sums,
+    Distances,
+}
+
+// Internal: what a metric makes.
+pub fn kind_of(metric: model::Metric) -> Kind
+    ensures { λ r. ⌜ r ≡ kindOf metric ⌝ }
 {
     match metric {
-        model::Metric::Euclidean => super::root::sqrt_f32(squares(query, vector)),
+        model::Metric::Euclidean => Kind::Sums,
+        model::Metric::Angular => Kind::Distances,
+    }
+}
+
+// Internal: the first half of a distance. The query's norm is given, since it serves every vector.
+pub fn element(metric: model::Metric, query: &[f32], qnorm: f32, vector: &[f32]) -> f32
+    ensures { λ r. ⌜ r ≡ elementOf metric (now (query .entry)) qnorm (now (vector .entry)) ⌝ }
+{
+    match metric {
+        model::Metric::Euclidean => squares(query, vector),
         model::Metric::Angular => angle(dot(query, vector), qnorm, dot(vector, vector)),
     }
 }
 
-// Internal: a stored vector's id with its distance to the query.
+// Internal: the distance that an element stands for.
+pub fn settle(kind: Kind, x: f32) -> f32
+    ensures { λ r. ⌜ r ≡ settled kind x ⌝ }
+{
+    match kind {
+        Kind::Sums => super::root::sqrt_f32(x),
+        Kind::Distances => x,
+    }
+}
+
+// Internal: the second half, and the form of `distance` over a sum already made: an id with the distance that its vector's
+// element stands for. Every neighbour that a search keeps was returned here.
+pub fn neighbor(id: u64, kind: Kind, x: f32) -> model::Neighbor
+    ensures { λ r. ⌜ r ≡ neighborOf id kind x ⌝ }
+{
+    model::Neighbor {
+        id,
+        distance: settle(kind, x),
+    }
+}
+
+// A vector's id with its distance to the query, whose norm is given (shard.rs, distance). Of any floats: no call is refused.
 pub fn distance(
     id: u64,
     metric: model::Metric,
@@ -78,9 +111,7 @@ pub fn distance(
     qnorm: f32,
     vector: &[f32],
 ) -> model::Neighbor
-    requires { ⌜ Distance.Bounded (now query) × Distance.Bounded (now vector) × (qnorm ≡ Distance.norm (now query)) ⌝ }
-    ensures { λ r. ⌜ (r ≡ neighbor metric (now (query .entry)) (record { id = id; components = now (vector .entry) })) × T (not (isNan (r .distance))) ⌝ }
+    ensures { λ r. ⌜ r ≡ record { id = id; distance = distanceGiven metric (now (query .entry)) qnorm (now (vector .entry)) } ⌝ }
 {
-    let d = measure(metric, query, qnorm, vector);
-    model::Neighbor { id, distance: d }
+    neighbor(id, kind_of(metric), element(metric, query, qnorm, vector))
 }

@@ -32,8 +32,9 @@ use Rattle.shard.proofs.Columns.{look-zero, look-past, look-at, op-set, op-dele
 use Rattle.shard.proofs.Facts.{Facts, keys-fit, places-fit, rows-rising}
 use Rattle.shard.proofs.Firsts.{firsts-length, firsts-at}
 use Rattle.shard.proofs.Rows.{rows-length, rows-at, no-row}
-use Rattle.nearest.specs.declared.column.Kind.{Kind}
-use Rattle.nearest.specs.Column.{settled, Ready, neighborAt, keyAt, Selectable, kindOf, rough, Walkable}
+use Rattle.ieee.specs.declared.sums.Kind.{Kind}
+use Rattle.ieee.specs.Halves.{settled, kindOf, elementOf}
+use Rattle.nearest.specs.Column.{Ready, neighborAt, keyAt, Selectable, rough, Walkable}
 use Rattle.nearest.proofs.Settled.{rough-settled, rough-ready}
 
 -- ---- stored vectors lie in the domain
@@ -139,7 +140,7 @@ sum-key q v a b =
 not-nearer : (m : Metric) (q : List Float) (a b : Vector) → Bounded q → Bounded (a .components) → Bounded (b .components)
     → key (toBits binary32 (rough m q (a .components))) < key (toBits binary32 (rough m q (b .components))) → a .id ≤ b .id
     → T (not (nearer (neighbor m q b) (neighbor m q a)))
-unfolding rough neighbor
+unfolding elementOf neighbor distance
 not-nearer Euclidean q a b l m n h i =
     passed-over q a b l m n (omega (arith, sum-key q (a .components) l m, sum-key q (b .components) l n)) i
 not-nearer Angular q a b l m n h i =

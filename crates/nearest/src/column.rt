@@ -2,44 +2,16 @@
 // root that is. Vectors as long as the query are taken four at a time.
 
 use ieee::four::Four;
+use ieee::sums::Kind;
 use model::Metric;
 use model::Offset;
 ghost use mathlib.Core.Path.{_≡_};
-ghost use mathlib.Core.Bool.{not, true};
+ghost use mathlib.Core.Bool.{true};
 ghost use Prim.Native.Nat.{ℕ, _-_, _*_, _≤_, _<_};
-ghost use lib.Dec.{T};
-ghost use lib.Ieee.{isNan, nan};
+ghost use lib.Ieee.{nan};
 ghost use lib.ListN.{length, getD};
-ghost use Rattle.model.specs.Nearest.Distance.{Bounded, norm};
 ghost use Rattle.ieee.specs.Lanes.{Measurable};
-ghost use Rattle.nearest.specs.Column.{settled, Ready, kindOf, rough, FourRough, Whole, FourWhole, Walkable, Filled, Settled};
-
-// What the elements of a column are. Of sums only those that can be among the answer need their roots.
-pub enum Kind {
-    Sums,
-    Distances,
-}
-
-// Internal: what the column of a metric holds.
-pub fn kind_of(metric: Metric) -> Kind
-    ensures { λ r. ⌜ r ≡ kindOf metric ⌝ }
-{
-    match metric {
-        Metric::Euclidean => Kind::Sums,
-        Metric::Angular => Kind::Distances,
-    }
-}
-
-// Internal: the distance that an element stands for.
-pub fn settle(kind: Kind, x: f32) -> f32
-    requires { ⌜ Ready kind x ⌝ }
-    ensures { λ r. ⌜ (r ≡ settled kind x) × T (not (isNan r)) ⌝ }
-{
-    match kind {
-        Kind::Sums => ieee::root::sqrt_f32(x),
-        Kind::Distances => x,
-    }
-}
+ghost use Rattle.nearest.specs.Column.{Ready, FourRough, Whole, FourWhole, Walkable, Filled, Settled};
 
 // Internal: the first n elements become the distances that they stand for.
 pub fn settle_all(xs: &mut [f32], n: usize, kind: Kind)
@@ -49,19 +21,8 @@ pub fn settle_all(xs: &mut [f32], n: usize, kind: Kind)
     let mut i: usize = 0;
     while i < n {
         let x = xs[i];
-        xs[i] = settle(kind, x);
+        xs[i] = ieee::sums::settle(kind, x);
         i += 1;
-    }
-}
-
-// Internal: the element of one vector, of any length.
-fn rough_one(metric: Metric, query: &[f32], qnorm: f32, vector: &[f32]) -> f32
-    requires { ⌜ Bounded (now query) × Bounded (now vector) × (qnorm ≡ norm (now query)) ⌝ }
-    ensures { λ r. ⌜ r ≡ rough metric (now (query .entry)) (now (vector .entry)) ⌝ }
-{
-    match metric {
-        Metric::Euclidean => ieee::sums::squares(query, vector),
-        Metric::Angular => ieee::sums::measure(Metric::Angular, query, qnorm, vector),
     }
 }
 
@@ -175,7 +136,7 @@ pub fn fill(
             i += 4;
         } else {
             let vector = shard::components(codes, lengths, floats, count, Offset(places[i]));
-            xs[i] = rough_one(metric, query, qnorm, vector);
+            xs[i] = ieee::sums::element(metric, query, qnorm, vector);
             i += 1;
         }
     }

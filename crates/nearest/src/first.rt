@@ -37,7 +37,7 @@ pub fn nearest(
         (rowsOf (now (keys .entry)) (now (places .entry)) stored)) k) ⌝ }
 {
     let qnorm = ieee::sums::norm(query);
-    let kind = super::column::kind_of(metric);
+    let kind = ieee::sums::kind_of(metric);
     let mut xs = [0.0f32; 1024];
     super::column::fill(
         codes,

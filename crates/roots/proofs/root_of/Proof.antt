@@ -6,6 +6,7 @@ use native.Mathlib.Nat.{not-le-of-lt}
 use lib.Ieee.{Float, binary32, ofBits, toBits, isNan}
 use Rattle.model.proofs.Nearest.Patterns.{number-pattern, plus-pattern}
 use Rattle.model.proofs.Nearest.NoNan.{sqrt-no-nan}
+use borrow.Author.Needs.{needs}
 use Rattle.roots.proofs.root_of.Statement.{statement}
 use Rattle.roots.proofs.root_of.Tie as tie
 
@@ -16,7 +17,7 @@ float-from-bits-x : tie.Need-float-from-bits-x
 float-from-bits-x c = number-pattern (c .before .args .b) (c .if1 .left)
 
 sqrt-f32-requires : tie.Need-sqrt-f32-requires
-sqrt-f32-requires c κs = plus-pattern (c .before .args .b) (c .if1 .left)
+sqrt-f32-requires c κs = search needs
 
 float-to-bits-result : tie.Need-float-to-bits-result
 float-to-bits-result c =

@@ -1,6 +1,6 @@
 -- Each lane is the distance of its own vector.
 use borrow.Author.Needs.{needs}
-use Rattle.ieee.proofs.Quad.{sum-rootable, own-rootable, euclid-lane, angle-lane}
+use Rattle.ieee.proofs.Quad.{euclid-lane, angle-lane}
 use Rattle.ieee.proofs.four.distances_four.Statement.{statement}
 use Rattle.ieee.proofs.four.distances_four.Tie as tie
 
@@ -11,36 +11,16 @@ squares-four-requires : tie.Need-squares-four-requires
 squares-four-requires c κs = search needs
 
 sqrt-f32-requires : tie.Need-sqrt-f32-requires
-sqrt-f32-requires c κs =
-    let f = c .squares-four in
-    let at = c .before .before .before .before .before in
-    let g = at .args in
-    sum-rootable (g .metric) (g .query .now) (g .floats .now) (g .p) (g .n) (at .pre .asked) (at .pre .first)
-    (f .result .a) (f .ensures .first)
+sqrt-f32-requires c κs = search needs
 
 sqrt-f32-requires-2 : tie.Need-sqrt-f32-requires-2
-sqrt-f32-requires-2 c κs =
-    let f = c .before .squares-four in
-    let at = c .before .before .before .before .before .before in
-    let g = at .args in
-    sum-rootable (g .metric) (g .query .now) (g .floats .now) (g .q) (g .n) (at .pre .asked) (at .pre .second)
-    (f .result .b) (f .ensures .second)
+sqrt-f32-requires-2 c κs = search needs
 
 sqrt-f32-requires-3 : tie.Need-sqrt-f32-requires-3
-sqrt-f32-requires-3 c κs =
-    let f = c .before .before .squares-four in
-    let at = c .before .before .before .before .before .before .before in
-    let g = at .args in
-    sum-rootable (g .metric) (g .query .now) (g .floats .now) (g .r) (g .n) (at .pre .asked) (at .pre .third)
-    (f .result .c) (f .ensures .third)
+sqrt-f32-requires-3 c κs = search needs
 
 sqrt-f32-requires-4 : tie.Need-sqrt-f32-requires-4
-sqrt-f32-requires-4 c κs =
-    let f = c .before .before .before .squares-four in
-    let at = c .before .before .before .before .before .before .before .before in
-    let g = at .args in
-    sum-rootable (g .metric) (g .query .now) (g .floats .now) (g .s) (g .n) (at .pre .asked) (at .pre .fourth)
-    (f .result .d) (f .ensures .fourth)
+sqrt-f32-requires-4 c κs = search needs
 
 enum-told-2 : tie.Need-enum-told-2
 enum-told-2 c = search needs
@@ -49,36 +29,16 @@ products-four-requires : tie.Need-products-four-requires
 products-four-requires c κs = search needs
 
 angle-requires : tie.Need-angle-requires
-angle-requires c κs =
-    let f = c .before .before .products-four in
-    let at = c .before .before .before .before .before .before .before in
-    let g = at .args in
-    own-rootable (g .metric) (g .query .now) (g .floats .now) (g .p) (g .n) (at .pre .asked) (at .pre .first)
-    (f .result .own .a) (f .ensures .1 .first)
+angle-requires c κs = search needs
 
 angle-requires-2 : tie.Need-angle-requires-2
-angle-requires-2 c κs =
-    let f = c .before .before .before .products-four in
-    let at = c .before .before .before .before .before .before .before .before in
-    let g = at .args in
-    own-rootable (g .metric) (g .query .now) (g .floats .now) (g .q) (g .n) (at .pre .asked) (at .pre .second)
-    (f .result .own .b) (f .ensures .1 .second)
+angle-requires-2 c κs = search needs
 
 angle-requires-3 : tie.Need-angle-requires-3
-angle-requires-3 c κs =
-    let f = c .before .before .before .before .products-four in
-    let at = c .before .before .before .before .before .before .before .before .before in
-    let g = at .args in
-    own-rootable (g .metric) (g .query .now) (g .floats .now) (g .r) (g .n) (at .pre .asked) (at .pre .third)
-    (f .result .own .c) (f .ensures .1 .third)
+angle-requires-3 c κs = search needs
 
 angle-requires-4 : tie.Need-angle-requires-4
-angle-requires-4 c κs =
-    let f = c .before .before .before .before .before .products-four in
-    let at = c .before .before .before .before .before .before .before .before .before .before in
-    let g = at .args in
-    own-rootable (g .metric) (g .query .now) (g .floats .now) (g .s) (g .n) (at .pre .asked) (at .pre .fourth)
-    (f .result .own .d) (f .ensures .1 .fourth)
+angle-requires-4 c κs = search needs
 
 returns : tie.Need-returns
 returns c =

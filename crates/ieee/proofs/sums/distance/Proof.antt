@@ -1,21 +1,31 @@
--- The id is handed on, and the distance is that of the vector.
+-- The two halves make the distance.
 use borrow.Author.Needs.{needs}
-use mathlib.Core.Path.{ap}
+use mathlib.Core.Path.{ap, _∙_}
 use lib.Ieee.{Float}
 use Rattle.model.specs.declared.Neighbor.{Neighbor}
-use Rattle.model.specs.Nearest.Search.{neighbor}
+use Rattle.ieee.specs.declared.sums.Kind.{Kind}
+use Rattle.ieee.specs.Halves.{kindOf, settled}
+use Rattle.ieee.proofs.Halves.{halves}
 use Rattle.ieee.proofs.sums.distance.Statement.{statement}
 use Rattle.ieee.proofs.sums.distance.Tie as tie
 
-measure-requires : tie.Need-measure-requires
-measure-requires c κs = search needs
+kind-of-requires : tie.Need-kind-of-requires
+kind-of-requires c κs = search needs
+
+element-requires : tie.Need-element-requires
+element-requires c κs = search needs
+
+neighbor-requires : tie.Need-neighbor-requires
+neighbor-requires c κs = search needs
 
 returns : tie.Need-returns
-unfolding neighbor
 returns c =
-    let at = c .before .before .before in
-    let named : Float → Neighbor = λ d. record { id = at .args .id; distance = d } in
-    (ap named (c .measure .ensures .0), c .measure .ensures .1)
+    let g = c .before .before .before .before .before .args in
+    let named : Float → Neighbor = λ d. record { id = g .id; distance = d } in
+    c .neighbor .ensures
+    ∙ ap (λ (k : Kind). named (settled k (c .before .element .result))) (c .before .before .kind-of .ensures)
+    ∙ ap (λ (x : Float). named (settled (kindOf (g .metric)) x)) (c .before .element .ensures)
+    ∙ ap named (halves (g .metric) (g .query .now) (g .qnorm) (g .vector .now))
 
 pub distance-spec : {M : Type 1} → statement M
-distance-spec = tie.close (tie.spec measure-requires returns)
+distance-spec = tie.close (tie.spec kind-of-requires element-requires neighbor-requires returns)

@@ -1,10 +1,8 @@
--- A vector's own products have a root in the domain.
+-- The root of a vector's own products.
 use borrow.Author.Needs.{needs}
-use mathlib.Core.Path.{sym, ap, _∙_, subst}
-use lib.Dec.{T}
-use lib.Ieee.{Float, binary32}
-use Rattle.model.specs.Nearest.Root.{sqrt, rootable}
-use Rattle.model.proofs.Nearest.NoNan.{norm-rootable}
+use mathlib.Core.Path.{ap, _∙_}
+use lib.Ieee.{binary32}
+use Rattle.model.specs.Nearest.Root.{sqrt}
 use Rattle.ieee.proofs.sums.norm.Statement.{statement}
 use Rattle.ieee.proofs.sums.norm.Tie as tie
 
@@ -12,9 +10,7 @@ dot-requires : tie.Need-dot-requires
 dot-requires c κs = search needs
 
 sqrt-f32-requires : tie.Need-sqrt-f32-requires
-sqrt-f32-requires c κs =
-    subst (λ (x : Float). T (rootable x)) (sym (c .dot .ensures))
-    (norm-rootable (c .before .before .args .v .now) (c .before .before .pre))
+sqrt-f32-requires c κs = search needs
 
 returns : tie.Need-returns
 returns c = c .sqrt-f32 .ensures ∙ ap (sqrt binary32) (c .before .dot .ensures)

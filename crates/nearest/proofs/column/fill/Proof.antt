@@ -4,16 +4,17 @@ use native.Mathlib.Omega.{arith}
 use mathlib.Core.Path.{_≡_, refl, sym, _∙_, ap, subst}
 use mathlib.Core.List.{[]}
 use Prim.Native.Nat.{ℕ, _-_, _≤_}
-use lib.Ieee.{nan}
+use lib.Ieee.{Float, nan}
 use lib.ListN.{length, length-set}
 use Rattle.model.specs.Nearest.Distance.{Bounded}
+use Rattle.ieee.specs.Halves.{elementOf}
 use Rattle.nearest.specs.Column.{rough, named, Filled}
 use Rattle.nearest.proofs.Filling.{one-more, four-more, whole-fits, lane-within, lane-bounded, lane-rough}
 use Rattle.nearest.proofs.column.fill.Statement.{statement}
 use Rattle.nearest.proofs.column.fill.Tie as tie
 use Rattle.nearest.proofs.column.four_whole.Reads as four-whole-reads
 use Rattle.nearest.proofs.column.rough_four.Reads as rough-four-reads
-use Rattle.nearest.proofs.column.rough_one.Reads as rough-one-reads
+use Rattle.ieee.proofs.sums.element.Reads as element-reads
 use Rattle.nearest.proofs.column.start_of.Reads as start-of-reads
 use Rattle.shard.proofs.components.Reads as components-reads
 
@@ -169,10 +170,8 @@ shared-slice-read-t34 c = search needs
 components-requires : tie.Need-components-requires Inv-loop μ-loop
 components-requires c κs = search needs
 
-rough-one-requires : tie.Need-rough-one-requires Inv-loop μ-loop
-rough-one-requires c κs =
-    let p = c .before .before .before .before .before .before .before .before .before .before .before .before .pre .0 in
-    (p .asked, subst Bounded (sym (c .components .ensures [] [] [])) (p .vectors [] [] [] _), p .norm-is)
+element-requires : tie.Need-element-requires Inv-loop μ-loop
+element-requires c κs = search needs
 
 mul-xs-5 : tie.Need-mul-xs-5 Inv-loop μ-loop
 mul-xs-5 c = search needs
@@ -191,10 +190,11 @@ loop-again-2 c =
     let g = c .before .before .before .before .before .before .before .before .before .before .before .before .before .args in
     let l = c .before .before .before .before .before .before .loop in (
       omega arith,
-      length-set (l .xs) (l .i) (c .rough-one .result) ∙ l .inv .1,
-      λ es os is. one-more (λ (j : ℕ). rough (g .metric) (g .query .now) (named es os is (g .codes .now) (g .lengths .now) (g .floats .now) (g .count) (g .places .now) j)) nan (l .xs) (l .i) (c .rough-one .result)
+      length-set (l .xs) (l .i) (c .element .result) ∙ l .inv .1,
+      λ es os is. one-more (λ (j : ℕ). rough (g .metric) (g .query .now) (named es os is (g .codes .now) (g .lengths .now) (g .floats .now) (g .count) (g .places .now) j)) nan (l .xs) (l .i) (c .element .result)
           (omega (arith, l .inv .1, c .before .before .before .before .before .loop-test .taken, c .before .before .before .before .before .before .before .before .before .before .before .before .before .pre .1)) (l .inv .2 es os is)
-          (c .rough-one .ensures ∙ ap (rough (g .metric) (g .query .now)) (c .before .components .ensures es os is)),
+          (c .element .ensures ∙ ap (λ (x : Float). elementOf (g .metric) (g .query .now) x (c .before .components .result .now)) (c .before .before .before .before .before .before .before .before .before .before .before .before .before .pre .0 .norm-is)
+          ∙ ap (rough (g .metric) (g .query .now)) (c .before .components .ensures es os is)),
     )
 
 same-length : tie.Need-same-length Inv-loop μ-loop
@@ -246,7 +246,7 @@ fill-spec =
     mul-t32
     shared-slice-read-t34
     components-requires
-    rough-one-requires
+    element-requires
     mul-xs-5
     slice-write-xs-5
     add-i-2

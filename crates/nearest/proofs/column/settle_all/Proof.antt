@@ -6,11 +6,12 @@ use Prim.Native.Nat.{ℕ, _-_, _≤_, _<_}
 use lib.Ieee.{nan}
 use lib.ListN.{length, getD, length-set}
 use lib.Seq.{getD-set-other}
-use Rattle.nearest.specs.Column.{settled, Ready}
+use Rattle.ieee.specs.Halves.{settled}
+use Rattle.nearest.specs.Column.{Ready}
 use Rattle.nearest.proofs.Filling.{one-more}
 use Rattle.nearest.proofs.column.settle_all.Statement.{statement}
 use Rattle.nearest.proofs.column.settle_all.Tie as tie
-use Rattle.nearest.proofs.column.settle.Reads as settle-reads
+use Rattle.ieee.proofs.sums.settle.Reads as settle-reads
 
 abbrev Inv-loop : tie.InvT-loop
 Inv-loop xs₀ n kind i₀ xs i =
@@ -30,9 +31,7 @@ slice-read-x : tie.Need-slice-read-x Inv-loop μ-loop
 slice-read-x c = search needs
 
 settle-requires : tie.Need-settle-requires Inv-loop μ-loop
-settle-requires c κs =
-    let l = c .before .before .loop in
-    subst (Ready _) (sym (l .inv .3 (l .i) (omega arith))) (c .before .before .before .before .pre .1 (l .i) (c .before .loop-test .taken))
+settle-requires c κs = search needs
 
 mul-xs : tie.Need-mul-xs Inv-loop μ-loop
 mul-xs c = search needs
@@ -54,7 +53,7 @@ loop-again c =
       omega arith,
       length-set (l .xs) (l .i) (c .settle .result) ∙ l .inv .1,
       one-more (λ (j : ℕ). settled (a .kind) (getD (a .xs .now) j nan)) nan (l .xs) (l .i) (c .settle .result) h (l .inv .2)
-          (c .settle .ensures .0 ∙ ap (settled (a .kind)) (l .inv .3 (l .i) (omega arith))),
+          (c .settle .ensures ∙ ap (settled (a .kind)) (l .inv .3 (l .i) (omega arith))),
       λ j k. getD-set-other (l .xs) (l .i) j (c .settle .result) nan (λ (e : j ≡ l .i). absurd (omega arith)) ∙ l .inv .3 j (omega arith),
     )
 

@@ -10,7 +10,7 @@ use Rattle.nearest.proofs.first.nearest.Statement.{statement}
 use Rattle.nearest.proofs.first.nearest.Tie as tie
 use Rattle.ieee.proofs.sums.norm.Reads as norm-reads
 use Rattle.nearest.proofs.column.fill.Reads as fill-reads
-use Rattle.nearest.proofs.column.kind_of.Reads as kind-of-reads
+use Rattle.ieee.proofs.sums.kind_of.Reads as kind-of-reads
 use Rattle.nearest.proofs.select.select.Reads as select-reads
 use Rattle.nearest.proofs.select.select_many.Reads as select-many-reads
 
