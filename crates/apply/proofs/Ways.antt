@@ -5,7 +5,6 @@ use mathlib.Core.Bool.{Bool, true, false, cond}
 use mathlib.Core.List.{List, []}
 use mathlib.Core.Option.{Option, none, some}
 use Rattle.model.specs.Refusals.{undecodable, malformed}
-use Rattle.model.specs.Layout.Parts.{whenever}
 use Rattle.model.specs.Layout.Request as request
 use Rattle.model.specs.Layout.Request.{decodeRequest}
 use Rattle.model.specs.Map.Tables as tables
@@ -15,62 +14,60 @@ use Rattle.model.proofs.Lists.{not-both, none-some}
 use Rattle.state.specs.View.{answerOf, viewMap, viewRequest}
 use Rattle.state.specs.declared.ShardMap.{ShardMap}
 use Rattle.state.specs.declared.Verdict.{Verdict}
-use Rattle.requests.specs.Read.{LoadedAll}
-use Rattle.requests.specs.declared.Loaded.{Loaded}
+use Rattle.state.specs.declared.Request.{Request}
+use Rattle.requests.specs.Read.{Within}
 use Rattle.mapcheck.specs.Lent.{wellFormedLent}
 use Rattle.mapcheck.proofs.Formed.{lent-tables, lent-formed}
 use Rattle.settle.specs.Applied.{Settleable, SettledAs}
 use Rattle.settle.specs.declared.Settled.{Settled}
 use Rattle.apply.specs.Calls.{applyLent, AppliesBytes}
 
-module _ (m : ShardMap) (bytes : List ℕ) (l : Loaded) (read : LoadedAll bytes l) where
-  decoded : (b : Bool) → l .found ≡ b → decodeRequest bytes ≡ whenever b (viewRequest (l .request) (read .padding))
-  decoded b e = read .read ∙ ap (λ (x : Bool). whenever x (viewRequest (l .request) (read .padding))) e
-
-  -- a definition's call on what was read, by the test of the map
-  called : (b : Bool) → l .found ≡ true → wellFormedLent m ≡ b
-      → applyLent m (decodeRequest bytes)
-      ≡ cond b (define.apply (viewMap m) (viewRequest (l .request) (read .padding))) (refusedWith (viewMap m) malformed)
-  called b e w =
-      ap (applyLent m) (decoded true e)
-      ∙ ap (λ (x : Bool). cond x (define.apply (viewMap m) (viewRequest (l .request) (read .padding))) (refusedWith (viewMap m) malformed)) w
-
-  pub undecoded : (v : Verdict) → l .found ≡ false → answerOf v ≡ tables.refused undecodable
+module _ (m : ShardMap) (bytes : List ℕ) where
+  pub undecoded : (v : Verdict) → decodeRequest bytes ≡ none → answerOf v ≡ tables.refused undecodable
       → AppliesBytes m bytes (record { verdict = v; map = m })
   undecoded v e a = record {
-    answer = a ∙ sym (ap (λ (o : Option request.Request). applyLent m o .answer) (decoded false e));
-    map = sym (ap (λ (o : Option request.Request). applyLent m o .map) (decoded false e));
+    answer = a ∙ sym (ap (λ (o : Option request.Request). applyLent m o .answer) e);
+    map = sym (ap (λ (o : Option request.Request). applyLent m o .map) e);
     undecoded = λ _. refl;
     malformed = λ _. refl;
     counted = lent-tables m;
     formed = lent-formed m;
   }
 
-  pub unformed : (v : Verdict) → l .found ≡ true → wellFormedLent m ≡ false → answerOf v ≡ tables.refused malformed
-      → AppliesBytes m bytes (record { verdict = v; map = m })
-  unformed v e w a = record {
-    answer = a ∙ sym (ap (λ (x : define.Applied). x .answer) (called false e w));
-    map = sym (ap (λ (x : define.Applied). x .map) (called false e w));
-    undecoded = λ _. refl;
-    malformed = λ _. refl;
-    counted = lent-tables m;
-    formed = lent-formed m;
-  }
+  module _ (q : request.Request) (e : decodeRequest bytes ≡ some q) where
+    -- the definition's call on what was read, by the test of the map
+    called : (b : Bool) → wellFormedLent m ≡ b
+        → applyLent m (decodeRequest bytes) ≡ cond b (define.apply (viewMap m) q) (refusedWith (viewMap m) malformed)
+    called b w =
+        ap (applyLent m) e ∙ ap (λ (x : Bool). cond x (define.apply (viewMap m) q) (refusedWith (viewMap m) malformed)) w
 
-  pub settleable : l .found ≡ true → wellFormedLent m ≡ true → Settleable m (l .request)
-  settleable e w = record {
-    counted = lent-tables m w;
-    formed = lent-formed m w;
-    lists = read .within e .counted .lists;
-    within = read .within e .fits [];
-  }
+    pub unformed : (v : Verdict) → wellFormedLent m ≡ false → answerOf v ≡ tables.refused malformed
+        → AppliesBytes m bytes (record { verdict = v; map = m })
+    unformed v w a = record {
+      answer = a ∙ sym (ap (λ (x : define.Applied). x .answer) (called false w));
+      map = sym (ap (λ (x : define.Applied). x .map) (called false w));
+      undecoded = λ _. refl;
+      malformed = λ _. refl;
+      counted = lent-tables m;
+      formed = lent-formed m;
+    }
 
-  pub settled : (s : Settled) → l .found ≡ true → wellFormedLent m ≡ true → SettledAs m (l .request) s → AppliesBytes m bytes s
-  settled s e w q = record {
-    answer = q .answer (read .padding) ∙ sym (ap (λ (x : define.Applied). x .answer) (called true e w));
-    map = q .map (read .padding) ∙ sym (ap (λ (x : define.Applied). x .map) (called true e w));
-    undecoded = λ n. none-some (sym n ∙ decoded true e);
-    malformed = λ f. not-both (wellFormedLent m) w f;
-    counted = λ _. q .counted;
-    formed = λ _. q .formed;
-  }
+  -- the command, as it was loaded
+  module _ (x : Request) (padding : List ℕ) (e : decodeRequest bytes ≡ some (viewRequest x padding)) where
+    pub settled : (s : Settled) → wellFormedLent m ≡ true → SettledAs m x s → AppliesBytes m bytes s
+    settled s w q = record {
+      answer = q .answer padding ∙ sym (ap (λ (x : define.Applied). x .answer) (called (viewRequest x padding) e true w));
+      map = q .map padding ∙ sym (ap (λ (x : define.Applied). x .map) (called (viewRequest x padding) e true w));
+      undecoded = λ n. none-some (sym n ∙ e);
+      malformed = λ f. not-both (wellFormedLent m) w f;
+      counted = λ _. q .counted;
+      formed = λ _. q .formed;
+    }
+
+pub settleable : (m : ShardMap) (x : Request) → Within x → wellFormedLent m ≡ true → Settleable m x
+settleable m x within w = record {
+  counted = lent-tables m w;
+  formed = lent-formed m w;
+  lists = within .counted .lists;
+  within = within .fits [];
+}

@@ -2,7 +2,8 @@
 // what does not decode, 24 for a malformed map, then the command.
 ghost use Rattle.apply.specs.Calls.{AppliesBytes};
 use mapcheck::well_formed;
-use requests::decode;
+use requests::load::load;
+use rpc::Message;
 use settle::Settled;
 use settle::settle;
 use state::Refusal;
@@ -13,14 +14,14 @@ use state::answers::refused;
 pub fn apply(m: ShardMap, s: &[u8]) -> Settled
     ensures { λ r. ⌜ AppliesBytes m (now (s .entry)) r ⌝ }
 {
-    let read = decode(s);
-    if !read.found {
+    let message = rpc::decode(s);
+    let Message::Request(p) = message else {
         let verdict = refused(Refusal::Undecodable);
         return Settled {
             verdict: verdict,
             map: m,
         };
-    }
+    };
     if !well_formed(m) {
         let verdict = refused(Refusal::Malformed);
         return Settled {
@@ -28,6 +29,6 @@ pub fn apply(m: ShardMap, s: &[u8]) -> Settled
             map: m,
         };
     }
-    let request = read.request;
+    let request = load(s, p);
     settle(m, request)
 }

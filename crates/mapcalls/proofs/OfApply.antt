@@ -3,19 +3,16 @@ use Prim.Native.Nat.{ℕ, _≤_, _<_}
 use mathlib.Core.Path.{_≡_, refl, sym, ap, subst, _∙_}
 use mathlib.Core.Bool.{Bool, true, false, cond}
 use mathlib.Core.List.{List}
-use mathlib.Core.Option.{Option, none}
+use mathlib.Core.Option.{Option, none, some}
 use lib.ListN.{length}
 use lib.Dec.{leb}
 use native.Mathlib.Omega.{arith}
 use borrow.Author.Tests.{lt-leb, le-leb, leb-true, ne-eqb}
 use Rattle.model.specs.Map.Calls.{reasonNumber}
-use Rattle.model.specs.Layout.Parts.{whenever}
 use Rattle.model.specs.Layout.Request.{Request, decodeRequest}
 use Rattle.model.proofs.Lists.{and-left, not-both}
-use Rattle.state.specs.View.{answerOf, viewRequest}
+use Rattle.state.specs.View.{answerOf}
 use Rattle.state.specs.declared.ShardMap.{ShardMap}
-use Rattle.requests.specs.Read.{LoadedAll}
-use Rattle.requests.specs.declared.Loaded.{Loaded}
 use Rattle.mapcheck.specs.Lent.{wellFormedLent}
 use Rattle.settle.specs.declared.Settled.{Settled}
 use Rattle.apply.specs.Calls.{AppliesBytes, applyLent}
@@ -37,15 +34,11 @@ noted-else r n h = rw (ne-eqb r 1 n, le-leb r 16 h)
 
 -- ---- the number where no map is lent
 
-module _ (bytes : List ℕ) (l : Loaded) (q : LoadedAll bytes l) where
-  read-as : (b : Bool) → l .found ≡ b → unlentOf (whenever b (viewRequest (l .request) (q .padding))) ≡ unlentNumber bytes
-  read-as b e = sym (ap unlentOf (q .read ∙ ap (λ (x : Bool). whenever x (viewRequest (l .request) (q .padding))) e))
+pub unlent-24 : (bytes : List ℕ) (q : Request) → decodeRequest bytes ≡ some q → 24 ≡ unlentNumber bytes
+unlent-24 bytes q e = sym (ap unlentOf e)
 
-  pub unlent-24 : l .found ≡ true → 24 ≡ unlentNumber bytes
-  unlent-24 e = read-as true e
-
-  pub unlent-21 : l .found ≡ false → 21 ≡ unlentNumber bytes
-  unlent-21 e = read-as false e
+pub unlent-21 : (bytes : List ℕ) → decodeRequest bytes ≡ none → 21 ≡ unlentNumber bytes
+unlent-21 bytes e = sym (ap unlentOf e)
 
 -- ---- the ways
 

@@ -14,7 +14,7 @@ use asked::named::key_named;
 use mapimage::read_map;
 use mapimage::write_map;
 use model::Metric;
-use requests::decode;
+use rpc::Message;
 use rpcw::fit::text_fits;
 use state::Spec;
 
@@ -49,8 +49,11 @@ pub fn empty_map(map: &mut [u8]) -> u32
 fn unlent_number(request: &[u8]) -> u32
     ensures { λ r. ⌜ r ≡ unlentNumber (now (request .entry)) ⌝ }
 {
-    let read = decode(request);
-    if read.found { 24 } else { 21 }
+    let message = rpc::decode(request);
+    let Message::Request(_) = message else {
+        return 21;
+    };
+    24
 }
 
 // A request is applied to the map. 0 applied; 1 to 16 rejected, which the map remembers of the client (1, an older command, it does not: no

@@ -11,7 +11,7 @@ use state::Request;
 
 mod command;
 mod lists;
-mod load;
+pub mod load;
 pub mod start;
 mod texts;
 
