@@ -10,7 +10,6 @@ use Rattle.model.specs.Layout.Request.{decodeRequest}
 use Rattle.model.specs.Map.Tables as tables
 use Rattle.model.specs.Map.Apply as define
 use Rattle.model.specs.Map.Calls.{refusedWith}
-use Rattle.model.proofs.Lists.{not-both, none-some}
 use Rattle.state.specs.View.{answerOf, viewMap, viewRequest}
 use Rattle.state.specs.declared.ShardMap.{ShardMap}
 use Rattle.state.specs.declared.Verdict.{Verdict}
@@ -28,8 +27,7 @@ module _ (m : ShardMap) (bytes : List ℕ) where
   undecoded v e a = record {
     answer = a ∙ sym (ap (λ (o : Option request.Request). applyLent m o .answer) e);
     map = sym (ap (λ (o : Option request.Request). applyLent m o .map) e);
-    undecoded = λ _. refl;
-    malformed = λ _. refl;
+    kept = λ _. refl;
     counted = lent-tables m;
     formed = lent-formed m;
   }
@@ -46,8 +44,7 @@ module _ (m : ShardMap) (bytes : List ℕ) where
     unformed v w a = record {
       answer = a ∙ sym (ap (λ (x : define.Applied). x .answer) (called false w));
       map = sym (ap (λ (x : define.Applied). x .map) (called false w));
-      undecoded = λ _. refl;
-      malformed = λ _. refl;
+      kept = λ _. refl;
       counted = lent-tables m;
       formed = lent-formed m;
     }
@@ -58,8 +55,7 @@ module _ (m : ShardMap) (bytes : List ℕ) where
     settled s w q = record {
       answer = q .answer padding ∙ sym (ap (λ (x : define.Applied). x .answer) (called (viewRequest x padding) e true w));
       map = q .map padding ∙ sym (ap (λ (x : define.Applied). x .map) (called (viewRequest x padding) e true w));
-      undecoded = λ n. none-some (sym n ∙ e);
-      malformed = λ f. not-both (wellFormedLent m) w f;
+      kept = λ h. q .kept padding (ap (λ (x : define.Applied). x .map) (sym (called (viewRequest x padding) e true w)) ∙ h);
       counted = λ _. q .counted;
       formed = λ _. q .formed;
     }

@@ -10,7 +10,8 @@ use state::Refusal;
 use state::ShardMap;
 use state::answers::refused;
 
-// The answer, and the map afterwards; a refusal leaves the map as it was, the places that are not in use too.
+// The answer, and the map afterwards. A refusal, an older command and a repeated one leave the map as it was, the places that are not in use
+// too.
 pub fn apply(m: ShardMap, s: &[u8]) -> Settled
     ensures { λ r. ⌜ AppliesBytes m (now (s .entry)) r ⌝ }
 {

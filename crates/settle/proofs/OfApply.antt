@@ -1,20 +1,24 @@
 -- The ways of a request through `apply`, on the code's map. Assumes nothing.
-use Prim.Native.Nat.{ℕ, _≤_}
+use Prim.Native.Nat.{ℕ, _≤_, _<_}
 use mathlib.Core.Path.{_≡_, refl, sym, ap, _∙_, subst}
 use mathlib.Core.Bool.{Bool, true, cond}
 use mathlib.Core.List.{List, []}
+use mathlib.Core.Option.{Option, none, some}
+use native.Mathlib.Omega.{arith}
 use lib.ListN.{length}
 use Rattle.model.specs.Lists.{put}
 use Rattle.model.specs.Keys as keys
 use Rattle.model.specs.Limits.{maxClients}
 use Rattle.model.specs.Refusals.{Rejection, Refusal}
 use Rattle.model.specs.Map.Tables as tables
-use Rattle.model.specs.Map.Tables.{Map, Answer, outcome, refused}
+use Rattle.model.specs.Map.Tables.{Session, Map, Answer, outcome, refused}
 use Rattle.model.specs.Map.Change.{accepts, rejects}
 use Rattle.model.specs.Map.Apply as model
-use Rattle.model.specs.Map.Apply.{apply, settle, decide, commit, remembered, setsVersion, sessionBelow}
+use Rattle.model.specs.Map.Apply.{apply, settle, decide, commit, remembered, setsVersion, sessionAt, sessionBelow}
 use Rattle.model.specs.Map.WellFormed.{wellFormedMap, commandFits}
 use Rattle.model.specs.Layout.Request as request
+use Rattle.model.proofs.Lists.{none-some}
+use Rattle.model.proofs.Map.Sessions.{own-session}
 use Rattle.model.proofs.Map.WellFormed.{map-parts, stays-well-formed}
 use Rattle.state.specs.Counted.{TablesCounted}
 use Rattle.state.specs.Names.{viewKey}
@@ -29,7 +33,7 @@ use Rattle.state.specs.declared.ShardKey.{ShardKey}
 use Rattle.state.specs.declared.ShardMap.{ShardMap}
 use Rattle.state.specs.declared.Verdict.{Verdict}
 use Rattle.commands.specs.Decided.{Decided}
-use Rattle.settle.specs.Applied.{Settleable, DecidedNow, SettledAs}
+use Rattle.settle.specs.Applied.{Settleable, DecidedNow, Unseen, SettledAs}
 use Rattle.settle.specs.declared.Settled.{Settled}
 
 -- the bytes of a Bench change neither whether a command is within its limits nor whether it sets the version
@@ -61,6 +65,31 @@ settle-answer m r (outcome tables.applied) = refl
 settle-answer m r (outcome (tables.rejected why)) = refl
 settle-answer m r (refused why) = refl
 
+-- ---- a request that is decided now changes the map, unless it is refused
+
+abbrev seqOf : Option Session → ℕ
+seqOf none = 0
+seqOf (some x) = x .seq
+
+pub unseen-new : (m : ShardMap) (r : Request) → sessionAt (viewMap m .sessions) (r .client) ≡ none → Unseen m r
+unseen-new m r a x e q = none-some (sym a ∙ e)
+
+pub unseen-later : (m : ShardMap) (r : Request) (y : Session) → sessionAt (viewMap m .sessions) (r .client) ≡ some y → y .seq < r .seq → Unseen m r
+unseen-later m r y a h x e q =
+    let k : x .seq ≡ y .seq = ap seqOf (sym e ∙ a) in
+    omega arith
+
+settled-session : (m : Map) (r : request.Request) (o : tables.Outcome)
+    → sessionAt (settle m r (outcome o) .map .sessions) (r .client) ≡ some (record { client = r .client; seq = r .seq; outcome = o })
+unfolding settle
+settled-session m r tables.applied = own-session r (commit m (r .command)) tables.applied (cond (setsVersion (r .command)) (r .index) (m .version))
+settled-session m r (tables.rejected why) = own-session r m (tables.rejected why) (m .version)
+
+pub changes : (m : ShardMap) (r : Request) (o : tables.Outcome) (bs : List ℕ) → Unseen m r
+    → settle (viewMap m) (viewRequest r bs) (outcome o) .map ≡ viewMap m → ⊥
+changes m r o bs new e =
+    new _ (sym (ap (λ (n : Map). sessionAt (n .sessions) (r .client)) e) ∙ settled-session (viewMap m) (viewRequest r bs) o) refl
+
 module _ (m : Map) (r : request.Request) (w : wellFormedMap m ≡ true) (h : commandFits (r .command) ≡ true) (way : apply m r ≡ settle m r (decide m (r .command))) where
   -- there is a place for what is remembered
   place : (a : Answer) → decide m (r .command) ≡ a → length (settle m r a .map .sessions) ≤ maxClients
@@ -73,12 +102,14 @@ module _ (m : ShardMap) (r : Request) (s : Settleable m r) (decided : DecidedNow
     way : (bs : List ℕ) → apply (viewMap m) (viewRequest r bs) ≡ settle (viewMap m) (viewRequest r bs) a
     way bs = decided bs ∙ ap (settle (viewMap m) (viewRequest r bs)) (sym (d .answer bs) ∙ e)
 
-    pub settled : ((bs : List ℕ) → viewMap (o .map) ≡ settle (viewMap m) (viewRequest r bs) a .map) → TablesCounted (o .map) → SettledAs m r o
-    settled f k =
+    pub settled : ((bs : List ℕ) → viewMap (o .map) ≡ settle (viewMap m) (viewRequest r bs) a .map)
+        → ((bs : List ℕ) → settle (viewMap m) (viewRequest r bs) a .map ≡ viewMap m → o .map ≡ m) → TablesCounted (o .map) → SettledAs m r o
+    settled f stays k =
         let same : (bs : List ℕ) → viewMap (o .map) ≡ apply (viewMap m) (viewRequest r bs) .map = λ bs. f bs ∙ ap (λ (v : model.Applied). v .map) (sym (way bs)) in
         record {
           answer = λ bs. e ∙ sym (settle-answer (viewMap m) (viewRequest r bs) a) ∙ ap (λ (v : model.Applied). v .answer) (sym (way bs));
           map = same;
+          kept = λ bs q. stays bs (ap (λ (v : model.Applied). v .map) (sym (way bs)) ∙ q);
           counted = k;
           formed = subst (λ (v : Map). wellFormedMap v ≡ true) (sym (same [])) (stays-well-formed (viewMap m) (viewRequest r []) (s .formed) (s .within));
         }
@@ -130,6 +161,7 @@ kept m r s v a e way =
     record {
       answer = λ bs. e ∙ ap (λ (x : model.Applied). x .answer) (sym (way bs));
       map = λ bs. ap (λ (x : model.Applied). x .map) (sym (way bs));
+      kept = λ bs q. refl;
       counted = s .counted;
       formed = s .formed;
     }

@@ -1,7 +1,7 @@
 // A request applied to the shard map (paper 01, 'The shard map', and 'Who is turned down', Apply; the source's StateMachine::apply): the sessions
 // around deciding and committing a command. On a map that passed the 24 test.
 ghost use mathlib.Core.Path.{_≡_};
-ghost use Rattle.settle.specs.Applied.{Settleable, DecidedNow, SettledAs};
+ghost use Rattle.settle.specs.Applied.{Settleable, DecidedNow, Unseen, SettledAs};
 ghost use Rattle.state.specs.View.{answerOf, outcomeOf};
 ghost use Rattle.state.specs.Names.{viewKey};
 ghost use Rattle.model.specs.Map.Tables as tables;
@@ -43,7 +43,7 @@ pub fn repeated(row: SessionRow) -> Verdict
 // Internal: a command that is not older, not a repetition and not of a 65th client. An applied one is committed and remembered, a rejected one
 // remembered; 21 to 26 change nothing.
 fn taken(m: ShardMap, r: Request) -> Settled
-    requires { ⌜ (Settleable m r) × (DecidedNow m r) ⌝ }
+    requires { ⌜ (Settleable m r) × (DecidedNow m r) × (Unseen m r) ⌝ }
     ensures { λ s. ⌜ SettledAs m r s ⌝ }
 {
     let verdict = decide(m, r);

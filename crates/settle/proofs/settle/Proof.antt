@@ -9,7 +9,7 @@ use Rattle.model.specs.Map.Apply.{sessionAt, isClient}
 use Rattle.model.proofs.Map.Sessions.{equal-seq, older-seq, next-seq, new-client, full-clients}
 use Rattle.state.specs.View.{viewMap, viewRequest, viewSession, viewSessions}
 use Rattle.state.proofs.Tables.{used-size, found, missed, of-field}
-use Rattle.settle.proofs.OfApply.{kept, noSession}
+use Rattle.settle.proofs.OfApply.{kept, noSession, unseen-new, unseen-later}
 use Rattle.settle.proofs.settle.Statement.{statement}
 use Rattle.settle.proofs.settle.Tie as tie
 use Rattle.settle.proofs.settle.Reads as reads
@@ -48,12 +48,20 @@ refused-requires c κs = search needs
 
 returns : tie.Need-returns
 returns c =
-    kept (c .before .before .before .before .before .args .m) (c .before .before .before .before .before .args .r) (c .before .before .before .before .before .pre) (c .refused .result) _ (c .refused .ensures)
-    (λ bs. full-clients (viewMap (c .before .before .before .before .before .args .m)) (viewRequest (c .before .before .before .before .before .args .r) bs) (absent (c .before .before)) (omega (arith, size (c .before .before .before .before .before), c .before .if2 .taken)))
+    let full = c .before in
+    let m = full .before .before .before .before .args .m in
+    let r = full .before .before .before .before .args .r in
+    kept m r (full .before .before .before .before .pre) (c .refused .result) _ (c .refused .ensures)
+    (λ bs. full-clients (viewMap m) (viewRequest r bs) (absent (full .before)) (omega (arith, size (full .before .before .before .before), full .if2 .taken)))
 
 taken-requires : tie.Need-taken-requires
 taken-requires c κs =
-    (c .before .before .before .before .pre, λ bs. new-client (viewMap (c .before .before .before .before .args .m)) (viewRequest (c .before .before .before .before .args .r) bs) (absent (c .before)) (omega (arith, size (c .before .before .before .before), c .if2 .left)))
+    let m = c .before .before .before .before .args .m in
+    let r = c .before .before .before .before .args .r in (
+      c .before .before .before .before .pre,
+      λ bs. new-client (viewMap m) (viewRequest r bs) (absent (c .before)) (omega (arith, size (c .before .before .before .before), c .if2 .left)),
+      unseen-new m r (absent (c .before)),
+    )
 
 returns-2 : tie.Need-returns-2
 returns-2 c = search needs
@@ -85,7 +93,14 @@ returns-4 c =
 
 taken-requires-2 : tie.Need-taken-requires-2
 taken-requires-2 c κs =
-    (c .before .before .before .before .before .before .before .before .before .before .pre, λ bs. next-seq (viewMap (c .before .before .before .before .before .before .before .before .before .before .args .m)) (viewRequest (c .before .before .before .before .before .before .before .before .before .before .args .r) bs) (viewSession (getD (c .before .before .before .before .before .before .before .before .before .before .args .m .sessions .items) (c .before .before .before .before .before .before .before .before .session-at .result) noSession)) (present (c .before .before .before .before .before .before .before)) (omega (arith, c .before .before .before .if3 .left, c .if4 .left)))
+    let m = c .before .before .before .before .before .before .before .before .before .before .args .m in
+    let r = c .before .before .before .before .before .before .before .before .before .before .args .r in
+    let x = viewSession (getD (m .sessions .items) (c .before .before .before .before .before .before .before .before .session-at .result) noSession) in
+    let later : x .seq < r .seq = omega (arith, c .before .before .before .if3 .left, c .if4 .left) in (
+      c .before .before .before .before .before .before .before .before .before .before .pre,
+      λ bs. next-seq (viewMap m) (viewRequest r bs) x (present (c .before .before .before .before .before .before .before)) later,
+      unseen-later m r x (present (c .before .before .before .before .before .before .before)) later,
+    )
 
 returns-5 : tie.Need-returns-5
 returns-5 c = search needs

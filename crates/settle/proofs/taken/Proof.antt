@@ -11,7 +11,7 @@ use Rattle.state.specs.View.{answerOf, answerIn, outcomeOf, viewMap, viewReques
 use Rattle.state.specs.declared.Answer.{Answer}
 use Rattle.state.specs.declared.Answer.the-variants.{Done}
 use Rattle.state.specs.declared.Outcome.{Outcome}
-use Rattle.settle.proofs.OfApply.{fits-all, settled, applied-place, applied-map, rejected-place, rejected-map, refused-map}
+use Rattle.settle.proofs.OfApply.{fits-all, settled, changes, applied-place, applied-map, rejected-place, rejected-map, refused-map}
 use Rattle.settle.proofs.taken.Statement.{statement}
 use Rattle.settle.proofs.taken.Tie as tie
 use Rattle.settle.proofs.taken.Reads as reads
@@ -75,6 +75,7 @@ returns : tie.Need-returns
 returns c =
     settled (c .before .before .before .before .before .before .before .before .before .before .args .m) (c .before .before .before .before .before .before .before .before .before .before .args .r) (c .before .before .before .before .before .before .before .before .before .before .pre .0) (c .before .before .before .before .before .before .before .before .before .before .pre .1) (record { verdict = c .before .before .before .before .before .before .before .before .before .decide .result; map = c .with-session .result }) accepts (c .before .before .before .before .before .before .before .before .before .decide .ensures) (accepted (c .before .before .before))
     (λ bs. applied-map (c .before .before .before .before .before .before .before .before .before .before .args .m) (c .before .before .before .before .before .before .before .before .before .before .args .r) (c .before .before .before .before .before .before .before .before .before .before .pre .0) (c .before .before .before .before .before .before .before .before .before .before .pre .1) (c .before .before .before .before .before .before .before .before .before .decide .result) (c .before .before .before .before .before .before .before .before .before .decide .ensures) (c .before .before .before .before .before .before .answer .given .0 .0) (c .before .before .before .before .before .before .before .before .before .decide .result .key) (accepted (c .before .before .before)) (is-applied (c .before .before .before)) (c .before .committed .result) (c .with-session .result) (c .before .before .next-version .result) bs (c .with-session .ensures .0) (c .before .committed .ensures .map bs) (c .before .before .next-version .ensures))
+    (λ bs q. absurd (changes (c .before .before .before .before .before .before .before .before .before .before .args .m) (c .before .before .before .before .before .before .before .before .before .before .args .r) _ bs (c .before .before .before .before .before .before .before .before .before .before .pre .2) q))
     (c .with-session .ensures .1 (c .before .committed .ensures .counted))
 
 returns-2 : tie.Need-returns-2
@@ -83,6 +84,7 @@ returns-2 c =
     settled (c .before .before .before .before .before .before .before .before .args .m) (c .before .before .before .before .before .before .before .before .args .r) (c .before .before .before .before .before .before .before .before .pre .0) (c .before .before .before .before .before .before .before .before .pre .1) (record { verdict = c .before .before .before .before .before .before .before .decide .result; map = c .with-session2 .result }) _ (c .before .before .before .before .before .before .before .decide .ensures) e
     (λ bs. rejected-map (c .before .before .before .before .before .before .before .before .args .m) (c .before .before .before .before .before .before .before .before .args .r) (c .before .before .before .before .before .before .before .before .pre .0) (c .before .before .before .before .before .before .before .before .pre .1) (c .before .before .before .before .before .before .before .decide .result) (c .before .before .before .before .before .before .before .decide .ensures) (c .before .before .before .before .answer .given .0 .0) (c .before .before .before .before .before .before .before .decide .result .key) _ e
     (ap (λ (o : Outcome). outcomeOf o (viewKey (c .before .before .before .before .before .before .before .decide .result .key))) (c .before .enum-told2 .given .1)) (c .with-session2 .result) bs (c .with-session2 .ensures .0))
+    (λ bs q. absurd (changes (c .before .before .before .before .before .before .before .before .args .m) (c .before .before .before .before .before .before .before .before .args .r) _ bs (c .before .before .before .before .before .before .before .before .pre .2) q))
     (c .with-session2 .ensures .1 (c .before .before .before .before .before .before .before .before .pre .0 .counted))
 
 returns-3 : tie.Need-returns-3
@@ -90,6 +92,7 @@ returns-3 c =
     settled (c .before .before .before .before .args .m) (c .before .before .before .before .args .r) (c .before .before .before .before .pre .0) (c .before .before .before .before .pre .1) (record { verdict = c .before .before .before .decide .result; map = c .before .before .before .before .args .m }) _ (c .before .before .before .decide .ensures)
     (ap (λ (a : Answer). answerIn a (viewKey (c .before .before .before .decide .result .key))) (c .enum-told3 .given .1))
     (λ bs. refused-map (viewMap (c .before .before .before .before .args .m)) (viewRequest (c .before .before .before .before .args .r) bs) _)
+    (λ bs q. refl)
     (c .before .before .before .before .pre .0 .counted)
 
 pub taken-spec : {M : Type 1} → statement M
