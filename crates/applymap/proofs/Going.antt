@@ -1,55 +1,86 @@
--- The loop over the requests at hand: what is left to apply comes to the same map and place. Assumes nothing.
-use Prim.Native.Nat.{ℕ, zero, suc, _+_, _≤_, _<_}
+-- The loop over the requests at hand: the lines so far, and what is left to apply, come to the lines, the map and the place of all.
+-- Assumes nothing.
+use Prim.Native.Nat.{ℕ, zero, suc, _+_, _≤_}
 use mathlib.Core.Path.{_≡_, refl, sym, ap, subst, _∙_}
 use mathlib.Core.Bool.{Bool, true, false}
-use mathlib.Core.List.{List}
-use mathlib.Core.Option.{none, some}
+use mathlib.Core.List.{List, [], _∷_, _++_, append-assoc, append-nil}
+use mathlib.Core.Option.{Option, none, some}
 use native.Mathlib.Omega.{arith}
 use lib.ListN.{length}
 use Rattle.model.specs.Map.Tables as tables
-use Rattle.model.specs.Map.Apply.{apply}
-use Rattle.model.specs.Map.Calls.{applyCall}
+use Rattle.model.specs.Map.Apply.{Applied, apply}
+use Rattle.model.specs.Map.Calls.{Line, wordOf, reasonNumber, lineOf, applyCall, requestsFrom, requestsIn, endIn, linesFor, mapAfter}
 use Rattle.model.specs.Map.WellFormed.{wellFormedMap}
 use Rattle.model.specs.Layout.Request as request
 use Rattle.model.specs.Layout.Parts.{whenever}
-use Rattle.state.specs.View.{viewMap, viewRequest}
+use Rattle.state.specs.View.{answerOf, viewMap, viewRequest}
 use Rattle.state.specs.declared.ShardMap.{ShardMap}
+use Rattle.state.specs.declared.Verdict.{Verdict}
 use Rattle.requests.specs.Read.{LoadedAt}
 use Rattle.requests.specs.declared.Loaded.{Loaded}
-use Rattle.applymap.specs.Stream.{Stepped, appliedFrom}
-use Rattle.settle.specs.declared.Settled.{Settled}
+use Rattle.lines.specs.Words.{viewLine, lineFor}
+use Rattle.applymap.specs.Stream.{Stepped}
+use Rattle.applymap.specs.declared.Answered.{Answered}
 
 -- 24 is not answered of a map that passes
 pub call-is : (m : tables.Map) (r : request.Request) → wellFormedMap m ≡ true → applyCall m r ≡ apply m r
 unfolding applyCall
 call-is m r e = rw e
 
--- the requests from a place on, applied to m, come to what all of them come to, applied to m₀
-pub record Going (s : List ℕ) (m₀ m : tables.Map) (at : ℕ) : Type 0 where
+-- the line of an answer and a version, where they are those of the call
+pub line-is : (index : ℕ) (w : Verdict) (version : ℕ) (a : Applied) → answerOf w ≡ a .answer → version ≡ a .map .version
+    → lineFor index w version ≡ lineOf index a
+line-is index w version a p q =
+    ap (λ (x : tables.Answer). record { index = index; word = wordOf x; reason = reasonNumber x; version = version }) p
+    ∙ ap (λ (n : ℕ). record { index = index; word = wordOf (a .answer); reason = reasonNumber (a .answer); version = n }) q
+
+-- those that are read from a place on, applied to m behind the lines ls, come to what all of them come to, applied to m₀
+pub record Left (s : List ℕ) (m₀ m : tables.Map) (ls : List Line) (t : List request.Request × ℕ) : Type 0 where
+  pub lines : ls ++ linesFor m (t .0) ≡ linesFor m₀ (requestsIn s)
+  pub map : mapAfter m (t .0) ≡ mapAfter m₀ (requestsIn s)
+  pub place : t .1 ≡ endIn s
+
+pub record Going (s : List ℕ) (m₀ m : tables.Map) (at : ℕ) (ls : List Line) : Type 0 where
   pub fuel : ℕ
   pub enough : length s ≤ fuel + at
-  pub same : appliedFrom fuel m s at (request.requestAt s at) ≡ appliedFrom (length s) m₀ s 0 (request.requestAt s 0)
+  pub left : Left s m₀ m ls (requestsFrom fuel s at (request.requestAt s at))
 
-module _ (s : List ℕ) (m₀ m : tables.Map) where
-  no-more : (n at : ℕ) → appliedFrom n m s at none ≡ (m, at)
-  unfolding appliedFrom
-  no-more zero at = refl
-  no-more (suc n) at = refl
+pub record Ended (s : List ℕ) (m₀ m : tables.Map) (at : ℕ) (ls : List Line) : Type 0 where
+  pub lines : ls ≡ linesFor m₀ (requestsIn s)
+  pub map : m ≡ mapAfter m₀ (requestsIn s)
+  pub place : at ≡ endIn s
+
+pub starts : (s : List ℕ) (m : tables.Map) → Going s m m 0 []
+unfolding requestsIn endIn
+starts s m = record { fuel = length s; enough = omega arith; left = record { lines = refl; map = refl; place = refl } }
+
+module _ (s : List ℕ) (m₀ m : tables.Map) (ls : List Line) where
+  no-more : (n at : ℕ) → Left s m₀ m ls (requestsFrom n s at none) → Ended s m₀ m at ls
+  unfolding requestsFrom linesFor mapAfter
+  no-more zero at l = record { lines = sym (append-nil ls) ∙ l .lines; map = l .map; place = l .place }
+  no-more (suc n) at l = record { lines = sym (append-nil ls) ∙ l .lines; map = l .map; place = l .place }
 
   -- where no request stands
-  pub ended : (at : ℕ) → Going s m₀ m at → request.requestAt s at ≡ none → (m, at) ≡ appliedFrom (length s) m₀ s 0 (request.requestAt s 0)
-  ended at g e = sym (no-more (g .fuel) at) ∙ ap (appliedFrom (g .fuel) m s at) (sym e) ∙ g .same
+  pub ended : (at : ℕ) → Going s m₀ m at ls → request.requestAt s at ≡ none → Ended s m₀ m at ls
+  ended at g e =
+      no-more (g .fuel) at
+      (subst (λ (o : Option (request.Request × ℕ)). Left s m₀ m ls (requestsFrom (g .fuel) s at o)) e (g .left))
 
   -- where one stands
-  module _ (at : ℕ) (r : request.Request) (end : ℕ) (later : at < end) (inside : end ≤ length s) where
-    on : (n : ℕ) → length s ≤ n + at → appliedFrom n m s at (some (r, end)) ≡ appliedFrom (length s) m₀ s 0 (request.requestAt s 0)
-        → Going s m₀ (applyCall m r .map) end
-    unfolding appliedFrom
-    on zero h q = absurd (omega arith)
-    on (suc n) h q = record { fuel = n; enough = omega arith; same = q }
+  module _ (at : ℕ) (r : request.Request) (end : ℕ) (later : at + 25 ≤ end) (inside : end ≤ length s) where
+    on : (n : ℕ) → length s ≤ n + at → Left s m₀ m ls (requestsFrom n s at (some (r, end)))
+        → Going s m₀ (applyCall m r .map) end (ls ++ (lineOf (r .index) (applyCall m r) ∷ []))
+    unfolding requestsFrom linesFor mapAfter
+    on zero h l = absurd (omega arith)
+    on (suc n) h l = record {
+      fuel = n;
+      enough = omega arith;
+      left = record { lines = append-assoc ls (lineOf (r .index) (applyCall m r) ∷ []) _ ∙ l .lines; map = l .map; place = l .place };
+    }
 
-    pub going-on : Going s m₀ m at → request.requestAt s at ≡ some (r, end) → Going s m₀ (applyCall m r .map) end
-    going-on g e = on (g .fuel) (g .enough) (ap (appliedFrom (g .fuel) m s at) (sym e) ∙ g .same)
+    pub going-on : Going s m₀ m at ls → request.requestAt s at ≡ some (r, end) → Going s m₀ (applyCall m r .map) end (ls ++ (lineOf (r .index) (applyCall m r) ∷ []))
+    going-on g e =
+        on (g .fuel) (g .enough) (subst (λ (o : Option (request.Request × ℕ)). Left s m₀ m ls (requestsFrom (g .fuel) s at o)) e (g .left))
 
 -- ---- by what was read
 
@@ -57,11 +88,13 @@ module _ (s : List ℕ) (at : ℕ) (l : Loaded) (h : LoadedAt s at l) where
   pub not-there : l .found ≡ false → request.requestAt s at ≡ none
   not-there e = h .read ∙ ap (λ (b : Bool). whenever b (viewRequest (l .request) (h .padding), l .next)) e
 
-  pub there : l .found ≡ true → request.requestAt s at ≡ some (viewRequest (l .request) (h .padding), l .next)
+  there : l .found ≡ true → request.requestAt s at ≡ some (viewRequest (l .request) (h .padding), l .next)
   there e = h .read ∙ ap (λ (b : Bool). whenever b (viewRequest (l .request) (h .padding), l .next)) e
 
-  pub stepped-on : (m₀ : tables.Map) (m : ShardMap) (d : Settled) → l .found ≡ true → Going s m₀ (viewMap m) at → Stepped m (l .request) d
-      → Going s m₀ (viewMap (d .map)) (l .next)
-  stepped-on m₀ m d e g t =
-      subst (λ (z : tables.Map). Going s m₀ z (l .next)) (sym (t .map (h .padding)))
-      (going-on s m₀ (viewMap m) at (viewRequest (l .request) (h .padding)) (l .next) (h .passes e) (h .inside e) g (there e))
+  pub stepped-on : (m₀ : tables.Map) (m : ShardMap) (ls : List Line) (d : Answered) → l .found ≡ true → Going s m₀ (viewMap m) at ls → Stepped m (l .request) d
+      → Going s m₀ (viewMap (d .map)) (l .next) (ls ++ (viewLine (d .line) ∷ []))
+  stepped-on m₀ m ls d e g t =
+      let r = viewRequest (l .request) (h .padding) in
+      let w = going-on s m₀ (viewMap m) ls at r (l .next) (h .passes e) (h .inside e) g (there e) in
+      subst (λ (z : tables.Map). Going s m₀ z (l .next) (ls ++ (viewLine (d .line) ∷ []))) (sym (t .map (h .padding)))
+      (subst (λ (x : Line). Going s m₀ (applyCall (viewMap m) r .map) (l .next) (ls ++ (x ∷ []))) (sym (t .line (h .padding))) w)

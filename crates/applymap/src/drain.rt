@@ -1,28 +1,48 @@
 // The requests that stand in the bytes at hand, one after the other.
+ghost use Prim.Native.Nat.{_≤_};
+ghost use lib.ListN.{length};
 ghost use Rattle.applymap.specs.Stream.{Sound, DrainedAs};
 use crate::Drained;
+use crate::Said;
 use crate::step::step;
-use lines::print::line;
+use lines::Line;
+use lines::Word;
 use requests::request_at;
 use state::ShardMap;
 
-// Each is applied, and its line printed, until none stands there whole.
+// Each is applied until none stands there whole. A request has 25 bytes at least, so there is a place for every line.
 pub fn drain(map: ShardMap, s: &[u8]) -> Drained
-    requires { ⌜ Sound map ⌝ }
+    requires { ⌜ (Sound map) × (length (now s) ≤ 8192) ⌝ }
     ensures { λ r. ⌜ DrainedAs map (now (s .entry)) r ⌝ }
 {
     let mut m = map;
     let mut at: usize = 0;
+    let mut items = [Line {
+        index: 0,
+        word: Word::Applied,
+        reason: 0,
+        version: 0,
+    }; 328];
+    let mut n: usize = 0;
     loop {
         let read = request_at(s, at);
         if !read.found {
-            return Drained { map: m, at: at };
+            let said = Said {
+                items: items,
+                count: n,
+            };
+            return Drained {
+                map: m,
+                at: at,
+                said: said,
+            };
         }
         let r = read.request;
         let done = step(m, r);
+        let l = done.line;
+        items[n] = l;
+        n += 1;
         let next = done.map;
-        let verdict = done.verdict;
-        line(r.index, verdict, next.version);
         m = next;
         at = read.next;
     }

@@ -6,6 +6,8 @@ ghost use Prim.Native.Nat.{_≤_};
 ghost use lib.ListN.{length};
 use drain::drain;
 use input::refill;
+use lines::Line;
+use lines::print::print;
 use requests::start::empty_map;
 use state::ShardMap;
 
@@ -13,23 +15,51 @@ mod drain;
 mod input;
 mod step;
 
-// The map after the requests that stood in the bytes at hand, and the place after the last of them.
+// The map after a request, and its line.
+pub struct Answered {
+    pub map: ShardMap,
+    pub line: Line,
+}
+
+// The lines of the requests that stood in the bytes at hand; places past `count` are free.
+pub struct Said {
+    pub items: [Line; 328],
+    pub count: usize,
+}
+
+// Those lines, the map after the requests, and the place after the last of them.
 pub struct Drained {
     pub map: ShardMap,
     pub at: usize,
+    pub said: Said,
 }
 
-// No request is longer: a Create with 16 lists of 8 nodes (proved in crate requests, proofs/Streams.antt). Where as many
+// No request is longer: a Create with 16 lists of 8 nodes (proved in crate model, proofs/Map/Stream.antt). Where as many
 // bytes are left and none was found, the next one does not decode.
 const LONGEST: usize = 1113;
 
+fn print_all(said: Said)
+    requires { ⌜ said .count ≤ 328 ⌝ }
+{
+    let mut i: usize = 0;
+    while i < said.count {
+        let l = said.items[i];
+        print(l);
+        i += 1;
+    }
+}
+
 // Nothing says that an input ends, so the turns are counted down, from a number that no run uses up.
-fn run(buf: &mut [u8]) {
+fn run(buf: &mut [u8])
+    requires { ⌜ length (now buf) ≤ 8192 ⌝ }
+{
     let mut map = empty_map();
     let mut n: usize = 0;
     let mut turns = u64::MAX;
     while 0 < turns {
         let done = drain(map, &buf[..n]);
+        let said = done.said;
+        print_all(said);
         let at = done.at;
         let rest = n - at;
         if LONGEST <= rest {

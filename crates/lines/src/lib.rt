@@ -2,7 +2,7 @@
 ghost use mathlib.Core.Path.{_≡_};
 ghost use Rattle.model.specs.Refusals.{numberOf};
 ghost use Rattle.state.specs.View.{refusalOf};
-ghost use Rattle.lines.specs.Words.{Reason, SaidAs};
+ghost use Rattle.lines.specs.Words.{Reason, SaidAs, viewLine, lineFor};
 use state::Answer;
 use state::Outcome;
 use state::Refusal;
@@ -24,6 +24,14 @@ pub enum Word {
 pub struct Said {
     pub word: Word,
     pub reason: u64,
+}
+
+// A line of the output.
+pub struct Line {
+    pub index: u64,
+    pub word: Word,
+    pub reason: u64,
+    pub version: u64,
 }
 
 // 1 to 16.
@@ -81,5 +89,19 @@ pub fn said_of(v: Verdict) -> Said
             word: Word::Refused,
             reason: number(r),
         },
+    }
+}
+
+// The line of a request: what is said of its answer, and the map's version afterwards.
+pub fn line_of(index: u64, v: Verdict, version: u64) -> Line
+    ensures { λ r. ⌜ viewLine r ≡ lineFor index v version ⌝ }
+{
+    let s = said_of(v);
+    let w = s.word;
+    Line {
+        index: index,
+        word: w,
+        reason: s.reason,
+        version: version,
     }
 }

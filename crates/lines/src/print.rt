@@ -1,7 +1,6 @@
 // One line of the output.
+use crate::Line;
 use crate::Word;
-use crate::said_of;
-use state::Verdict;
 
 fn word(w: Word) {
     match w {
@@ -18,13 +17,12 @@ fn word(w: Word) {
 }
 
 // index, word, reason, version
-pub fn line(index: u64, v: Verdict, version: u64) {
-    let s = said_of(v);
-    io::print_decimal(1, index);
-    let w = s.word;
+pub fn print(l: Line) {
+    io::print_decimal(1, l.index);
+    let w = l.word;
     word(w);
-    io::print_decimal(1, s.reason);
+    io::print_decimal(1, l.reason);
     io::write_all(1, b" ");
-    io::print_decimal(1, version);
+    io::print_decimal(1, l.version);
     io::write_all(1, b"\n");
 }

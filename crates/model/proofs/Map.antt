@@ -8,3 +8,5 @@ pub mod Lightest
 pub mod Placements
 pub mod Replacements
 pub mod WellFormed
+pub mod Stream
+pub mod InParts

@@ -1,4 +1,3 @@
 pub mod Rows
 pub mod Stands
 pub mod Loads
-pub mod Streams

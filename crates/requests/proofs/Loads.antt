@@ -1,19 +1,18 @@
 -- The struct that is loaded from a command's operands is viewed as the command that was read; and what is answered, by whether rpc's reader
 -- answered a request. Assumes nothing.
-use Prim.Native.Nat.{ℕ, _+_, _≤_, _<_}
+use Prim.Native.Nat.{ℕ, _+_}
 use mathlib.Core.Path.{_≡_, refl, sym, ap, subst, _∙_}
 use mathlib.Core.Bool.{true, false}
-use mathlib.Core.List.{List, _++_, []}
+use mathlib.Core.List.{List, []}
 use mathlib.Core.Option.{Option, none, some}
 use native.Mathlib.Omega.{arith}
-use lib.ListN.{length, drop, length-append, length-drop}
+use lib.ListN.{length}
 use Rattle.model.specs.Map.WellFormed.{commandFits}
 use Rattle.model.specs.Layout.Format.{Bytes, fits, value, next, whole}
 use Rattle.model.specs.Layout.Request as request
 use Rattle.model.proofs.LayoutLaws.Tests.{and-left, and-right}
-use Rattle.model.proofs.LayoutLaws.Formats.{reads}
-use Rattle.model.proofs.LayoutLaws.Requests.{request-at-forth}
 use Rattle.model.proofs.LayoutLaws.Data.{whenever-some}
+use Rattle.model.proofs.Map.Stream.{ends-inside, ends-later}
 use Rattle.rpc.specs.Shown.{requestShown, requestPart, requestReadOf, readOr, messageOf}
 use Rattle.rpc.specs.declared.CommandPart.{CommandPart}
 use Rattle.rpc.specs.declared.CommandPart.the-variants as part
@@ -123,23 +122,6 @@ module _ (s : List ℕ) (p : RequestPart) (r : request.Request) (h : Shows s p r
         ∙ ap (λ (z : request.Request). commandFits (z .command)) loaded-is
         ∙ h .fits;
   }
-
--- a request ends further on in the bytes
-module _ (s : List ℕ) (b : Bytes s) (at : ℕ) (r : request.Request) (end : ℕ) (e : request.requestAt s at ≡ some (r, end)) where
-  pub ends-inside : end ≤ length s
-  unfolding request.requestAt
-  ends-inside =
-      let w = whenever-some (fits request.requestF s at) (request.requestOf (value request.requestF s at), next request.requestF s at) (r, end) e in
-      let l : next request.requestF s at ≤ length s = reads s b request.requestF at (w .0) .within in
-      rw (ap (λ (z : request.Request × ℕ). z .1) (w .1)) at l
-
-  pub ends-later : at < end
-  unfolding request.encodeRequest
-  ends-later =
-      let h : drop at s ≡ request.encodeRequest r ++ drop end s = request-at-forth s b at r end e .1 in
-      let l = simp (length-append, length-drop) at (ap length h) in
-      let k = ends-inside in
-      omega arith
 
 -- ---- the answers
 

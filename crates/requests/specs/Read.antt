@@ -1,5 +1,5 @@
 -- What is loaded: the request that model reads, as the struct of crate `state`. Definitions only.
-use Prim.Native.Nat.{ℕ, _≤_, _<_}
+use Prim.Native.Nat.{ℕ, _+_, _≤_}
 use mathlib.Core.Path.{_≡_}
 use mathlib.Core.Bool.{true, false}
 use mathlib.Core.List.{List, []}
@@ -90,12 +90,13 @@ pub record Within (r : Request) : Type 0 where
 
 -- ---- the answers
 
--- 'Program applymap': found exactly where model reads a request, and then its request and the position after it, further on in the bytes
+-- 'Program applymap': found exactly where model reads a request, and then its request and the position after it. A request has 25
+-- bytes at least: its numbers and code
 pub record LoadedAt (s : List ℕ) (at : ℕ) (l : Loaded) : Type 0 where
   pub padding : List ℕ
   pub read : request.requestAt s at ≡ whenever (l .found) (viewRequest (l .request) padding, l .next)
   pub stays : l .found ≡ false → l .next ≡ at
-  pub passes : l .found ≡ true → at < l .next
+  pub passes : l .found ≡ true → at + 25 ≤ l .next
   pub inside : l .found ≡ true → l .next ≤ length s
   pub within : l .found ≡ true → Within (l .request)
 

@@ -10,7 +10,7 @@ use Rattle.applymap.proofs.run.Statement.{statement}
 use Rattle.applymap.proofs.run.Tie as tie
 
 abbrev Inv-loop : tie.InvT-loop
-Inv-loop buf₀ map₀ n₀ turns₀ buf map n turns = Sound map × (n ≤ length buf) × (n ≡ length (take n buf)) × (length buf ≡ length buf₀)
+Inv-loop buf₀ map₀ n₀ turns₀ buf map n turns = Sound map × (n ≤ length buf) × (n ≡ length (take n buf)) × (length buf ≡ length buf₀) × (length buf₀ ≤ 8192)
 
 abbrev μ-loop : tie.MeasureT-loop
 μ-loop buf₀ map₀ n₀ turns₀ buf map n turns = turns
@@ -21,7 +21,7 @@ empty-map-requires c κs = search needs
 loop-holds : tie.Need-loop-holds Inv-loop μ-loop
 loop-holds c =
     let s = c .empty-map .ensures in
-    (record { counted = s .counted; formed = s .formed }, omega arith, refl, refl)
+    (record { counted = s .counted; formed = s .formed }, omega arith, refl, refl, c .before .before .pre)
 
 slice-reshare-prefix-drain : tie.Need-slice-reshare-prefix-drain Inv-loop μ-loop
 slice-reshare-prefix-drain c = search needs
@@ -31,6 +31,9 @@ slice-aggregate-drain c = search needs
 
 drain-requires : tie.Need-drain-requires Inv-loop μ-loop
 drain-requires c κs = search needs
+
+print-all-requires : tie.Need-print-all-requires Inv-loop μ-loop
+print-all-requires c κs = c .before .drain .ensures .count
 
 sub-rest : tie.Need-sub-rest Inv-loop μ-loop
 sub-rest c = search needs
@@ -58,11 +61,11 @@ loop-less c = search needs
 
 loop-again : tie.Need-loop-again Inv-loop μ-loop
 loop-again c =
-    let d = c .before .before .before .before .before .before .before .drain in
+    let d = c .before .before .before .before .before .before .before .before .before .drain in
     let r = c .before .before .before .before .refill in
-    let l = c .before .before .before .before .before .before .before .before .before .before .loop in
+    let l = c .before .before .before .before .before .before .before .before .before .before .before .before .loop in
     let fits : r .result ≤ length (r .last .0) = r .ensures .0 .1 in
-    (d .ensures .sound, fits, sym (length-take-le (r .result) (r .last .0) fits), r .ensures .1 .1 ∙ l .inv .3)
+    (d .ensures .sound, fits, sym (length-take-le (r .result) (r .last .0) fits), r .ensures .1 .1 ∙ l .inv .3, l .inv .4)
 
 same-length-3 : tie.Need-same-length-3 Inv-loop μ-loop
 same-length-3 c = search needs
@@ -81,6 +84,7 @@ run-spec =
     slice-reshare-prefix-drain
     slice-aggregate-drain
     drain-requires
+    print-all-requires
     sub-rest
     same-length
     returns

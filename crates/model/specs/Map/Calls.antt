@@ -67,21 +67,30 @@ reasonNumber (refused r) = numberOf r
 abbrev pub lineOf : ℕ → Applied → Line
 lineOf index a = record { index = index; word = wordOf (a .answer); reason = reasonNumber (a .answer); version = a .map .version }
 
--- 'Program applymap': requests that follow one another, each taken by its own length, until one does not decode or the end. There are
--- no more of them than bytes
-unfoldable pub requestsFrom : ℕ → List ℕ → Option (Request × ℕ) → List Request
-requestsFrom zero bytes o = []
-requestsFrom (suc n) bytes none = []
-requestsFrom (suc n) bytes (some r) = r .0 ∷ requestsFrom n bytes (requestAt bytes (r .1))
+-- 'Program applymap': requests that follow one another, each taken by its own length, until one does not decode or the end; and the
+-- place after the last. There are no more of them than bytes
+unfoldable pub requestsFrom : ℕ → List ℕ → (at : ℕ) → Option (Request × ℕ) → List Request × ℕ
+requestsFrom zero bytes at o = ([], at)
+requestsFrom (suc n) bytes at none = ([], at)
+requestsFrom (suc n) bytes at (some r) = let t = requestsFrom n bytes (r .1) (requestAt bytes (r .1)) in (r .0 ∷ t .0, t .1)
 
 -- 'Program applymap': the requests on standard input
 unfoldable pub requestsIn : List ℕ → List Request
-requestsIn bytes = requestsFrom (length bytes) bytes (requestAt bytes 0)
+requestsIn bytes = requestsFrom (length bytes) bytes 0 (requestAt bytes 0) .0
+
+-- 'Program applymap': the place after the last of them, where none begins
+unfoldable pub endIn : List ℕ → ℕ
+endIn bytes = requestsFrom (length bytes) bytes 0 (requestAt bytes 0) .1
 
 -- 'Program applymap': a line for each request
 unfoldable pub linesFor : Map → List Request → List Line
 linesFor m [] = []
 linesFor m (r ∷ rs) = let a = applyCall m r in lineOf (r .index) a ∷ linesFor (a .map) rs
+
+-- 'Program applymap': the map after the last request
+unfoldable pub mapAfter : Map → List Request → Map
+mapAfter m [] = m
+mapAfter m (r ∷ rs) = mapAfter (applyCall m r .map) rs
 
 -- 'Program applymap': starts from an empty map
 unfoldable pub applyStream : List ℕ → List Line

@@ -36,20 +36,23 @@ settle-requires c κs =
     let w = c .before .before .before .request-at .ensures .within (not-false _ (c .before .if1 .left)) in
     record { counted = l .inv .0; formed = l .inv .1; lists = w .counted .lists; within = w .fits [] }
 
-line-requires : tie.Need-line-requires Inv-loop μ-loop
-line-requires c κs = search needs
+line-of-requires : tie.Need-line-of-requires Inv-loop μ-loop
+line-of-requires c κs = search needs
+
+print-requires : tie.Need-print-requires Inv-loop μ-loop
+print-requires c κs = search needs
 
 loop-less : tie.Need-loop-less Inv-loop μ-loop
 loop-less c =
-    let r = c .before .before .before .before .before .before .before .request-at .ensures in
-    let found = not-false _ (c .before .before .before .before .before .if1 .left) in
+    let r = c .before .before .before .before .before .before .before .before .request-at .ensures in
+    let found = not-false _ (c .before .before .before .before .before .before .if1 .left) in
     omega (arith, r .passes found, r .inside found)
 
 loop-again : tie.Need-loop-again Inv-loop μ-loop
 loop-again c =
-    let r = c .before .before .before .before .before .before .before .request-at .ensures in
-    let s = c .before .before .before .settle .ensures in
-    (s .counted, s .formed, r .inside (not-false _ (c .before .before .before .before .before .if1 .left)))
+    let r = c .before .before .before .before .before .before .before .before .request-at .ensures in
+    let s = c .before .before .before .before .settle .ensures in
+    (s .counted, s .formed, r .inside (not-false _ (c .before .before .before .before .before .before .if1 .left)))
 
 pub drain-spec : {M : Type 1} → statement M
 drain-spec =
@@ -61,6 +64,7 @@ drain-spec =
     request-at-requires
     returns
     settle-requires
-    line-requires
+    line-of-requires
+    print-requires
     loop-less
     loop-again)
