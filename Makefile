@@ -6,14 +6,14 @@
 run: dome ## a dome of three nodes in one process, told step by step (examples/dome.c)
 	@target/host/dome
 
-test: ## every proof, every edit that must fail, every program against its stored answers
+test: ## every proof, every edit of crates/*/must-fail, every program against its stored answers
 	bash .ci/run
 
 help: ## what can be made
 	@sed -n 's/^\([a-z-]*\):[^#]*## \(.*\)/\1\t\2/p' $(MAKEFILE_LIST) | expand -t 18
 
 # ---- what the targets below link and run. Nothing is built that is not proved, so the first time takes a while.
-ENGINE_SOURCES := crates.txt $(shell find crates -name must-fail -prune -o -type f -print) $(shell command -v rt)
+ENGINE_SOURCES := crates.txt $(shell find crates \( -name must-fail -o -name wrong \) -prune -o -type f -print) $(shell command -v rt)
 
 # One crate as a static library. What it stands on is proved first, as many crates at once as there are processors.
 target/staticlib/lib%.a: $(ENGINE_SOURCES)
@@ -39,6 +39,9 @@ programs: ## the engine's programs, proved, built and run on their stored input 
 	@echo "proving and building the engine's programs: the first time this takes minutes (target/programs.log says how far it is)"
 	@rt check $(PROGRAMS) >target/programs.log 2>&1 || \
 	    { tail -n 20 target/programs.log >&2; echo "a program was not built; all that was said is in target/programs.log" >&2; exit 1; }
+
+# Wrong programs beyond those of the gate, unused dependencies, the gate's time.
+include tools/gate.mk
 
 # Hosts in C and Rust over the entry points.
 include host/host.mk
