@@ -2,6 +2,10 @@
  * reads calls from standard input, makes them through include/catalogue.h and prints what each answers; docs/ORACLE.md,
  * 'replay', has the records and the lines. It also shows a whole host: who owns the images, and which call gets what.
  *
+ *     replay              calls on a map and nodes
+ *     replay --shard-of   records of program `shardof`, answered by catalogue_shard_of
+ *     replay --version    the library's version, as catalogue_version tells it
+ *
  * A record that is cut short, an unknown call or a node above 8 ends the program quietly, as the input's end does.
  * Status 1, with a line on standard error, is for input that cannot be read, output that cannot be written, and an
  * engine that answers what catalogue.h or docs/IMAGES.md rule out. */
@@ -542,7 +546,7 @@ static bool read_record(struct record *r)
     return read_bytes(operands, r->left) && r->call < CALLS && r->number <= NODES;
 }
 
-int main(void)
+static void answer_calls(void)
 {
     struct record r;
     uint32_t said = catalogue_empty_map(map, sizeof map);
@@ -550,6 +554,34 @@ int main(void)
         fail("no empty map, but the answer", said);
     while (read_record(&r))
         answer_record(&r);
+}
+
+/* An id, u64, and a number of shards, u32, in each record. */
+static void answer_ids(void)
+{
+    uint8_t record[12];
+    while (read_bytes(record, sizeof record))
+        printf("%" PRIu32 "\n", catalogue_shard_of(catalogue_u64(record), catalogue_u32(record + 8)));
+}
+
+static void answer_version(void)
+{
+    uint32_t version = catalogue_version();
+    printf("%" PRIu32 ".%" PRIu32 ".%" PRIu32 "\n", version / 1000000, version / 1000 % 1000, version % 1000);
+}
+
+int main(int argc, char **argv)
+{
+    if (argc == 1)
+        answer_calls();
+    else if (argc == 2 && strcmp(argv[1], "--shard-of") == 0)
+        answer_ids();
+    else if (argc == 2 && strcmp(argv[1], "--version") == 0)
+        answer_version();
+    else {
+        fputs("usage: replay [--shard-of | --version]\n", stderr);
+        return EXIT_FAILURE;
+    }
     if (fflush(stdout) != 0 || ferror(stdout))
         fail_at("standard output cannot be written");
     return EXIT_SUCCESS;

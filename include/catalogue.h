@@ -39,6 +39,16 @@
 extern "C" {
 #endif
 
+/* ---- version: MAJOR.MINOR.PATCH (CHANGELOG.md). A later one is the larger number */
+
+#define CATALOGUE_VERSION_MAJOR 0
+#define CATALOGUE_VERSION_MINOR 2
+#define CATALOGUE_VERSION_PATCH 0
+#define CATALOGUE_VERSION 2000u /* MAJOR * 1,000,000 + MINOR * 1,000 + PATCH */
+
+/* The version of the library that is linked. If it is not CATALOGUE_VERSION, the header is another one's. */
+uint32_t catalogue_version(void);
+
 /* ---- sizes, in bytes */
 
 #define CATALOGUE_MAP 26536u      /* the image of a shard map */
@@ -133,6 +143,10 @@ uint32_t catalogue_place(const uint8_t *map, size_t map_len, uint32_t shards, ui
 /* Which node takes a replica of the shard next. 0: it stands in `answer`; 1 none; 21, 23, 24. */
 uint32_t catalogue_replacement(const uint8_t *map, size_t map_len, const uint8_t *name, size_t name_len, uint32_t shard,
                                uint8_t *answer, size_t answer_len);
+
+/* Which shard of a collection of so many holds an id: 0 to shards - 1, and 0 of none. Writes of the id go to that shard
+ * alone; a search asks them all. Every number is an answer, none a refusal. */
+uint32_t catalogue_shard_of(uint64_t id, uint32_t shards);
 
 /* ---- the node: what the map and the clock bring */
 

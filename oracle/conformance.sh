@@ -1,7 +1,7 @@
 #!/bin/sh
 # Runs the engine's programs on the stored inputs and holds their output against the stored answers. It needs neither
 # Rust nor the source files. Where a program is, ENGINE_NAME says (ENGINE_REPLAY and so on), else target/host/NAME. A
-# program that is not there, or a list that is not, is a failure.
+# program that is not there, or a list that is not, is a failure. Shard numbers are asked of the entry point too.
 #   conformance.sh ROOT [LIST ..]       a list is PROGRAM/NAME; all by default
 set -u
 root=$1
@@ -13,9 +13,11 @@ done
 printed=target/conformance.out
 mkdir -p target
 passed=0 failed=0
-for program in applymap decode history order replay roots search shardof streams; do
+ENGINE_SHARDOF_C="${ENGINE_REPLAY:-target/host/replay} --shard-of"
+for program in applymap decode history order replay roots search shardof shardof_c streams; do
     variable=ENGINE_$(echo "$program" | tr '[:lower:]' '[:upper:]')
     eval "command=\${$variable:-target/host/$program}"
+    program=${program%_c}
     same=0 tried=0
     for input in oracle/stored/"$program"/*.in; do
         list=$program/$(basename "$input" .in)

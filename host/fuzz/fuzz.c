@@ -470,6 +470,7 @@ static uint32_t any_shard(void)
 
 /* ---- the calls. Each makes its operands once (`operands`), and may then be made twice (`call`) */
 
+static uint64_t calls = 1000000; /* of each entry point */
 static uint64_t numbers[4];
 static uint32_t shard;
 
@@ -687,6 +688,21 @@ static uint32_t call_outcome(uint8_t *base)
                              (uint8_t)numbers[3]);
 }
 
+/* ---- the two calls that are lent nothing: any numbers are an answer, and there is no refusal */
+
+static void try_numbers(void)
+{
+    for (uint64_t i = 0; i < calls; i++) {
+        uint64_t id = any_number();
+        uint32_t shards = (uint32_t)any_number(), said = catalogue_shard_of(id, shards);
+        if (said >= (shards == 0 ? 1 : shards))
+            fail("catalogue_shard_of", "answered a shard that the collection does not have", said);
+    }
+    printf("%-22s %" PRIu64 " calls\n", "catalogue_shard_of", calls);
+    if (catalogue_version() != CATALOGUE_VERSION)
+        fail("catalogue_version", "is another one than the header's", catalogue_version());
+}
+
 struct entry {
     const char *name;
     enum { OF_MAP = 1, OF_NODE = 2, OF_BOTH = 3 } whose; /* which images it gets */
@@ -715,8 +731,6 @@ static const struct entry entries[] = {
 };
 
 /* ---- one trial */
-
-static uint64_t calls = 1000000; /* of each entry point */
 
 static struct buffer *const buffers[] = {&map, &header, &message, &reply, &answer, &refused, &wide, &name};
 enum { BUFFERS = sizeof buffers / sizeof buffers[0] };
@@ -808,6 +822,7 @@ static void *try_all(void *unused)
     (void)unused;
     for (size_t i = 0; i < sizeof entries / sizeof entries[0]; i++)
         try_entry(&entries[i]);
+    try_numbers();
     return NULL;
 }
 
@@ -831,11 +846,22 @@ static void try_on_a_stack(void)
         fail("CATALOGUE_STACK", "is less than the calls used", STACK - left);
 }
 
+static uint64_t number_of(const char *text)
+{
+    char *end;
+    uint64_t number = strtoull(text, &end, 10);
+    if (*text < '0' || *text > '9' || *end != 0) {
+        fprintf(stderr, "fuzz: '%s' is no whole number\nusage: fuzz [CALLS [SEED]]\n", text);
+        exit(EXIT_FAILURE);
+    }
+    return number;
+}
+
 int main(int argc, char **argv)
 {
     if (argc > 1)
-        calls = strtoull(argv[1], NULL, 10);
-    state = argc > 2 ? strtoull(argv[2], NULL, 10) : 1;
+        calls = number_of(argv[1]);
+    state = argc > 2 ? number_of(argv[2]) : 1;
     make_stores();
     catch_faults();
     make_dome();

@@ -13,6 +13,19 @@ pub use answer::{
 pub use map::{MAP, Map};
 pub use node::{HEADER, Node, STORES};
 
+/// Which shard of a collection of so many holds an id; 0 of none.
+pub fn shard_of(id: u64, shards: u32) -> u32 {
+    // SAFETY: two numbers, and any are an answer.
+    unsafe { sys::catalogue_shard_of(id, shards) }
+}
+
+/// The version of the engine that is linked: major, minor, patch.
+pub fn version() -> (u32, u32, u32) {
+    // SAFETY: nothing is handed over.
+    let number = unsafe { sys::catalogue_version() };
+    (number / 1_000_000, number / 1_000 % 1_000, number % 1_000)
+}
+
 /// The number that bytes begin with, u64.
 fn number(bytes: &[u8]) -> u64 {
     u64::from_le_bytes(bytes[..8].try_into().expect("eight bytes"))

@@ -31,6 +31,8 @@ unsafe extern "C" {
         answer: *mut u8,
         answer_len: usize,
     ) -> u32;
+    pub fn catalogue_shard_of(id: u64, shards: u32) -> u32;
+    pub fn catalogue_version() -> u32;
     pub fn catalogue_show_map(
         header: *mut u8,
         header_len: usize,

@@ -177,3 +177,26 @@ fn bytes_that_are_no_state_are_refused() {
     assert_eq!(node.grant(1, 0, LEASE), Err(Refusal::Malformed));
     assert_eq!(node.grant(1, u64::MAX, LEASE), Err(Refusal::Undecodable));
 }
+
+/// The ids of oracle/stored/shardof, with the answers of the Rust that this engine is a port of.
+#[test]
+fn ids_are_placed_as_stored() {
+    let stored = include_bytes!("../../../oracle/stored/shardof/all.in");
+    let answers = include_str!("../../../oracle/stored/shardof/all.out");
+    let (records, rest) = stored.as_chunks::<12>();
+    assert!(rest.is_empty() && records.len() == answers.lines().count());
+    for (record, answer) in records.iter().zip(answers.lines()) {
+        let id = u64::from_le_bytes(record[..8].try_into().unwrap());
+        let shards = u32::from_le_bytes(record[8..].try_into().unwrap());
+        assert_eq!(catalogue::shard_of(id, shards).to_string(), answer);
+    }
+}
+
+#[test]
+fn the_version_is_the_packages() {
+    let (major, minor, patch) = catalogue::version();
+    assert_eq!(
+        format!("{major}.{minor}.{patch}"),
+        env!("CARGO_PKG_VERSION")
+    );
+}

@@ -2,6 +2,8 @@
 // byte images that the host owns (docs/IMAGES.md). Each is the call of the crate that its contract cites, under a name for the linker.
 pub mod clients;
 pub mod headers;
+pub mod ids;
 pub mod maps;
 pub mod peers;
+pub mod version;
 pub mod workers;
