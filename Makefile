@@ -43,8 +43,13 @@ programs: ## the engine's programs, proved, built and run on their stored input 
 # Wrong programs beyond those of the gate, unused dependencies, the gate's time.
 include tools/gate.mk
 
+# What a target needs, said in words before it starts.
+include make/needs.mk
 # Hosts in C and Rust over the entry points.
 include host/host.mk
+
+# The engine as a part to install.
+include make/install.mk
 
 # The Rust this engine is a port of, as an oracle: needs cargo and the source files, never the gate.
 include oracle/oracle.mk
