@@ -175,7 +175,9 @@ uint32_t catalogue_search(const uint8_t *header, size_t header_len, const uint8_
                           size_t message_len, uint8_t *hits, size_t hits_len, uint8_t *answer, size_t answer_len);
 
 /* Whether an accepted write is acknowledged. 0 done, 1 waiting; either way `answer` tells for how many peers a Shrink
- * is to be proposed, and they stand in `peers`, u64 each, rising. 17; 18, the own epoch in `answer`; 21, 23, 24. */
+ * is to be proposed, and they stand in `peers`, u64 each, rising. 17; 18, the own epoch in `answer`; 21, 23, 24. A wait
+ * that asks for a Shrink which the map rejects with 14 does so for ever: an Expand of that peer was lost. Promote again
+ * (docs/HOST.md, 'Two traps'). */
 uint32_t catalogue_wait(uint8_t *header, size_t header_len, const uint8_t *name, size_t name_len, uint32_t shard,
                         uint64_t epoch, uint64_t offset, uint64_t now, uint64_t ack_timeout, uint8_t *peers,
                         size_t peers_len, uint8_t *answer, size_t answer_len);
@@ -214,7 +216,9 @@ uint32_t catalogue_ack(uint8_t *header, size_t header_len, const uint8_t *name, 
                        uint64_t epoch, uint64_t peer, uint8_t step, const uint8_t *reply, size_t reply_len);
 
 /* How a proposal of this node ended: `command` 0x17 Shrink, 0x18 Expand, as in the request; `applied` 1 if the map
- * applied it, 0 if it was rejected, refused or timed out. 0; 21, 24. */
+ * applied it, 0 if it was rejected, refused or timed out. 0; 21, 24. Told once or never: a timeout is an outcome, and
+ * none follows it. A peer whose Shrink is applied after it has caught up, or whose Expand is told as 0, is not proposed
+ * again under that epoch; if writes stop for it, promote again (docs/HOST.md, 'Two traps'). */
 uint32_t catalogue_outcome(uint8_t *header, size_t header_len, const uint8_t *name, size_t name_len, uint32_t shard,
                            uint64_t epoch, uint64_t peer, uint8_t command, uint8_t applied);
 

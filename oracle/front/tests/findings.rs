@@ -32,13 +32,18 @@ struct Dome {
 impl Dome {
     /// Shard `a/0` on nodes 1 to `count`, all of them shown the map.
     fn new(count: u64) -> Self {
+        Self::taking(count, 1)
+    }
+
+    /// The same, where a write is taken with so many in sync.
+    fn taking(count: u64, min_in_sync: u64) -> Self {
         let make = |id| {
             inside::make(&Settings {
                 id,
                 incarnation: 7,
                 lease: 1_000_000,
                 ack_timeout: 100,
-                min_in_sync: 1,
+                min_in_sync,
             })
         };
         let mut dome = Dome {
@@ -352,4 +357,81 @@ fn two_nodes_started_together_share_a_client_number() {
     // Another node's first command is answered with the outcome of the first one's.
     let other = dome.map.apply(10, &request(shrink(8)));
     assert_eq!(other, Outcome::Applied);
+}
+
+fn shrink() -> ControlCommand {
+    ControlCommand::ShrinkInSync {
+        shard: key(),
+        node: DataNodeId(2),
+        epoch: Epoch(1),
+    }
+}
+
+/// A write that node 2 is too slow for: the Shrink that a wait proposes.
+fn shrink_proposed(dome: &Dome) -> inside::Proposal {
+    assert_eq!(dome.exchange(1), 0);
+    let offset = dome.write();
+    let wait = |now| inside::wait(&dome.nodes[0], now, &key(), 1, offset).expect("primary");
+    assert!(wait(0).1.is_empty());
+    let (done, mut shrinks) = wait(101);
+    assert!(!done && shrinks.len() == 1);
+    shrinks.remove(0)
+}
+
+/// Caught up when it is shrunk, a peer is sent nothing more, so that no ack proposes its Expand.
+#[test]
+fn a_peer_that_catches_up_during_its_shrink_stays_out() {
+    let mut dome = Dome::taking(2, 2);
+    let proposal = shrink_proposed(&dome);
+    assert_eq!(dome.exchange(1), 1);
+    assert_eq!(dome.apply(shrink()), Outcome::Applied);
+    inside::settle(proposal.task, true);
+    let (asked, _) = inside::step(&dome.nodes[0], &key(), 1, 2, METRIC);
+    assert_eq!(asked, Asked::Wait);
+    let write = |epoch| Write {
+        shard: key(),
+        epoch: Epoch(epoch),
+        op: WriteOp::Delete { id: 1 },
+    };
+    assert!(inside::write(&dome.nodes[0], 0, write(1)).is_err());
+    // A promotion starts the worker anew, and its alignment is an ack.
+    assert_eq!(dome.promote(1, 1), Outcome::Applied);
+    assert_eq!(dome.show(0), 1);
+    assert!(inside::write(&dome.nodes[0], 0, write(2)).is_err());
+    assert_eq!(dome.exchange(2), 1);
+    assert!(inside::write(&dome.nodes[0], 0, write(2)).is_ok());
+}
+
+/// An Expand that never comes about leaves a peer in the ack set that no Shrink takes out.
+#[test]
+fn a_lost_expand_leaves_a_peer_that_cannot_be_shrunk() {
+    let mut dome = Dome::new(2);
+    let proposal = shrink_proposed(&dome);
+    assert_eq!(dome.apply(shrink()), Outcome::Applied);
+    inside::settle(proposal.task, true);
+    let expand = inside::record_ack(&dome.nodes[0], &key(), 1, 2, 1, false);
+    inside::settle(expand.expect("an Expand"), false);
+    assert!(in_ack_set(&dome, 2));
+    assert!(inside::record_ack(&dome.nodes[0], &key(), 1, 2, 1, false).is_none());
+    // Node 2 fails; its Shrink is rejected, and proposed for ever.
+    let offset = dome.write();
+    let node = Arc::clone(&dome.nodes[0]);
+    let wait = |now| inside::wait(&node, now, &key(), 1, offset).expect("primary");
+    assert!(!wait(200).0);
+    for now in [301, 302, 900] {
+        let (done, mut shrinks) = wait(now);
+        assert!(!done && shrinks.len() == 1);
+        let rejected = Outcome::Rejected("node 2 is not in sync".into());
+        assert_eq!(dome.apply(shrink()), rejected);
+        inside::settle(shrinks.remove(0).task, false);
+    }
+    // A promotion takes the ack set from the map.
+    assert_eq!(dome.promote(1, 1), Outcome::Applied);
+    dome.show(0);
+    let offset = dome.write_at(2);
+    assert!(
+        inside::wait(&node, 901, &key(), 2, offset)
+            .expect("primary")
+            .0
+    );
 }

@@ -173,6 +173,8 @@ fn replay() -> Vec<List> {
         from("starred", scripts::starred()),
         from("settled", scripts::settled()),
         from("lone-entry", scripts::lone_entry()),
+        from("caught-up", scripts::caught_up_during_shrink()),
+        from("lost-expand", scripts::lost_expand()),
         from("sessions", scripts::sessions()),
         from("replies", scripts::replies()),
         from("two-faults", scripts::two_faults()),

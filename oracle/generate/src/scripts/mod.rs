@@ -6,6 +6,7 @@ mod faults;
 mod limits;
 mod replies;
 mod settled;
+mod traps;
 
 use wire::{Change, Command, Entry, Key, Message, Op, Spec};
 
@@ -16,6 +17,7 @@ pub use faults::two_faults;
 pub use limits::{full_log, many_workers, nine_shards};
 pub use replies::replies;
 pub use settled::{lone_entry, settled};
+pub use traps::{caught_up_during_shrink, lost_expand};
 
 const TIME: u64 = 1 << 62;
 
