@@ -23,9 +23,9 @@ need-cmake:
 need-target:
 	@mkdir -p target 2>/dev/null && [ -w target ] || { echo "make: $(CURDIR)/target cannot be written, and all that is built goes there" >&2; exit 1; }
 
-# Operands that are whole numbers, each tried by the target number-NAME. An empty one is left to the program's default.
+# Operands that are whole numbers, each tried by the target number-NAME.
 NUMBERS := CALLS SECONDS SEED RUNS STEPS
 .PHONY: $(NUMBERS:%=number-%)
 $(NUMBERS:%=number-%): number-%:
-	@case '$(subst ','\'',$($*))' in *[!0-9]* | ??????????????????*) \
+	@case '$(subst ','\'',$($*))' in '' | *[!0-9]* | ??????????????????*) \
 	    echo "make: $* is to be a whole number of at most 17 digits, and is '$(subst ','\'',$($*))'" >&2; exit 1;; esac
