@@ -5,7 +5,7 @@ use mathlib.Core.List.{List}
 use native.Mathlib.Omega.{arith}
 use lib.ListN.{length, getD, take, drop, set}
 use lib.Seq.{getD-drop, drop-drop, drop-set-lt}
-use Rattle.requests.proofs.Rows.{byte-more}
+use Rattle.texts.proofs.Bytes.{byte-more}
 
 module _ (old buf : List ℕ) (at i : ℕ) (front : take i buf ≡ take i (drop at old)) (back : drop (at + i) buf ≡ drop (at + i) old) (same : length buf ≡ length old)
     (h : at + i < length old) where

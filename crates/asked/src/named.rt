@@ -4,10 +4,10 @@ ghost use mathlib.Core.Bool.{true};
 ghost use Rattle.model.specs.Limits.{maxName};
 ghost use Rattle.rpcput.specs.Fields.{keyGiven, textFits};
 ghost use Rattle.state.specs.Names.{viewKey};
-use lend::named::key_of;
 use rpc::KeyPart;
 use rpc::Part;
 use state::ShardKey;
+use texts::key_of;
 
 // Of a name that a message can carry.
 pub fn key_named(name: &[u8], shard: u32) -> ShardKey

@@ -16,7 +16,7 @@ use Rattle.rpc.specs.declared.SearchPart.{SearchPart}
 use Rattle.rpc.proofs.Decoded.{search-decoded}
 use Rattle.arrivals.specs.Parts.{bitsIn}
 use Rattle.arrivals.proofs.OfMessages.{search-bits}
-use Rattle.lend.specs.Named.{keyIn}
+use Rattle.texts.specs.Texts.{keyIn}
 use Rattle.header.specs.declared.Node.{Node}
 use Rattle.headerimage.specs.Image.{nodeAt}
 use Rattle.lend.specs.Lend.{Lot}

@@ -19,7 +19,7 @@ use Rattle.rpc.specs.declared.WritePart.{WritePart}
 use Rattle.rpc.proofs.Decoded.{write-decoded}
 use Rattle.arrivals.specs.Parts.{opIn}
 use Rattle.arrivals.proofs.OfMessages.{write-op}
-use Rattle.lend.specs.Named.{keyIn}
+use Rattle.texts.specs.Texts.{keyIn}
 use Rattle.header.specs.declared.Node.{Node}
 use Rattle.header.specs.Seats.{slotsOf}
 use Rattle.header.specs.View.{Stores, viewNode}

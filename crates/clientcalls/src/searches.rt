@@ -5,12 +5,12 @@ ghost use Rattle.clientcalls.specs.Searched.{SearchesShard, SearchesByte
 use arrivals::domain::op_in_domain;
 use clientends::found::search_lent;
 use clientends::hits::room_of;
-use lend::named::key_of;
 use lentimage::pick::pick;
 use rpc::Message;
 use rpc::OpPart;
 use rpc::decode;
 use state::ShardKey;
+use texts::key_of;
 
 // At the shard that the message names: 24 a state that is not lent, then the search into columns of its own.
 fn search_at(

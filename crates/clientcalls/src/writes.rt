@@ -6,11 +6,11 @@ ghost use Rattle.clientcalls.specs.Written.{buffers, WritesShard, Writes
 use arrivals::domain::op_in_domain;
 use clientends::written::put_written;
 use clientwrites::write;
-use lend::named::key_of;
 use lentimage::pick::pick;
 use rpc::Message;
 use rpc::decode;
 use state::ShardKey;
+use texts::key_of;
 
 // At the shard that the message names: 24 a state that is not lent, then the write.
 fn write_at(

@@ -12,8 +12,8 @@ use Rattle.rpc.specs.declared.SearchPart.{SearchPart}
 use Rattle.rpc.specs.declared.Message.the-variants.{Search}
 use Rattle.rpc.proofs.Decoded.{search-decoded, search-answered}
 use Rattle.arrivals.proofs.OfMessages.{search-part}
-use Rattle.lend.specs.Named.{KeyThere, keyIn}
-use Rattle.lend.proofs.OfKeys.{KeyRead, key-read}
+use Rattle.texts.specs.Texts.{KeyThere, keyIn}
+use Rattle.texts.proofs.OfKeys.{KeyRead, key-read}
 use Rattle.clientsearches.specs.Searches.{IsSearch}
 
 module _ (s : List ℕ) where

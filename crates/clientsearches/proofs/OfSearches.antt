@@ -29,7 +29,7 @@ use Rattle.arrivals.proofs.OfMessages.{search-part, search-there, search-bits}
 use Rattle.header.specs.declared.Node.{Node}
 use Rattle.header.specs.View.{Stores, viewNode}
 use Rattle.header.proofs.OfShards.{some-stores}
-use Rattle.lend.specs.Named.{keyIn}
+use Rattle.texts.specs.Texts.{keyIn}
 use Rattle.lend.specs.Lend.{Lot, lentFor, slotOf, Lends}
 use Rattle.lend.proofs.OfLend.{holding, holding-changes}
 use Rattle.clientsearches.specs.declared.SearchAnswer.{SearchAnswer}

@@ -6,7 +6,6 @@ ghost use Rattle.model.specs.Node.Refused.{counted};
 ghost use Rattle.lend.specs.Lend.{lot};
 ghost use Rattle.clientsearches.specs.Searches.{output, turnedDown, IsSearch, Searches, SearchesAt};
 use header::Node;
-use lend::named::key_of;
 use model::Epoch;
 use named::search_named;
 use query::read_query;
@@ -14,6 +13,7 @@ use refused::next_count;
 use rpc::Message;
 use rpc::SearchPart;
 use rpc::decode;
+use texts::key_of;
 
 mod held;
 mod named;

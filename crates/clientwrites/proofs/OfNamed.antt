@@ -12,8 +12,8 @@ use Rattle.rpc.specs.declared.WritePart.{WritePart}
 use Rattle.rpc.specs.declared.Message.the-variants.{Write}
 use Rattle.rpc.proofs.Decoded.{write-decoded, write-answered}
 use Rattle.arrivals.proofs.OfMessages.{write-part}
-use Rattle.lend.specs.Named.{KeyThere, keyIn}
-use Rattle.lend.proofs.OfKeys.{KeyRead, key-read}
+use Rattle.texts.specs.Texts.{KeyThere, keyIn}
+use Rattle.texts.proofs.OfKeys.{KeyRead, key-read}
 
 module _ (s : List ℕ) where
   write-read : (m : message.Write) → message.decodeWrite s ≡ some m → KeyRead s (m .key)

@@ -42,7 +42,7 @@ use Rattle.header.proofs.OfFormed.{header-apart, shard-formed}
 use Rattle.header.proofs.OfShards.{call-absent}
 use Rattle.lend.specs.declared.Lent.the-variants as L
 use Rattle.lend.specs.declared.Lent as found
-use Rattle.lend.specs.Named.{keyIn}
+use Rattle.texts.specs.Texts.{keyIn}
 use Rattle.lend.specs.Lend.{Lot, storeIn, storeOf, lentFor, slotOf, Finds, Found, withStore, Whole}
 use Rattle.lend.proofs.OfLend.{few-held, slot-held, call-store, node-view}
 use Rattle.lend.proofs.OfPut.{lotOf, put-same, whole-put}

@@ -8,12 +8,12 @@ use crate::reply::reply_of;
 use arrivals::domain::op_in_domain;
 use header::Node;
 use lend::Lent;
-use lend::named::key_of;
 use lend::tested::lent_shard;
 use lend::tested::put_back;
 use rpc::Message;
 use rpc::decode;
 use serve::lease::leased;
+use texts::key_of;
 
 // 21 a time above 2^62 or a message that is no Write, 22, 24, 17; then the write at the shard.
 pub fn write_uncounted(

@@ -1,4 +1,3 @@
-pub mod OfKeys
 pub mod OfLend
 pub mod OfPut
 pub mod OfSeats

@@ -1,7 +1,6 @@
 // The lent state of a call that touches one shard's log (paper 01, 'Who is turned down', 24): a header by value, and the columns of the one
 // store that the call is lent, that of the shard which it names. Such a shard's slot is its own; one that is not held would begin in the
 // lowest free slot. Internal: what the node's calls on bytes share.
-pub mod named;
 pub mod tested;
 
 // What the test of a lent state found: it is malformed, or the place of the shard that the call names.

@@ -24,7 +24,7 @@ use Rattle.header.specs.declared.Node.{Node}
 use Rattle.header.specs.View.{Stores, viewNode}
 use Rattle.header.specs.Seats.{slotsOf}
 use Rattle.header.specs.Answers.{told}
-use Rattle.lend.specs.Named.{keyIn}
+use Rattle.texts.specs.Texts.{keyIn}
 use Rattle.lend.specs.declared.Lent as found
 use Rattle.lend.specs.declared.Lent.the-variants as L
 use Rattle.lend.specs.Lend.{Lot, placeOf, slotOf, Finds}

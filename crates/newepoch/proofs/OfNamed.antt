@@ -12,8 +12,8 @@ use Rattle.rpc.specs.declared.NewEpochPart.{NewEpochPart}
 use Rattle.rpc.specs.declared.Message.the-variants.{NewEpoch}
 use Rattle.rpc.proofs.Decoded.{new-epoch-decoded, new-epoch-answered}
 use Rattle.arrivals.proofs.OfMessages.{new-epoch-part}
-use Rattle.lend.specs.Named.{KeyThere, keyIn}
-use Rattle.lend.proofs.OfKeys.{KeyRead, key-read}
+use Rattle.texts.specs.Texts.{KeyThere, keyIn}
+use Rattle.texts.proofs.OfKeys.{KeyRead, key-read}
 
 module _ (s : List ℕ) where
   new-epoch-read : (m : message.NewEpoch) → message.decodeNewEpoch s ≡ some m → KeyRead s (m .key)

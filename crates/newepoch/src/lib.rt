@@ -7,7 +7,6 @@ use crate::begin::begin;
 use backup::new_epoch_held;
 use header::Node;
 use lend::Lent;
-use lend::named::key_of;
 use lend::tested::lent_shard;
 use lend::tested::put_back;
 use peers::PeerAnswer;
@@ -15,6 +14,7 @@ use peers::PeerReply;
 use peers::reply_of;
 use rpc::Message;
 use rpc::decode;
+use texts::key_of;
 
 mod begin;
 

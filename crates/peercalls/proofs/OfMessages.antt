@@ -17,7 +17,7 @@ use Rattle.rpc.specs.declared.Message.the-variants.{Replicate, NewEpoch, CopySh
 use Rattle.rpc.proofs.Decoded.{replicate-decoded, new-epoch-decoded, copy-decoded}
 use Rattle.arrivals.specs.Parts.{opIn, entriesIn}
 use Rattle.arrivals.proofs.OfMessages.{replicate-op, copy-entries}
-use Rattle.lend.specs.Named.{keyIn}
+use Rattle.texts.specs.Texts.{keyIn}
 use Rattle.peers.specs.Peers.{ReplicatesAt, CopiesAt}
 use Rattle.peers.proofs.OfNamed.{replicate-key, copy-key}
 use Rattle.newepoch.specs.Announces.{AnnouncesAt}

@@ -13,8 +13,8 @@ use Rattle.rpc.specs.declared.CopyPart.{CopyPart}
 use Rattle.rpc.specs.declared.Message.the-variants.{Replicate, CopyShard}
 use Rattle.rpc.proofs.Decoded.{replicate-decoded, replicate-answered, copy-decoded, copy-answered}
 use Rattle.arrivals.proofs.OfMessages.{replicate-part, copy-part}
-use Rattle.lend.specs.Named.{KeyThere, keyIn}
-use Rattle.lend.proofs.OfKeys.{KeyRead, key-read}
+use Rattle.texts.specs.Texts.{KeyThere, keyIn}
+use Rattle.texts.proofs.OfKeys.{KeyRead, key-read}
 
 module _ (s : List ℕ) where
   replicate-read : (m : message.Replicated) → message.decodeReplicate s ≡ some m → KeyRead s (m .key)

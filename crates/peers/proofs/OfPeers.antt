@@ -42,7 +42,7 @@ use Rattle.peers.specs.declared.PeerReply.{PeerReply}
 use Rattle.peers.specs.declared.PeerReply.the-variants as P
 use Rattle.lend.specs.declared.Lent.the-variants as L
 use Rattle.lend.specs.declared.Lent as found
-use Rattle.lend.specs.Named.{keyIn}
+use Rattle.texts.specs.Texts.{keyIn}
 use Rattle.lend.specs.Lend.{Lot, storeIn, storeOf, placeOf, lentFor, slotOf, Finds, Found, withStore, Whole}
 use Rattle.peers.specs.Peers.{word, turnedDown, Serves, Seated, ReplicateNames, ReplicateSlot, ReplicatesAt, CopyNames, CopySlot, CopiesAt}
 use Rattle.peers.proofs.OfNamed.{replicate-key, copy-key}

@@ -30,7 +30,8 @@ use Rattle.state.specs.declared.Command.the-variants.{Create, Drop, Register, M
 use Rattle.state.specs.declared.Change.the-variants.{Add, Remove, Promote, Shrink, Expand}
 use Rattle.state.specs.declared.Request.{Request}
 use Rattle.model.specs.Keys as keys
-use Rattle.requests.specs.Parts.{Held, operandsOf, bytesAt, listsAt}
+use Rattle.texts.specs.Texts.{bytesAt}
+use Rattle.requests.specs.Parts.{Held, operandsOf, listsAt}
 use Rattle.requests.specs.Read.{commandRead, requestRead, paddingOf, LoadedAs, Within, LoadedAt, LoadedAll}
 use Rattle.requests.specs.declared.Operands.{Operands}
 use Rattle.requests.proofs.Stands.{command-stands}

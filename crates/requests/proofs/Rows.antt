@@ -1,12 +1,12 @@
--- The turns of the loops that copy items out of a message: bytes, nodes, lists. Assumes nothing.
+-- The turns of the loops that copy items out of a message: nodes, lists. Assumes nothing.
 use Prim.Native.Nat.{ℕ, suc, _+_, _-_, _*_, _≤_, _<_}
 use mathlib.Core.Path.{_≡_, refl, sym, ap, subst, _∙_}
 use mathlib.Core.Bool.{Bool, true}
 use mathlib.Core.List.{List, [], _∷_, _++_, map, append-nil}
 use native.Mathlib.Omega.{arith}
 use native.Mathlib.Numerals.{add-one}
-use lib.ListN.{length, getD, take, drop, set, length-drop}
-use lib.Seq.{take-suc, take-suc-set, take-all, getD-drop, append-snoc}
+use lib.ListN.{length, getD, take, set}
+use lib.Seq.{take-suc, take-suc-set, take-all, append-snoc}
 use borrow.Author.Tests.{leb-true}
 use Rattle.model.specs.Lists.{every}
 use Rattle.model.specs.Layout.Format.{fits, fitsN, next, value, valueN, numberAt}
@@ -42,19 +42,6 @@ module _ {A B : Type 0} (f : A → B) (rows : List A) (items : List B) (i : ℕ)
       ∙ ap (λ (r : List B). r ++ (f x ∷ [])) e
       ∙ ap (λ (y : B). take i items ++ (y ∷ [])) q
       ∙ sym (ap (λ (n : ℕ). take n items) (add-one i) ∙ take-suc items i d l)
-
--- ---- bytes
-
-module _ (s : List ℕ) (at i : ℕ) (bytes : List ℕ) where
-  pub byte-more : take i bytes ≡ take i (drop at s) → i < length bytes → at + i < length s
-      → take (i + 1) (set bytes i (getD s (at + i) 0)) ≡ take (i + 1) (drop at s)
-  byte-more e h l =
-      let k : i < length (drop at s) = rw length-drop (omega arith) in
-      ap (λ (n : ℕ). take n (set bytes i (getD s (at + i) 0))) (add-one i)
-      ∙ take-suc-set bytes i (getD s (at + i) 0) h
-      ∙ ap (λ (r : List ℕ). r ++ (getD s (at + i) 0 ∷ [])) e
-      ∙ ap (λ (y : ℕ). take i (drop at s) ++ (y ∷ [])) (sym (getD-drop at s i 0))
-      ∙ sym (ap (λ (n : ℕ). take n (drop at s)) (add-one i) ∙ take-suc (drop at s) i 0 k)
 
 -- ---- the nodes of a list
 

@@ -23,8 +23,9 @@ use Rattle.rpc.specs.declared.Part.{Part}
 use Rattle.rpc.proofs.Places.{text-length, length-valueN}
 use Rattle.rpc.proofs.Items.{text-bytes}
 use Rattle.state.specs.declared.Command.{Command}
-use Rattle.requests.specs.Parts.{Text, Lists, Held, listF, nowhere, namedOf, operandsOf}
-use Rattle.requests.specs.Read.{keyRead, commandRead}
+use Rattle.texts.specs.Texts.{Text, keyIn}
+use Rattle.requests.specs.Parts.{Lists, Held, listF, nowhere, namedOf, operandsOf}
+use Rattle.requests.specs.Read.{commandRead}
 use Rattle.requests.proofs.Rows.{list-held}
 
 -- what stands at a place
@@ -61,7 +62,7 @@ module _ (s : List ℕ) (at : ℕ) (e : fits keyF s at ≡ true) where
   key-held : Text 32 s (keyShown at (keyOf (value keyF s at)) .name)
   key-held = text-held 32 s at (and-left _ _ e)
 
-  key-back : keyRead s (keyShown at (keyOf (value keyF s at))) ≡ keyOf (value keyF s at)
+  key-back : keyIn s (keyShown at (keyOf (value keyF s at))) ≡ keyOf (value keyF s at)
   key-back = ap (λ (n : keys.Name). record { collection = n; shard = value u32 s (at + 1 + 32) }) (text-bytes 32 s at (and-left _ _ e))
 
   key-fits : leb (length (value nameF s at)) 32 ≡ true

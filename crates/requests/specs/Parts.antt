@@ -4,7 +4,7 @@ use Prim.Native.Nat.{ℕ, _+_, _*_, _≤_}
 use mathlib.Core.Path.{_≡_}
 use mathlib.Core.Bool.{Bool, true}
 use mathlib.Core.List.{List}
-use lib.ListN.{length, take, drop}
+use lib.ListN.{length, take}
 use lib.Dec.{leb}
 use Rattle.model.specs.Lists.{every}
 use Rattle.model.specs.Limits.{maxName, maxAddress, maxLists, maxListed}
@@ -22,6 +22,7 @@ use Rattle.state.specs.declared.Command.the-variants.{Create, Drop, Register, M
 use Rattle.state.specs.declared.Change.{Change}
 use Rattle.state.specs.declared.Change.the-variants.{Add, Remove, Promote, Shrink, Expand}
 use Rattle.state.specs.declared.Placement.{Placement}
+use Rattle.texts.specs.Texts.{Text}
 use Rattle.requests.specs.declared.Operands.{Operands}
 
 -- ---- where the operands stand
@@ -66,10 +67,6 @@ operandsOf (part.Bench p) = plainOf Bench
 
 -- ---- what stands there
 
--- the bytes of a name or an address
-abbrev pub bytesAt : List ℕ → Part → List ℕ
-bytesAt s p = take (p .len) (drop (p .at) s)
-
 -- a list of a placement
 abbrev pub listF : Format
 listF = many 1 0 maxListed u64
@@ -83,10 +80,6 @@ abbrev pub listsAt : List ℕ → Part → List (List ℕ)
 listsAt s p = valueN (value listF s) (next listF s) (p .len) (p .at)
 
 -- ---- that it stands there, within its limits
-
-pub record Text (most : ℕ) (s : List ℕ) (p : Part) : Type 0 where
-  pub short : p .len ≤ most
-  pub inside : p .at + p .len ≤ length s
 
 pub record Nodes (s : List ℕ) (p : Part) : Type 0 where
   pub few : p .len ≤ maxListed

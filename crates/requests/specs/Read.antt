@@ -4,7 +4,6 @@ use mathlib.Core.Path.{_≡_}
 use mathlib.Core.Bool.{true, false}
 use mathlib.Core.List.{List, []}
 use lib.ListN.{length}
-use Rattle.model.specs.Keys as keys
 use Rattle.model.specs.Limits.{maxName, maxAddress, maxLists}
 use Rattle.model.specs.Layout.Format.{word, next, value, valueN}
 use Rattle.model.specs.Layout.Parts.{whenever}
@@ -12,7 +11,6 @@ use Rattle.model.specs.Layout.Request as request
 use Rattle.model.specs.Map.Tables.{emptyMap}
 use Rattle.model.specs.Map.WellFormed.{wellFormedMap, commandFits}
 use Rattle.rpc.specs.declared.Part.{Part}
-use Rattle.rpc.specs.declared.KeyPart.{KeyPart}
 use Rattle.rpc.specs.declared.CommandPart.{CommandPart}
 use Rattle.rpc.specs.declared.CommandPart.the-variants as part
 use Rattle.rpc.specs.declared.RequestPart.{RequestPart}
@@ -20,13 +18,11 @@ use Rattle.state.specs.Counted.{TablesCounted}
 use Rattle.state.specs.View.{viewCommand, viewMap, viewRequest}
 use Rattle.state.specs.declared.Request.{Request}
 use Rattle.state.specs.declared.ShardMap.{ShardMap}
-use Rattle.requests.specs.Parts.{bytesAt, listsAt, listedRows}
+use Rattle.texts.specs.Texts.{bytesAt, keyIn}
+use Rattle.requests.specs.Parts.{listsAt, listedRows}
 use Rattle.requests.specs.declared.Loaded.{Loaded}
 
 -- ---- what rpc's parts show, as data
-
-abbrev pub keyRead : List ℕ → KeyPart → keys.Key
-keyRead s k = record { collection = bytesAt s (k .name); shard = k .shard }
 
 -- the bytes of a Bench
 abbrev pub paddingAt : List ℕ → Part → List ℕ
@@ -39,11 +35,11 @@ commandRead s (part.Create c) =
 commandRead s (part.Drop p) = request.dropCollection (bytesAt s p)
 commandRead s (part.Register c) = request.register (c .node .0) (bytesAt s (c .address)) (c .incarnation)
 commandRead s (part.MarkNodeDead c) = request.markDead (c .node .0) (c .incarnation)
-commandRead s (part.AddReplica c) = request.addReplica (keyRead s (c .key)) (c .node .0) (c .incarnation) (c .epoch .0)
-commandRead s (part.Remove c) = request.removeReplica (keyRead s (c .key)) (c .node .0) (c .epoch .0)
-commandRead s (part.Promote c) = request.promotePrimary (keyRead s (c .key)) (c .node .0) (c .epoch .0)
-commandRead s (part.Shrink c) = request.shrinkInSync (keyRead s (c .key)) (c .node .0) (c .epoch .0)
-commandRead s (part.Expand c) = request.expandInSync (keyRead s (c .key)) (c .node .0) (c .epoch .0)
+commandRead s (part.AddReplica c) = request.addReplica (keyIn s (c .key)) (c .node .0) (c .incarnation) (c .epoch .0)
+commandRead s (part.Remove c) = request.removeReplica (keyIn s (c .key)) (c .node .0) (c .epoch .0)
+commandRead s (part.Promote c) = request.promotePrimary (keyIn s (c .key)) (c .node .0) (c .epoch .0)
+commandRead s (part.Shrink c) = request.shrinkInSync (keyIn s (c .key)) (c .node .0) (c .epoch .0)
+commandRead s (part.Expand c) = request.expandInSync (keyIn s (c .key)) (c .node .0) (c .epoch .0)
 commandRead s (part.Bench p) = request.bench (paddingAt s p)
 
 abbrev pub requestRead : List ℕ → RequestPart → request.Request

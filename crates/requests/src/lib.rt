@@ -13,7 +13,6 @@ mod command;
 mod lists;
 pub mod load;
 pub mod start;
-mod texts;
 
 // A request that was read, and the position after it. Where none was, the request is free.
 pub struct Loaded {

@@ -4,8 +4,6 @@ ghost use Rattle.requests.specs.Read.{LoadedAs};
 use crate::command::operands_of;
 use crate::lists::load_placement;
 use crate::lists::no_list;
-use crate::texts::load_address;
-use crate::texts::load_name;
 use rpc::RequestPart;
 use state::Address;
 use state::Command;
@@ -13,6 +11,8 @@ use state::Name;
 use state::Placement;
 use state::Request;
 use state::ShardKey;
+use texts::load_address;
+use texts::load_name;
 
 pub fn load(s: &[u8], p: RequestPart) -> Request
     requires { ⌜ Held (now s) (operandsOf (p .command)) ⌝ }

@@ -10,7 +10,7 @@ use Rattle.newepoch.proofs.new_epoch.Statement.{statement}
 use Rattle.newepoch.proofs.new_epoch.Tie as tie
 use Rattle.newepoch.proofs.new_epoch.Lts as lts
 use Rattle.backup.proofs.new_epoch_held.Reads as new-epoch-held-reads
-use Rattle.lend.proofs.named.key_of.Reads as key-of-reads
+use Rattle.texts.proofs.key_of.Reads as key-of-reads
 use Rattle.lend.proofs.tested.lent_shard.Reads as lent-shard-reads
 use Rattle.lend.proofs.tested.put_back.Reads as put-back-reads
 use Rattle.newepoch.proofs.begin.begin.Reads as begin-reads

@@ -15,7 +15,7 @@ use Rattle.peers.proofs.copy.copy.Reads as reads
 use Rattle.peers.proofs.copy.copy.Lts as lts
 use Rattle.arrivals.proofs.domain.entries_in_domain.Reads as entries-in-domain-reads
 use Rattle.backup.proofs.copy_held.Reads as copy-held-reads
-use Rattle.lend.proofs.named.key_of.Reads as key-of-reads
+use Rattle.texts.proofs.key_of.Reads as key-of-reads
 use Rattle.peers.proofs.reply_of.Reads as reply-of-reads
 use Rattle.lend.proofs.tested.lent_shard.Reads as lent-shard-reads
 use Rattle.lend.proofs.tested.put_back.Reads as put-back-reads

@@ -16,7 +16,7 @@ use Rattle.peers.proofs.replicate.replicate.Reads as reads
 use Rattle.peers.proofs.replicate.replicate.Lts as lts
 use Rattle.arrivals.proofs.domain.op_in_domain.Reads as op-in-domain-reads
 use Rattle.backup.proofs.replicate_held.Reads as replicate-held-reads
-use Rattle.lend.proofs.named.key_of.Reads as key-of-reads
+use Rattle.texts.proofs.key_of.Reads as key-of-reads
 use Rattle.peers.proofs.reply_of.Reads as reply-of-reads
 use Rattle.lend.proofs.tested.lent_shard.Reads as lent-shard-reads
 use Rattle.lend.proofs.tested.put_back.Reads as put-back-reads

@@ -1,11 +1,14 @@
-// Internal: names and addresses, copied out of the message. Bytes past the length are zero.
+// Names, addresses and the keys of shards, copied out of the message in which they stand (paper 01, 'Bytes on the wire'). Bytes past a
+// length are zero. Internal: what the readers of a message share.
 ghost use mathlib.Core.Path.{_≡_};
 ghost use Prim.Native.Nat.{_≤_};
-ghost use Rattle.state.specs.Names.{viewName, viewAddress};
-ghost use Rattle.requests.specs.Parts.{Text, bytesAt};
+ghost use Rattle.state.specs.Names.{viewName, viewAddress, viewKey};
+ghost use Rattle.texts.specs.Texts.{Text, bytesAt, KeyThere, keyIn};
+use rpc::KeyPart;
 use rpc::Part;
 use state::Address;
 use state::Name;
+use state::ShardKey;
 
 pub fn load_name(s: &[u8], p: Part) -> Name
     requires { ⌜ Text 32 (now s) p ⌝ }
@@ -40,5 +43,17 @@ pub fn load_address(s: &[u8], p: Part) -> Address
     Address {
         bytes: bytes,
         len: len,
+    }
+}
+
+// The key that a message names.
+pub fn key_of(s: &[u8], p: KeyPart) -> ShardKey
+    requires { ⌜ KeyThere (now s) p ⌝ }
+    ensures { λ r. ⌜ viewKey r ≡ keyIn (now (s .entry)) p ⌝ }
+{
+    let name = load_name(s, p.name);
+    ShardKey {
+        collection: name,
+        shard: p.shard,
     }
 }

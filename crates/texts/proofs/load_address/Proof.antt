@@ -4,9 +4,9 @@ use native.Mathlib.Omega.{arith}
 use mathlib.Core.Path.{_≡_, subst}
 use Prim.Native.Nat.{ℕ, _+_, _-_, _≤_, _<_}
 use lib.ListN.{length, take, drop}
-use Rattle.requests.proofs.Rows.{byte-more}
-use Rattle.requests.proofs.texts.load_address.Statement.{statement}
-use Rattle.requests.proofs.texts.load_address.Tie as tie
+use Rattle.texts.proofs.Bytes.{byte-more}
+use Rattle.texts.proofs.load_address.Statement.{statement}
+use Rattle.texts.proofs.load_address.Tie as tie
 
 abbrev Inv-loop : tie.InvT-loop
 Inv-loop s at len bytes₀ i₀ bytes i =

@@ -13,7 +13,7 @@ use Rattle.model.proofs.LayoutLaws.Tests.{and-left, and-right}
 use Rattle.rpc.specs.Shown.{keyShown}
 use Rattle.rpc.proofs.Places.{text-length}
 use Rattle.rpc.proofs.Items.{text-bytes}
-use Rattle.lend.specs.Named.{KeyThere, keyIn}
+use Rattle.texts.specs.Texts.{KeyThere, keyIn}
 
 -- a key at the place 1, as it is read
 abbrev pub KeyRead : List ℕ → Key → Type 0

@@ -1,22 +1,19 @@
+-- The bytes copied so far are the first of the name. Assumes nothing.
 use borrow.Author.Needs.{needs}
-use mathlib.Core.Path.{subst}
-use Rattle.requests.proofs.Rows.{byte-more}
 use native.Mathlib.Omega.{arith}
-use mathlib.Core.Path.{_≡_, refl, sym, _∙_, ap}
-use mathlib.Core.List.{List, [], _∷_, _++_}
-use Prim.Native.Nat.{ℕ, _+_, _-_, _*_, _≤_, _<_}
-use lib.ListN.{length, getD, take, drop, set}
-use Rattle.lend.proofs.named.key_of.Statement.{statement}
-use Rattle.lend.proofs.named.key_of.Tie as tie
-use Rattle.lend.proofs.named.key_of.Reads as reads
-use Rattle.lend.proofs.named.key_of.Lts as lts
+use mathlib.Core.Path.{_≡_, subst}
+use Prim.Native.Nat.{ℕ, _+_, _-_, _≤_, _<_}
+use lib.ListN.{length, take, drop}
+use Rattle.texts.proofs.Bytes.{byte-more}
+use Rattle.texts.proofs.load_name.Statement.{statement}
+use Rattle.texts.proofs.load_name.Tie as tie
 
 abbrev Inv-loop : tie.InvT-loop
-Inv-loop s p at len bytes₀ i₀ bytes i =
+Inv-loop s at len bytes₀ i₀ bytes i =
     (i ≤ len) × (len ≤ 32) × (at + len ≤ length s) × (length bytes ≡ 32) × (take i bytes ≡ take i (drop at s))
 
 abbrev μ-loop : tie.MeasureT-loop
-μ-loop s p at len bytes₀ i₀ bytes i = len - i
+μ-loop s at len bytes₀ i₀ bytes i = len - i
 
 loop-holds : tie.Need-loop-holds Inv-loop μ-loop
 loop-holds c = search needs
@@ -39,20 +36,19 @@ loop-less c = search needs
 loop-again : tie.Need-loop-again Inv-loop μ-loop
 loop-again c =
     let l = c .before .before .loop in
-    let a = c .before .before .before .before .args in
+    let a = c .before .before .before .args in
     let short : l .i < length (l .bytes) = omega arith in
-    (omega arith, l .inv .1, l .inv .2, search needs, byte-more (a .s .now) (a .p .name .at) (l .i) (l .bytes) (l .inv .4) short (omega arith))
+    (omega arith, l .inv .1, l .inv .2, search needs, byte-more (a .s .now) (a .p .at) (l .i) (l .bytes) (l .inv .4) short (omega arith))
 
 returns : tie.Need-returns Inv-loop μ-loop
 returns c =
     let l = c .before .loop in
-    let a = c .before .before .before .args in
-    let e : l .i ≡ a .p .name .len = omega arith in
-    ap (λ (b : List ℕ). record { collection = b; shard = a .p .shard })
-    (subst (λ (n : ℕ). take n (l .bytes) ≡ take n (drop (a .p .name .at) (a .s .now))) e (l .inv .4))
+    let a = c .before .before .args in
+    let e : l .i ≡ a .p .len = omega arith in
+    (subst (λ (n : ℕ). take n (l .bytes) ≡ take n (drop (a .p .at) (a .s .now))) e (l .inv .4), l .inv .1)
 
-pub key-of-spec : {M : Type 1} → statement M
-key-of-spec =
+pub load-name-spec : {M : Type 1} → statement M
+load-name-spec =
     tie.close
     (tie.spec
     Inv-loop
