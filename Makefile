@@ -6,7 +6,7 @@
 run: dome ## a dome of three nodes in one process, told step by step (examples/dome.c)
 	@target/host/dome
 
-test: ## every proof, every edit of crates/*/must-fail, every program against its stored answers
+test: need-rt need-target ## every proof, every edit of crates/*/must-fail, every program against its stored answers
 	bash .ci/run
 
 help: ## what can be made
@@ -16,11 +16,8 @@ help: ## what can be made
 ENGINE_SOURCES := crates.txt $(shell find crates \( -name must-fail -o -name wrong \) -prune -o -type f -print) $(shell command -v rt)
 
 # One crate as a static library. What it stands on is proved first, as many crates at once as there are processors.
-target/staticlib/lib%.a: $(ENGINE_SOURCES)
-	@mkdir -p $(@D)
-	@echo "proving and building the library of crate $*: from nothing up to a quarter of an hour on two cores ($(@D)/$*.log says how far it is)"
-	@{ rt check $$(sed -n 's/^$*: //p' crates.txt) && rt staticlib $*; } >$(@D)/$*.log 2>&1 || \
-	    { tail -n 20 $(@D)/$*.log >&2; echo "the library of crate $* was not built; all that was said is in $(@D)/$*.log" >&2; exit 1; }
+target/staticlib/lib%.a: $(ENGINE_SOURCES) | need-rt need-target
+	@make/prove.sh $(@D)/$*.log --library $*
 
 # The engine's programs, and where the targets below find them.
 PROGRAMS := applymap histories messages orders roots searches shards streams
@@ -34,11 +31,8 @@ export ENGINE_SEARCH ?= target/bin/searches
 export ENGINE_SHARDOF ?= target/bin/shards
 export ENGINE_STREAMS ?= target/bin/streams
 
-programs: ## the engine's programs, proved, built and run on their stored input (target/bin)
-	@mkdir -p target
-	@echo "proving and building the engine's programs: the first time this takes minutes (target/programs.log says how far it is)"
-	@rt check $(PROGRAMS) >target/programs.log 2>&1 || \
-	    { tail -n 20 target/programs.log >&2; echo "a program was not built; all that was said is in target/programs.log" >&2; exit 1; }
+programs: need-rt need-target ## the engine's programs, proved, built and run on their stored input (target/bin)
+	@make/prove.sh target/programs.log $(PROGRAMS)
 
 # Wrong programs beyond those of the gate, unused dependencies, the gate's time.
 include tools/gate.mk
@@ -47,6 +41,9 @@ include tools/gate.mk
 include make/needs.mk
 # Hosts in C and Rust over the entry points.
 include host/host.mk
+
+# Compilers and cppcheck over the headers and examples.
+include make/lint.mk
 
 # The engine as a part to install.
 include make/install.mk

@@ -13,7 +13,8 @@
  * proved (docs/CLAIMS.md, 'Rules of a run'). Comments say where a rule is at work. Read from the bottom: main is the
  * story, tick the host's loop, and the engine's calls stand above.
  *
- * Nothing is random: each run prints the same. Build with -Iinclude, and link the engine's library.
+ * Nothing is random: each run prints the same. Build with -Iinclude, and link the engine's library. With the name of a
+ * file it draws the run too, as an SVG (examples/picture.h): its events are noted where they happen, by picture_..
  */
 #include <inttypes.h>
 #include <stdio.h>
@@ -24,6 +25,7 @@
 #include "catalogue_images.h"
 #include "catalogue_messages.h"
 #include "catalogue_words.h"
+#include "picture.h"
 
 /* ---- settings. Times are in microseconds; the engine takes any unit */
 
@@ -91,7 +93,7 @@ enum fate { OPEN, ACKNOWLEDGED, UNKNOWN };
 /* An edit that a node accepted. A wait for it names node, epoch and offset. */
 struct edit {
     const char *who;
-    uint64_t node, epoch, offset;
+    uint64_t node, epoch, offset, since;
     struct catalogue_op what;
     enum fate became;
 };
@@ -149,6 +151,18 @@ static void print_time(void)
 
 /* One line with the time in front. Lines about nodes are set in, below what presenters see. */
 #define say(...) (print_time(), printf(__VA_ARGS__), putchar('\n'))
+
+static unsigned tick_of(uint64_t time)
+{
+    return (unsigned)(time / TICK);
+}
+
+/* The next part of the story, for the reader and for the picture. */
+static void chapter(const char *title, const char *in_short)
+{
+    printf("\n%s\n", title);
+    picture_chapter(tick_of(now), in_short);
+}
 
 enum { VEGA = 1, SIRIUS, POLARIS, ALTAIR };
 
@@ -248,6 +262,18 @@ static int same_op(const struct catalogue_op *a, const struct catalogue_op *b)
            memcmp(a->vector, b->vector, sizeof a->vector) == 0;
 }
 
+/* How things stand now. */
+static void note_moment(void)
+{
+    unsigned in_sync = 0, lead = 0, unplugged = 0;
+    for (unsigned i = 0; i < NODES; i++) {
+        in_sync |= (unsigned)is_in_sync(nodes[i].id) << (i + 1);
+        lead |= (unsigned)(leads(&nodes[i]) != 0) << (i + 1);
+        unplugged |= (unsigned)(nodes[i].unplugged != 0) << (i + 1);
+    }
+    picture_moment(tick_of(now), map_epoch(), in_sync, lead, unplugged);
+}
+
 static void print_log(const struct node *n)
 {
     printf("         log of node %" PRIu64 ", %s in sync:", n->id, is_in_sync(n->id) ? "which is" : "not");
@@ -322,9 +348,13 @@ static void heartbeats(void)
         expect("catalogue_grant", catalogue_grant(LENT(n->header), INCARNATION, now, LEASE), CATALOGUE_DONE);
         show_map(n);
     }
+    note_moment();
 }
 
 /* ---- proposals, which nodes make when a call answers so, and their outcomes */
+
+static const char *const shrink_words[] = {"", "Shrink 1", "Shrink 2", "Shrink 3"};
+static const char *const expand_words[] = {"", "Expand 1", "Expand 2", "Expand 3"};
 
 static const char *word_of(uint8_t command)
 {
@@ -357,6 +387,8 @@ static void decide(struct proposal *p)
     uint32_t said = apply(&m);
     say("    %s node %" PRIu64 ", proposed by node %" PRIu64 "%s: %s", word_of(p->command), p->peer, p->node,
         p->awaited ? "" : " long ago", meaning("catalogue_apply", said));
+    picture_proposal(tick_of(p->since), tick_of(now), (unsigned)p->node, said == CATALOGUE_DONE,
+                     p->command == CATALOGUE_COMMAND_SHRINK ? shrink_words[p->peer] : expand_words[p->peer]);
     if (p->awaited)
         tell_outcome(p, said == CATALOGUE_DONE ? 1 : 0);
 }
@@ -387,17 +419,25 @@ static void settle_proposals(void)
 
 /* ---- workers, and the letters between nodes */
 
-/* Whether a letter is lost. A small fixed generator loses sixteen of sixty-four. */
-static int is_lost(const struct node *from, const struct node *to)
+/* What becomes of a letter. A small fixed generator loses sixteen of sixty-four. */
+static enum picture_fate fate_of(const struct node *from, const struct node *to)
 {
     static unsigned dice;
     if (from->unplugged || to->unplugged)
-        return 1;
+        return PICTURE_UNPLUGGED;
     dice = (5 * dice + 3) % 64;
     if (dice >= 16)
-        return 0;
+        return PICTURE_ARRIVED;
     letters_lost++;
-    return 1;
+    return PICTURE_LOST;
+}
+
+/* Whether a letter that was sent a tick ago is lost. */
+static int is_lost(const struct node *from, const struct node *to, int is_reply)
+{
+    enum picture_fate fate = fate_of(from, to);
+    picture_letter(is_reply, tick_of(now) - 1, (unsigned)from->id, (unsigned)to->id, fate);
+    return fate != PICTURE_ARRIVED;
 }
 
 static void take_step(struct node *n, struct worker *w)
@@ -436,7 +476,7 @@ static void deliver_request(struct node *n, struct worker *w)
     const uint8_t *request = w->request;
     uint32_t said;
     w->state = QUIET;
-    if (is_lost(n, peer))
+    if (is_lost(n, peer, 0))
         return;
     if (w->step == CATALOGUE_STEP_ALIGN) {
         said = catalogue_new_epoch(LENT(peer->header), LENT(peer->stores), request, w->request_len, LENT(w->reply));
@@ -457,7 +497,7 @@ static void deliver_request(struct node *n, struct worker *w)
 static void hear_reply(struct node *n, struct worker *w)
 {
     w->state = QUIET;
-    if (is_lost(node_of(w->peer), n))
+    if (is_lost(node_of(w->peer), n, 1))
         return;
     uint32_t said = catalogue_ack(LENT(n->header), NAMED(w->key), w->epoch, w->peer, (uint8_t)w->step, LENT(w->reply));
     if (said > CATALOGUE_PROPOSE)
@@ -518,7 +558,7 @@ static void send_edit(const char *who, uint64_t to, uint64_t epoch, struct catal
         return;
     }
     printf(" node %" PRIu64 " takes it as number %" PRIu64 ", not yet safe\n", to, catalogue_u64(answer));
-    struct edit e = {who, to, epoch, catalogue_u64(answer), what, OPEN};
+    struct edit e = {who, to, epoch, catalogue_u64(answer), now, what, OPEN};
     if (edit_count == MAX_EDITS)
         give_up("more edits were taken than this host has places for");
     edits[edit_count++] = e;
@@ -550,6 +590,12 @@ static void search(const char *who, uint64_t at, uint64_t epoch, uint32_t k, con
     printf("\n");
 }
 
+static void note_edit(const struct edit *e)
+{
+    const char *name = e->what.code == CATALOGUE_DELETE ? "no Vega" : name_of(e->what.id);
+    picture_edit(tick_of(e->since), tick_of(now), (unsigned)e->node, e->became == ACKNOWLEDGED, name);
+}
+
 /* Asks once whether an edit is acknowledged. Done or not, a wait may call for Shrinks. */
 static void ask_wait(struct edit *e)
 {
@@ -559,6 +605,7 @@ static void ask_wait(struct edit *e)
         catalogue_wait(LENT(n->header), NAMED(key), e->epoch, e->offset, now, ACK_TIMEOUT, LENT(peers), LENT(answer));
     if (said == CATALOGUE_NOT_PRIMARY) {
         e->became = UNKNOWN;
+        note_edit(e);
         say("%s hears: node %" PRIu64 " was deposed (its epoch is %" PRIu64 "); number %" PRIu64
             " was never acknowledged",
             e->who, n->id, catalogue_u64(answer), e->offset);
@@ -568,6 +615,7 @@ static void ask_wait(struct edit *e)
         expect("catalogue_wait", said, CATALOGUE_DONE);
     if (said == CATALOGUE_DONE) {
         e->became = ACKNOWLEDGED;
+        note_edit(e);
         say("%s hears: number %" PRIu64 " is acknowledged", e->who, e->offset);
     }
     for (uint64_t i = 0; i < catalogue_u64(answer); i++)
@@ -594,6 +642,7 @@ static void tick(void)
     each_worker(ASKED, deliver_request);
     each_worker(QUIET, take_step);
     ask_waits();
+    note_moment();
 }
 
 static void run_until(int (*happened)(void), const char *otherwise)
@@ -643,6 +692,7 @@ static int all_are_in_sync(void)
 static void set_plug(uint64_t id, int plugged)
 {
     node_of(id)->unplugged = !plugged;
+    note_moment();
     say("Node %" PRIu64 " is %s", id, plugged ? "plugged in again" : "unplugged");
 }
 
@@ -699,7 +749,7 @@ static void the_dome_opens(void)
 /* Lost letters delay an acknowledgement, and that is all that a presenter notices of them. */
 static void an_ordinary_hour(void)
 {
-    printf("\nAn ordinary hour\n");
+    chapter("An ordinary hour", "An ordinary hour");
     send_edit("Anna", map_primary(), map_epoch(), star(VEGA, 1, 2, 2), CATALOGUE_DONE);
     send_edit("Ben", map_primary(), map_epoch(), star(SIRIUS, 4, 6, 2), CATALOGUE_DONE);
     run_until(every_edit_is_settled, "the first two edits are not acknowledged");
@@ -710,7 +760,7 @@ static void an_ordinary_hour(void)
 /* The edit waits for node 3 until a Shrink has taken that out of the in-sync set. Two are enough to go on. */
 static void node_3_is_unplugged(void)
 {
-    printf("\nA cable is pulled\n");
+    chapter("A cable is pulled", "Node 3 unplugged");
     set_plug(3, 0);
     send_edit("Clara", map_primary(), map_epoch(), star(POLARIS, 0, 0, 5), CATALOGUE_DONE);
     run_until(every_edit_is_settled, "the edit without node 3 is not acknowledged");
@@ -722,7 +772,7 @@ static void node_3_is_unplugged(void)
  * acknowledges the edit. When the lease is over it answers nothing more. */
 static void node_1_is_unplugged(void)
 {
-    printf("\nThe primary is unplugged, with Ben's console on it\n");
+    chapter("The primary is unplugged, with Ben's console on it", "Node 1 unplugged");
     set_plug(1, 0);
     send_edit("Ben", 1, map_epoch(), star(SIRIUS, 7, 10, 2), CATALOGUE_DONE);
     run_until(lease_of_node_1_is_over, "the lease of node 1 does not end");
@@ -733,7 +783,7 @@ static void node_1_is_unplugged(void)
  * at first, and takes edits when node 3 has caught up. */
 static void node_2_takes_over(void)
 {
-    printf("\nNode 2 takes over\n");
+    chapter("Node 2 takes over", "Node 2 takes over");
     set_plug(3, 1);
     promote(3, CATALOGUE_REJECTED_NOT_IN_SYNC);
     promote(2, CATALOGUE_DONE);
@@ -751,7 +801,7 @@ static void node_2_takes_over(void)
  * or node 2's alignment, which cuts off the edit that only node 1 has. Ben was promised nothing, and sends it anew. */
 static void node_1_comes_back(void)
 {
-    printf("\nNode 1 comes back\n");
+    chapter("Node 1 comes back", "Node 1 comes back");
     set_plug(1, 1);
     run_until(node_1_is_deposed, "node 1 does not notice that it is deposed");
     send_edit("Ben", map_primary(), map_epoch(), star(SIRIUS, 7, 10, 2), CATALOGUE_DONE);
@@ -810,7 +860,7 @@ static void every_acknowledged_edit_is_there(void)
     printf("\n\nEvery acknowledged edit is on every node in sync.\n");
 }
 
-int main(void)
+int main(int argc, char **argv)
 {
     the_dome_opens();
     an_ordinary_hour();
@@ -819,5 +869,7 @@ int main(void)
     node_2_takes_over();
     node_1_comes_back();
     every_acknowledged_edit_is_there();
+    if (argc > 1 && picture_write(argv[1]) != 0)
+        give_up("the picture cannot be written");
     return 0;
 }

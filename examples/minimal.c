@@ -49,8 +49,8 @@ int main(void)
     done("wait", catalogue_wait(LENT(header), STARS, 1, offset, 10, 100, LENT(peers), LENT(answer)));
 
     catalogue_make_search(&m, key, 1, 4, here, 3);
-    done("search", catalogue_search(LENT(header), LENT(stores), LENT(refused), 11, m.bytes, m.len, LENT(hits),
-                                    LENT(answer)));
+    done("search",
+         catalogue_search(LENT(header), LENT(stores), LENT(refused), 11, m.bytes, m.len, LENT(hits), LENT(answer)));
     printf("write %u is acknowledged; nearest is %u at %g\n", (unsigned)offset, (unsigned)catalogue_u64(hits),
            (double)catalogue_float_of(catalogue_u32(hits + 8)));
     return 0;

@@ -33,7 +33,8 @@ static void must(const char *call, uint32_t said, uint32_t expected)
 
 static struct catalogue_stamp stamp_of(uint64_t client)
 {
-    struct catalogue_stamp by = {++last_index, client, last_index}; /* indexes rise, and so do each client's seqs */
+    last_index++;
+    struct catalogue_stamp by = {last_index, client, last_index}; /* indexes rise, and so do each client's seqs */
     return by;
 }
 
@@ -119,8 +120,8 @@ static void carry(uint32_t expected)
     call = step == CATALOGUE_STEP_ALIGN       ? catalogue_new_epoch
            : step == CATALOGUE_STEP_REPLICATE ? catalogue_replicate
                                               : catalogue_copy;
-    must("the request's call",
-         call(LENT(header[1]), LENT(stores[1]), request, (size_t)catalogue_u64(len), LENT(reply)), CATALOGUE_DONE);
+    must("the request's call", call(LENT(header[1]), LENT(stores[1]), request, (size_t)catalogue_u64(len), LENT(reply)),
+         CATALOGUE_DONE);
     must("catalogue_ack", catalogue_ack(LENT(header[0]), STARS, epoch, 2, (uint8_t)step, LENT(reply)), expected);
 }
 

@@ -9,7 +9,7 @@ FUZZ_FLAGS ?= -O1 -g -pthread -fsanitize=address,undefined -fno-sanitize-recover
 RUNS ?= 200
 STEPS ?= 2000
 
-.PHONY: host-library replay dome minimal stuck fuzz bindings simulate simulate-wrong
+.PHONY: host-library replay dome minimal stuck fuzz bindings simulate simulate-wrong picture
 
 host-library: $(HOST_LIBRARY) ## the engine as a static library (target/staticlib/libhost.a)
 
@@ -20,6 +20,11 @@ replay: need-cc $(HOST_LIBRARY) ## calls in, answers out, by a host in C (target
 dome: need-cc $(HOST_LIBRARY)
 	@mkdir -p $(HOST_BUILD)
 	@$(CC) $(HOST_CFLAGS) examples/dome.c $(HOST_LIBRARY) -o $(HOST_BUILD)/dome
+
+picture: dome ## the dome's run as a space-time diagram (docs/dome.svg)
+	@[ -w docs ] || { echo "make: docs/ cannot be written" >&2; exit 1; }
+	@$(HOST_BUILD)/dome docs/dome.svg >$(HOST_BUILD)/dome.txt
+	@echo "docs/dome.svg"
 
 minimal stuck: need-cc $(HOST_LIBRARY)
 	@mkdir -p $(HOST_BUILD)

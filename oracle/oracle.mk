@@ -33,7 +33,7 @@ oracle-coverage: oracle ## fails if an answer is in no stored list
 oracle-mutants: oracle ## every deliberate mistake of oracle/mutants is told apart by the stored lists
 	@$(ORACLE_BIN)/mutants $(ORACLE_ROOT) $(MUTANTS)
 
-differential: oracle programs replay ## fresh random streams through the engine and the oracle for SECONDS, from SEED
+differential: number-SECONDS number-SEED oracle programs replay ## fresh random streams through the engine and the oracle for SECONDS, from SEED
 	@cd $(ORACLE_ROOT) && $(ORACLE_BIN)/differential $(SECONDS) $(SEED)
 
 conformance: programs replay ## the engine's programs on the stored lists; needs no Rust

@@ -1,4 +1,5 @@
-/* The events of a random cluster: what a host does at each, in the engine's calls. docs/HOST.md has the same as duties. */
+/* The events of a random cluster: what a host does at each, in the engine's calls. docs/HOST.md has the same as duties.
+ */
 #include "cluster.h"
 
 #include <inttypes.h>
@@ -239,8 +240,8 @@ static const char *client_writes(const struct event *e)
     w.offset = catalogue_u64(answer);
     cluster.writes[cluster.write_count++] = w;
     tally.accepted++;
-    tell("node %" PRIu64 " takes write %" PRIu64 " of shard %" PRIu32 " under epoch %" PRIu64, node->id, w.offset, shard,
-         w.epoch);
+    tell("node %" PRIu64 " takes write %" PRIu64 " of shard %" PRIu32 " under epoch %" PRIu64, node->id, w.offset,
+         shard, w.epoch);
     return NULL;
 }
 
@@ -297,8 +298,8 @@ static void forget_proposal(struct proposal *p)
 static const char *tell_outcome(struct proposal *p, uint8_t applied)
 {
     struct node *node = node_of(p->node);
-    uint32_t said = catalogue_outcome(LENT(node->header), NAMED(cluster.keys[p->shard]), p->epoch, p->peer, p->command,
-                                      applied);
+    uint32_t said =
+        catalogue_outcome(LENT(node->header), NAMED(cluster.keys[p->shard]), p->epoch, p->peer, p->command, applied);
     p->awaited = false;
     return said == CATALOGUE_DONE ? NULL : unwanted("catalogue_outcome", said);
 }
@@ -614,10 +615,9 @@ static void restart_workers(struct node *node)
         if (row == NULL || catalogue_u32(row + CATALOGUE_HELD_ROLE) != 1)
             continue;
         for (uint64_t i = 0; i < catalogue_u64(row + CATALOGUE_HELD_PEER_COUNT); i++)
-            start_worker(node, shard,
-                         catalogue_u64(row + CATALOGUE_HELD_PEERS + i * CATALOGUE_PEER_SIZE + CATALOGUE_PEER_NODE),
-                         catalogue_u64(row + CATALOGUE_HELD_PRIMARY_EPOCH),
-                         (uint8_t)catalogue_u32(row + CATALOGUE_HELD_METRIC));
+            start_worker(
+                node, shard, catalogue_u64(row + CATALOGUE_HELD_PEERS + i * CATALOGUE_PEER_SIZE + CATALOGUE_PEER_NODE),
+                catalogue_u64(row + CATALOGUE_HELD_PRIMARY_EPOCH), (uint8_t)catalogue_u32(row + CATALOGUE_HELD_METRIC));
     }
 }
 

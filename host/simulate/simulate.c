@@ -1,11 +1,13 @@
 /* simulate: plays random clusters through the entry points, and checks after every event that each acknowledged write
  * stands on every node in sync. It stands beside the theorem that says so, for those who believe runs.
  *
- *     simulate [RUNS [STEPS [SEED [WRONG]]]]     RUNS clusters of STEPS events, the first from SEED, the next from SEED + 1
+ *     simulate [RUNS [STEPS [SEED [WRONG]]]]     RUNS clusters of STEPS events, the first from SEED, the next from SEED
+ * + 1
  *
- * WRONG is a host that breaks one rule of a run, and is there to be caught: outcome-twice tells a node an outcome again,
- * earlier-map shows a map that was kept, earlier-images saves a node's images now and then, and not before each answer.
- * Status 0 if nothing was found, 1 if a run fails: then its seed and its events are told, made as few as will do.
+ * WRONG is a host that breaks one rule of a run, and is there to be caught: outcome-twice tells a node an outcome
+ * again, earlier-map shows a map that was kept, earlier-images saves a node's images now and then, and not before each
+ * answer. Status 0 if nothing was found, 1 if a run fails: then its seed and its events are told, made as few as will
+ * do.
  */
 #include <inttypes.h>
 #include <stdio.h>
@@ -58,12 +60,12 @@ static const struct {
     uint32_t often;
     bool stormy;
 } weights[KINDS] = {
-    [WRITE] = {8, false},           [SEARCH] = {3, false},          [WAIT] = {12, false},
-    [STEP] = {20, false},           [REQUEST_ARRIVES] = {20, false}, [REQUEST_LOST] = {1, true},
-    [REPLY_ARRIVES] = {20, false},  [REPLY_LOST] = {1, true},       [PROPOSAL_ARRIVES] = {6, false},
-    [PROPOSAL_LOST] = {1, true},    [OUTCOME_ARRIVES] = {6, false}, [OUTCOME_LOST] = {1, true},
-    [TIMEOUT] = {1, true},          [MAP_SHOWN] = {8, false},       [GRANT] = {5, false},
-    [CLOCK] = {6, false},           [PROMOTE] = {1, true},          [RESTART] = {1, true},
+    [WRITE] = {8, false},          [SEARCH] = {3, false},           [WAIT] = {12, false},
+    [STEP] = {20, false},          [REQUEST_ARRIVES] = {20, false}, [REQUEST_LOST] = {1, true},
+    [REPLY_ARRIVES] = {20, false}, [REPLY_LOST] = {1, true},        [PROPOSAL_ARRIVES] = {6, false},
+    [PROPOSAL_LOST] = {1, true},   [OUTCOME_ARRIVES] = {6, false},  [OUTCOME_LOST] = {1, true},
+    [TIMEOUT] = {1, true},         [MAP_SHOWN] = {8, false},        [GRANT] = {5, false},
+    [CLOCK] = {6, false},          [PROMOTE] = {1, true},           [RESTART] = {1, true},
 };
 
 static enum kind draw_kind(uint32_t storm)
@@ -207,7 +209,8 @@ static void report(const struct setting *setting, uint64_t seed, uint32_t steps,
 
 _Noreturn static void refuse(const char *what)
 {
-    fprintf(stderr, "simulate: %s\nusage: simulate [RUNS [STEPS [SEED [outcome-twice | earlier-map | earlier-images]]]]\n",
+    fprintf(stderr,
+            "simulate: %s\nusage: simulate [RUNS [STEPS [SEED [outcome-twice | earlier-map | earlier-images]]]]\n",
             what);
     exit(2);
 }

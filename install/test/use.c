@@ -1,4 +1,5 @@
-/* A program of somebody who has the engine installed: one map, one collection, in C. Status 0 if all is as it should. */
+/* A program of somebody who has the engine installed: one map, one collection, in C. Status 0 if all is as it should.
+ */
 #include <catalogue.h>
 #include <catalogue_images.h>
 #include <catalogue_messages.h>
