@@ -24,7 +24,7 @@ dome: need-cc $(HOST_LIBRARY)
 picture: dome ## the dome's run as a space-time diagram (docs/dome.svg)
 	@[ -w docs ] || { echo "make: docs/ cannot be written" >&2; exit 1; }
 	@$(HOST_BUILD)/dome docs/dome.svg >$(HOST_BUILD)/dome.txt
-	@echo "docs/dome.svg"
+	@echo "docs/dome.svg is the dome's run, drawn from its own events"
 
 minimal stuck: need-cc $(HOST_LIBRARY)
 	@mkdir -p $(HOST_BUILD)

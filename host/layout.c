@@ -1,5 +1,9 @@
-/* That the offsets of catalogue_images.h fit together; nothing of this is left in the program. */
+/* That the numbers of the headers fit together; nothing of this is left in the program. */
 #include "catalogue_images.h"
+
+_Static_assert(CATALOGUE_VERSION ==
+                   CATALOGUE_VERSION_MAJOR * 1000000u + CATALOGUE_VERSION_MINOR * 1000u + CATALOGUE_VERSION_PATCH,
+               "the version's number");
 
 /* Each table ends where the next begins, the last one with its image. */
 _Static_assert(CATALOGUE_NODE_ADDRESS + CATALOGUE_TEXT_BYTES + CATALOGUE_ADDRESS_MOST == CATALOGUE_NODE_SIZE,

@@ -3,7 +3,8 @@
  * The engine keeps no state of its own, and neither allocates, locks, reads a clock nor makes a system call. A host
  * owns the state as byte images, lends them to each call, and sends the messages. catalogue_images.h has the offsets in
  * an image (docs/IMAGES.md explains them), catalogue_messages.h writes the messages that a host makes itself
- * (docs/LAYOUT.md), catalogue_words.h says what a number means. examples/dome.c is a whole host to learn from.
+ * (docs/LAYOUT.md), catalogue_words.h says what a number means. docs/HOST.md has a host's duties in order;
+ * examples/dome.c is a whole host to learn from.
  *
  * A call answers a number. CATALOGUE_DONE is 0; other answers are listed at the call, and a refusal is its number
  * (CATALOGUE_UNDECODABLE and so on). A refused call leaves every byte of every buffer as it was, two apart: `answer`
@@ -217,8 +218,9 @@ uint32_t catalogue_ack(uint8_t *header, size_t header_len, const uint8_t *name, 
 
 /* How a proposal of this node ended: `command` 0x17 Shrink, 0x18 Expand, as in the request; `applied` 1 if the map
  * applied it, 0 if it was rejected, refused or timed out. 0; 21, 24. Told once or never: a timeout is an outcome, and
- * none follows it. A peer whose Shrink is applied after it has caught up, or whose Expand is told as 0, is not proposed
- * again under that epoch; if writes stop for it, promote again (docs/HOST.md, 'Two traps'). */
+ * none follows it. A peer whose Shrink is applied after it has caught up is asked back only when it has a further
+ * entry; one whose Expand is told as 0 is not proposed again under that epoch. If writes stop for it, promote again
+ * (docs/HOST.md, 'Two traps'). */
 uint32_t catalogue_outcome(uint8_t *header, size_t header_len, const uint8_t *name, size_t name_len, uint32_t shard,
                            uint64_t epoch, uint64_t peer, uint8_t command, uint8_t applied);
 

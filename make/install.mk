@@ -35,6 +35,7 @@ $(LIBRARY_BUILD)/libcatalogue.a: $(LIBRARY_BUILD)/catalogue.o
 $(LIBRARY_BUILD)/libcatalogue.so.$(VERSION): $(LIBRARY_BUILD)/catalogue.o install/exported.map | need-cc
 	@$(CC) -shared -nostartfiles $< -Wl,-soname,$(SONAME) -Wl,--version-script=install/exported.map -Wl,--no-undefined \
 	    -Wl,-z,relro,-z,now -Wl,--discard-all -o $@
+	@$(OBJCOPY) --strip-symbol=_DYNAMIC --strip-symbol=_GLOBAL_OFFSET_TABLE_ $@
 
 # ---- install. $(call put,WHERE) puts everything below that folder as if it were /
 relative = $(shell realpath -m --relative-to='$(1)' '$(2)')

@@ -1,5 +1,5 @@
 /* simulate: plays random clusters through the entry points, and checks after every event that each acknowledged write
- * stands on every node in sync. It stands beside the theorem that says so, for those who believe runs.
+ * stands on every node in sync. It is beside the theorem about a shard's run, for those who believe runs.
  *
  *     simulate [RUNS [STEPS [SEED [WRONG]]]]     RUNS clusters of STEPS events, the first from SEED, the next from SEED
  * + 1
