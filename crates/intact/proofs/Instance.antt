@@ -4,7 +4,6 @@
 use mathlib.Core.Path.{_≡_, refl}
 use mathlib.Core.Bool.{true}
 use mathlib.Core.List.{List, [], _∷_}
-use Rattle.model.specs.Lists.{every}
 use Rattle.model.specs.Layout.Format.{Bytes, All}
 use Rattle.model.proofs.Lists.{and-true}
 use Rattle.run.proofs.Cases.Opened.{opened}

@@ -1,9 +1,9 @@
 -- The headers of node 1: each lends a header, holds bytes, and is read as the node said here. Assumes nothing.
 use Prim.Native.Nat.{ℕ}
 use native.Mathlib.Omega.{arith}
-use mathlib.Core.Path.{_≡_, refl, subst}
+use mathlib.Core.Path.{_≡_, refl}
 use mathlib.Core.Bool.{true}
-use mathlib.Core.List.{List, [], _∷_}
+use mathlib.Core.List.{[], _∷_}
 use lib.ListN.{length, replicate}
 use Rattle.model.specs.Log.{Log}
 use Rattle.model.specs.Layout.Format.{Bytes}

@@ -1,5 +1,5 @@
 -- The map's image: it lends a well-formed map, and is read as one that Create leaves, of one shard that node 1 holds. Assumes nothing.
-use Prim.Native.Nat.{ℕ, zero, suc, _<_}
+use Prim.Native.Nat.{ℕ, _<_}
 use native.Mathlib.Omega.{arith}
 use mathlib.Core.Path.{_≡_, refl, sym, subst}
 use mathlib.Core.Bool.{true, false}

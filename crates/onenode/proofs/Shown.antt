@@ -2,7 +2,7 @@
 -- worker. Assumes nothing.
 use native.Mathlib.Omega.{arith}
 use mathlib.Core.Path.{_≡_, refl, sym, subst}
-use mathlib.Core.Bool.{Bool, true, false}
+use mathlib.Core.Bool.{Bool, true}
 use mathlib.Core.List.{[]}
 use lib.ListN.{replicate}
 use Rattle.model.specs.Lists.{_and_}
