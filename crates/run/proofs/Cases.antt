@@ -7,3 +7,4 @@ pub mod ShrinkExpand
 pub mod Loss
 pub mod OlderEntry
 pub mod OutcomeOnce
+pub mod OfPaper

@@ -356,7 +356,7 @@ started m i other incarnation fresh clients = record {
 }
 
 -- Register, Create and the first maps shown give a fresh state
-pub started-fresh : (m : Map) (i : ShardInfo) → Created m i → (other : ℕ) → holds other (i .replicas) ≡ false → (incarnation fresh clients : ℕ → ℕ)
+unfoldable pub started-fresh : (m : Map) (i : ShardInfo) → Created m i → (other : ℕ) → holds other (i .replicas) ≡ false → (incarnation fresh clients : ℕ → ℕ)
     → ((r : Replica) (place : ℕ) → nth (i .replicas) place ≡ some r → incarnation (r .node .0) ≡ r .incarnation)
     → ((n : ℕ) → U64 (clients n)) → Fresh (started m i other incarnation fresh clients)
 unfolding started

@@ -4,4 +4,5 @@ pub mod Created
 pub mod Protocol
 pub mod Simulation
 pub mod Demand3
+pub mod Paper
 pub mod Instance

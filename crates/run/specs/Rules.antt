@@ -1,5 +1,6 @@
 -- Paper 01, 'Rules of a run': which events may happen. Each rule of the paper is here, or in the step itself, or is dropped, which
--- allows more runs than the paper does and none fewer. Definitions only.
+-- allows more runs than the paper does and none fewer: Paper.antt has the paper's rules to the letter, `Paper.Allowed.paper-allowed` in
+-- proofs that every run of theirs is one of these. Definitions only.
 --
 -- In the step itself: each call gets what the last one left; a shown map is the map of that moment; a wait names an accepted write; a
 -- request that arrives is the call of its kind, and its answer goes back unless it is a refusal number; a proposal and its outcome each

@@ -12,7 +12,7 @@ use Rattle.model.proofs.Lists.{none-some}
 use Rattle.model.specs.declared.Replica.{Replica}
 use Rattle.model.specs.declared.Metric.the-variants.{Euclidean}
 use Rattle.run.specs.Fresh.{Created, Fresh}
-use Rattle.run.proofs.Created.{started, started-fresh}
+use Rattle.run.proofs.Created.{started-fresh}
 use Rattle.run.proofs.Cases.Opened.{opened}
 use Rattle.run.proofs.Cases.Start.{created, info, start}
 
@@ -48,3 +48,7 @@ no-holder = refl
 pub start-fresh : Fresh start
 unfolding start
 start-fresh = started-fresh created info is-created 0 no-holder (λ n. 4) (λ n. 0) (λ n. 100) listed (λ n. omega arith)
+
+pub start-shard : start-fresh .shard ≡ info
+unfolding start-fresh started-fresh
+start-shard = refl

@@ -19,7 +19,7 @@ use Rattle.model.specs.Map.Calls.{applyCall, applyDecoded, applyBytes}
 use Rattle.model.specs.Map.WellFormed.{wellFormedMap, commandFits}
 use Rattle.model.specs.Layout.Request as layout
 use Rattle.model.specs.Layout.Request.{Command, Request, promotePrimary, decodeRequest}
-use Rattle.model.specs.Layout.Writable.{U64, GoodKey, GoodCommand, GoodRequest}
+use Rattle.model.specs.Layout.Writable.{U64, GoodKey, GoodCommand}
 use Rattle.model.specs.Node.Ack as ack
 use Rattle.model.specs.Node.Ack.{leaves}
 use Rattle.model.specs.Node.Held as held
@@ -276,13 +276,16 @@ module _ (w : World) (s : real.State) (a : State) (k : Sim w s a) where
           (λ x t q f. not-again (sessionAt (m .sessions) (s .clients (o .node))) seq fresh x t q)
           settles
 
+      -- the proposal's bytes are read as the request
+      pub decoded : decodeRequest (step.offerBytes s o index seq) ≡ some r
+      unfolding step.offerBytes
+      decoded = request-back r (u64-of index small, k .clients (o .node), u64-of seq less, command (o .what) .0)
+
       pub offered : Reaches w (step.offered s i index seq (some o)) a
-      unfolding step.offered step.offerBytes applyBytes applyDecoded
+      unfolding step.offered applyBytes applyDecoded
       offered =
-          let good : GoodRequest r = (u64-of index small, k .clients (o .node), u64-of seq less, command (o .what) .0) in
-          let back = request-back r good in
           subst Goal
-          (sym (ap (applyDecoded m) back ∙ applies m r (k .table .formed)))
+          (sym (ap (applyDecoded m) decoded ∙ applies m r (k .table .formed)))
           (offers-map (stays-well-formed m r (k .table .formed) (command (o .what) .1)))
 
   pub on-offer : (i index seq : ℕ) → isU64 index and isU64 seq and freshSeq s seq (nth (s .offers) i) ≡ true

@@ -25,14 +25,14 @@ use Rattle.run.proofs.Simulation.Relation.{World, isHolder, RowsSim}
 
 -- ---- one row put in
 
-all-put : {A : Type 0} (P : A → Type 0) (lt : A → A → Bool) (x : A) (l : List A) → P x → All P l → All P (put lt x l)
+pub all-put : {A : Type 0} (P : A → Type 0) (lt : A → A → Bool) (x : A) (l : List A) → P x → All P l → All P (put lt x l)
 unfolding put
 all-put P lt x [] p h = (p, tt)
 all-put P lt x (y ∷ ys) p h =
     let more = all-put P lt x ys p (h .1) in
     by-test (All P) (lt x y) (λ e. (p, h)) (λ e. by-test (All P) (lt y x) (λ f. (h .0, more)) (λ f. (p, h .1)))
 
-all-find : {A : Type 0} (P : A → Type 0) (p : A → Bool) (l : List A) (x : A) → All P l → find p l ≡ some x → P x
+pub all-find : {A : Type 0} (P : A → Type 0) (p : A → Bool) (l : List A) (x : A) → All P l → find p l ≡ some x → P x
 unfolding find
 all-find P p [] x h e = none-some e
 all-find {A} P p (y ∷ ys) x h e =

@@ -96,7 +96,7 @@ find-place {A} p (y ∷ ys) x e =
     let more = find-place p ys x in
     by-test (λ (v : Option A). v ≡ some x → (j : ℕ) × (nth (y ∷ ys) j ≡ some x)) (p y) (λ t d. (0, d)) (λ t d. let r = more d in (suc (r .0), r .1)) e
 
-place-any : {A : Type 0} (p : A → Bool) (l : List A) (j : ℕ) (x : A) → nth l j ≡ some x → p x ≡ true → any p l ≡ true
+pub place-any : {A : Type 0} (p : A → Bool) (l : List A) (j : ℕ) (x : A) → nth l j ≡ some x → p x ≡ true → any p l ≡ true
 unfolding nth any
 place-any p [] j x e t = nth-nil j x e
 place-any {A} p (y ∷ ys) zero x e t = rw (subst (λ (z : A). p z ≡ true) (sym (some-same e)) t)

@@ -1,0 +1,31 @@
+-- Computed runs that keep the paper's rules to the letter, with acknowledged writes: a promotion, and a shrink with a later expand, whose
+-- proposals have the seqs 1 and 2. Assumes nothing.
+use Prim.Native.Nat.{suc}
+use native.Mathlib.Omega.{arith}
+use mathlib.Core.Path.{_≡_, refl}
+use mathlib.Core.Bool.{true}
+use Rattle.run.specs.Paper as paper
+use Rattle.run.specs.Paper.{History, Seqs, Rising, freshHistory, paperRun}
+use Rattle.run.proofs.Created.{started}
+use Rattle.run.proofs.Cases.Opened.{opened}
+use Rattle.run.proofs.Cases.Start.{start, created, info}
+use Rattle.run.proofs.Cases.Promotion as promotion
+use Rattle.run.proofs.Cases.ShrinkExpand as shrinkExpand
+
+-- each node's first proposal has seq 1, the next 2, and so on
+abbrev pub seqs : Seqs
+seqs n k = suc k
+
+pub seqs-rise : Rising seqs
+seqs-rise n k = omega arith
+
+abbrev pub history : History
+history = freshHistory start info
+
+pub promotion-of-paper : paperRun seqs start history promotion.events ≡ true
+unfolding opened start started created promotion.events paper.firstStarted freshHistory paper.proposing paper.made paper.remember paper.repliesFrom paper.paper paperRun
+promotion-of-paper = refl
+
+pub shrink-of-paper : paperRun seqs start history shrinkExpand.events ≡ true
+unfolding opened start started created shrinkExpand.events paper.firstStarted freshHistory paper.proposing paper.made paper.remember paper.repliesFrom paper.paper paperRun
+shrink-of-paper = refl

@@ -1,0 +1,7 @@
+-- Every run of the paper is one that the rules allow: Rules.antt is looser, and not otherwise.
+pub mod Workers
+pub mod Sessions
+pub mod Turns
+pub mod Kept
+pub mod Events
+pub mod Allowed
