@@ -9,6 +9,7 @@ pub mod decode;
 pub mod history;
 pub mod map;
 pub mod node;
+pub mod placement;
 pub mod reason;
 pub mod replay;
 pub mod search;

@@ -189,7 +189,7 @@ impl Replay {
     }
 }
 
-fn place_lines(placed: Option<Vec<Vec<rpc::DataNodeId>>>) -> String {
+pub fn place_lines(placed: Option<Vec<Vec<rpc::DataNodeId>>>) -> String {
     let Some(lists) = placed else {
         return "none\n".into();
     };

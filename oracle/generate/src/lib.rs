@@ -9,6 +9,7 @@ pub mod histories;
 pub mod lists;
 pub mod maps;
 pub mod patterns;
+pub mod placements;
 pub mod rng;
 pub mod scripts;
 pub mod searches;

@@ -3,7 +3,7 @@
 use front::replay::{Record, call};
 
 use crate::stream::{Stream, Tally};
-use crate::{damage, dome, histories, maps, patterns, rng::Rng, scripts, searches};
+use crate::{damage, dome, histories, maps, patterns, placements, rng::Rng, scripts, searches};
 
 /// One stored input with its answers.
 pub struct List {
@@ -21,6 +21,7 @@ pub fn all() -> Vec<List> {
     all.push(streams(&all));
     all.extend(search());
     all.extend(history());
+    all.extend(placement());
     all.extend(decode());
     all.extend(replay());
     all.extend(float_patterns());
@@ -119,7 +120,9 @@ fn streams(lists: &[List]) -> List {
     let remembered = scripts::sessions().records.into_iter().filter(applied);
     let remembered: Vec<u8> = remembered.flat_map(|r| r.operands).collect();
     let inputs = lists.iter().map(|list| &list.input);
-    let records = inputs.chain([&remembered]).flat_map(|i| front::streams::record(i));
+    let records = inputs
+        .chain([&remembered])
+        .flat_map(|i| front::streams::record(i));
     list("streams", "all", records.collect(), front::streams::run)
 }
 
@@ -148,6 +151,21 @@ fn history() -> Vec<List> {
         all.push(from(
             &format!("random-{seed}"),
             histories::random(seed, 120),
+        ));
+    }
+    all
+}
+
+fn placement() -> Vec<List> {
+    let from = |name: &str, made: placements::Made| {
+        let input = made.records.concat();
+        list("placement", name, input, front::placement::run)
+    };
+    let mut all = vec![from("chosen", placements::chosen())];
+    for seed in 1..=2 {
+        all.push(from(
+            &format!("random-{seed}"),
+            placements::random(seed, 120),
         ));
     }
     all

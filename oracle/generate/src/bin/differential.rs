@@ -11,7 +11,7 @@ use std::time::{Duration, Instant};
 
 use front::replay::Record;
 use generate::rng::Rng;
-use generate::{damage, dome, histories, maps, searches, stream};
+use generate::{damage, dome, histories, maps, placements, searches, stream};
 
 /// A program of which both sides have one.
 struct Program {
@@ -23,7 +23,7 @@ struct Program {
     describe: fn(&[u8]) -> String,
 }
 
-const PROGRAMS: [Program; 9] = [
+const PROGRAMS: [Program; 10] = [
     Program {
         name: "replay",
         variable: "ENGINE_REPLAY",
@@ -62,6 +62,14 @@ const PROGRAMS: [Program; 9] = [
         default: "target/host/history",
         oracle: front::history::run,
         fresh: |rng| histories::random(rng.next(), 60 + rng.below(300)).records,
+        describe: |record| format!("call {}", record[0]),
+    },
+    Program {
+        name: "placement",
+        variable: "ENGINE_PLACEMENT",
+        default: "target/host/placement",
+        oracle: front::placement::run,
+        fresh: |rng| placements::random(rng.next(), 40 + rng.below(200)).records,
         describe: |record| format!("call {}", record[0]),
     },
     Program {

@@ -8,8 +8,17 @@ use std::fs;
 use std::path::{Path, PathBuf};
 use std::process::{Command, ExitCode, Stdio};
 
-const PROGRAMS: [&str; 9] = [
-    "applymap", "decode", "history", "order", "replay", "roots", "search", "shardof", "streams",
+const PROGRAMS: [&str; 10] = [
+    "applymap",
+    "decode",
+    "history",
+    "order",
+    "placement",
+    "replay",
+    "roots",
+    "search",
+    "shardof",
+    "streams",
 ];
 
 struct Edit {

@@ -1,0 +1,6 @@
+//! Program `placement` over the unchanged Rust: standard input to standard output.
+
+fn main() {
+    front::quiet();
+    front::main(front::placement::run);
+}
