@@ -6,7 +6,7 @@
 run: dome ## a dome of three nodes in one process, told step by step (examples/dome.c)
 	@target/host/dome
 
-test: need-rt need-target ## every proof, every edit of crates/*/must-fail, every program against its stored answers
+test: ## every proof, every edit of crates/*/must-fail, every program against its stored answers
 	bash .ci/run
 
 help: ## what can be made
@@ -38,15 +38,13 @@ programs: need-rt need-target ## the engine's programs, proved, built and run on
 # Wrong programs beyond those of the gate, unused dependencies, the gate's time.
 include tools/gate.mk
 
-# What a target needs, said in words before it starts.
-include make/needs.mk
 # Hosts in C and Rust over the entry points.
 include host/host.mk
 
-# Compilers and cppcheck over the headers and examples.
+# What a target needs, said in words before it starts; compilers over the headers and examples; the engine as a part to
+# install.
+include make/needs.mk
 include make/lint.mk
-
-# The engine as a part to install.
 include make/install.mk
 
 # The Rust this engine is a port of, as an oracle: needs cargo and the source files, never the gate.

@@ -23,6 +23,8 @@ need-cmake:
 need-target:
 	@mkdir -p target 2>/dev/null && [ -w target ] || { echo "make: $(CURDIR)/target cannot be written, and all that is built goes there" >&2; exit 1; }
 
+test: need-rt need-target
+
 # Operands that are whole numbers, each tried by the target number-NAME.
 NUMBERS := CALLS SECONDS SEED RUNS STEPS
 .PHONY: $(NUMBERS:%=number-%)
