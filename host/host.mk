@@ -9,7 +9,7 @@ FUZZ_FLAGS ?= -O1 -g -pthread -fsanitize=address,undefined -fno-sanitize-recover
 RUNS ?= 200
 STEPS ?= 2000
 
-.PHONY: host-library replay dome minimal stuck fuzz bindings simulate simulate-wrong picture
+.PHONY: host-library replay dome minimal stuck replace fuzz bindings simulate simulate-wrong picture
 
 host-library: $(HOST_LIBRARY) ## the engine as a static library (target/staticlib/libhost.a)
 
@@ -26,7 +26,10 @@ picture: dome ## the dome's run as a space-time diagram (docs/dome.svg)
 	@$(HOST_BUILD)/dome docs/dome.svg >$(HOST_BUILD)/dome.txt
 	@echo "docs/dome.svg is the dome's run, drawn from its own events"
 
-minimal stuck: need-cc $(HOST_LIBRARY)
+minimal: ## one node, one write, one search (examples/minimal.c)
+stuck: ## two ways in which a shard stops, and what helps (examples/stuck.c)
+replace: ## a node is replaced (examples/replace.c)
+minimal stuck replace: need-cc $(HOST_LIBRARY)
 	@mkdir -p $(HOST_BUILD)
 	@$(CC) $(HOST_CFLAGS) examples/$@.c $(HOST_LIBRARY) -o $(HOST_BUILD)/$@
 	@$(HOST_BUILD)/$@
