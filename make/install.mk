@@ -61,7 +61,7 @@ install: need-destination $(LIBRARIES) ## headers, libraries, pkg-config and CMa
 uninstall: ## removes what install has put below DESTDIR and PREFIX
 	@rm -f $(INSTALLED_HEADERS:include/%='$(DESTDIR)$(INCLUDEDIR)/%') $(INSTALLED_PAGES:%='$(DESTDIR)$(DOCDIR)/%') \
 	    '$(DESTDIR)$(LIBDIR)/pkgconfig/catalogue.pc' '$(DESTDIR)$(LIBDIR)'/cmake/catalogue/catalogue-config*.cmake \
-	    '$(DESTDIR)$(LIBDIR)/libcatalogue.a' '$(DESTDIR)$(LIBDIR)'/libcatalogue.so*
+	    $(foreach f,libcatalogue.a libcatalogue.so $(SONAME) libcatalogue.so.$(VERSION),'$(DESTDIR)$(LIBDIR)/$(f)')
 	@for d in '$(DOCDIR)/docs' '$(DOCDIR)/examples' '$(DOCDIR)' '$(LIBDIR)/cmake/catalogue'; do \
 	    [ ! -d "$(DESTDIR)$$d" ] || rmdir --ignore-fail-on-non-empty "$(DESTDIR)$$d"; done
 	@echo "the catalogue engine is no longer below $(DESTDIR)$(PREFIX)"

@@ -6,6 +6,7 @@ scratch=$(mktemp -d)
 trap 'rm -rf "$scratch"' EXIT
 fail() { echo "install-test: $*" >&2; exit 1; }
 
+grep -q "^## $VERSION" CHANGELOG.md || fail "CHANGELOG.md has no section for $VERSION"
 $MAKE install DESTDIR= PREFIX="$scratch/at"
 mv "$scratch/at" "$scratch/moved" # nothing installed may depend on where it was put
 tree=$scratch/moved
@@ -27,7 +28,7 @@ for program in c cpp c-static cpp-static minimal; do
 done
 
 echo "-- CMake"
-cmake -S install/test -B "$scratch/build" -DCMAKE_PREFIX_PATH="$tree" -DCMAKE_C_COMPILER="$CC" -DCMAKE_CXX_COMPILER="$CXX" >"$scratch/log" 2>&1 &&
+cmake -S install/test -B "$scratch/build" -DCMAKE_PREFIX_PATH="$tree" -DCATALOGUE_SERIES="${VERSION%.*}" -DCMAKE_C_COMPILER="$CC" -DCMAKE_CXX_COMPILER="$CXX" >"$scratch/log" 2>&1 &&
     cmake --build "$scratch/build" >>"$scratch/log" 2>&1 || { cat "$scratch/log"; fail "CMake does not build the programs"; }
 for program in shared_c shared_cpp static_c static_cpp; do
     "$scratch/build/$program" || fail "the program built by CMake ($program) fails"
