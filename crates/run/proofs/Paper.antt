@@ -4,4 +4,5 @@ pub mod Sessions
 pub mod Turns
 pub mod Kept
 pub mod Events
+pub mod Beside
 pub mod Allowed
