@@ -16,11 +16,13 @@ use Rattle.model.specs.Node.Held.{Held}
 use Rattle.model.specs.Node.Shards.{gives, withReplica}
 use Rattle.model.specs.Node.Backup.{replied, backupRefused, isEmpty, copyHeld}
 use Rattle.model.specs.declared.Metric.{Metric}
+use Rattle.model.specs.declared.Metric.the-variants.{Euclidean}
 use Rattle.model.specs.declared.Epoch.{Epoch}
 use Rattle.model.specs.declared.Offset.{Offset}
 use Rattle.model.proofs.Log.Store.{store-all-longer}
-use Rattle.shard.specs.Store.{Store, Sized, replicaOf, wellFormedStore}
+use Rattle.shard.specs.Store.{Store, Sized, Spares, replicaOf, wellFormedStore}
 use Rattle.shard.specs.declared.replica.Outcome.{Outcome}
+use Rattle.shard.proofs.Spared.{spares-none, spares-on}
 use Rattle.shard.specs.declared.replica.Outcome.the-variants.{Through, Stale, Full}
 use Rattle.model.specs.Layout.Format.{next, value, valueN}
 use Rattle.model.specs.Layout.Parts.{entryF, entryOf}
@@ -40,6 +42,8 @@ pub record OnWay (own : ℕ) (es : List Entry) (s₀ s : Store) (rest : List Ent
   pub same : (m : Metric) → storeAll (replicaOf own m s) own rest ≡ storeAll (replicaOf own m s₀) own es
   pub well : wellFormedStore s ≡ true
   pub sized : Sized s
+  pub longer : s₀ .count ≤ s .count
+  pub spares : Spares s₀ s
 
 -- a batch's growth, of the replica in a store
 pub grows-last : (own : ℕ) (es : List WireEntry) (s : Store) (n : ℕ) → GrowsTo es (s .count) n → (m : Metric)
@@ -56,7 +60,7 @@ pub overflowing : (own : ℕ) (es : List WireEntry) (s : Store) (n : ℕ) → Gr
 overflowing own es s n g h m = let q = grows-last own es s n g m in omega arith
 
 pub on-start : (own : ℕ) (es : List Entry) (s : Store) → Sized s → wellFormedStore s ≡ true → OnWay own es s s es
-on-start own es s z w = record { same = λ m. refl; well = w; sized = z }
+on-start own es s z w = record { same = λ m. refl; well = w; sized = z; longer = omega arith; spares = spares-none s }
 
 module _ (own : ℕ) (es : List Entry) (s₀ : Store) (fit : HasRoom own es s₀) where
   pub on-next : (s t : Store) (e : Entry) (rest : List Entry) (a : Outcome) → OnWay own es s₀ s (e ∷ rest) → Arrives own own e s t a
@@ -66,6 +70,8 @@ module _ (own : ℕ) (es : List Entry) (s₀ : Store) (fit : HasRoom own es s₀
     same = λ m. ap (λ (r : ShardReplica). storeAll r own rest) (taken m) ∙ w .same m;
     well = d .arrived .well;
     sized = d .arrived .sized;
+    longer = (let h = w .longer in let k = grows in omega arith);
+    spares = spares-on s₀ s t (w .longer) grows (w .spares) (d .arrived .spares);
   }
     where
       taken : (m : Metric) → replicaOf own m t ≡ store (replicaOf own m s) own e .replica
@@ -77,9 +83,16 @@ module _ (own : ℕ) (es : List Entry) (s₀ : Store) (fit : HasRoom own es s₀
           let b : overfull q ≡ false = le-ltb 1024 (lastOffset q) (omega arith) in
           d .arrived .replica m ∙ ap (λ (c : Bool). cond c (replicaOf own m s) q) b
 
+      grows : s .count ≤ t .count
+      grows =
+          let m : Metric = Euclidean in
+          let l : lastOffset (replicaOf own m s) ≤ lastOffset (store (replicaOf own m s) own e .replica) = store-all-longer own (replicaOf own m s) (e ∷ []) in
+          let q = ap lastOffset (taken m) in
+          omega (arith, last-is own m s, last-is own m t)
+
 pub on-end : (own : ℕ) (es : List Entry) (s₀ s : Store) → OnWay own es s₀ s [] → StoresAll own es s₀ s
 unfolding storeAll
-on-end own es s₀ s w = record { replica = w .same; well = w .well; sized = w .sized }
+on-end own es s₀ s w = record { replica = w .same; well = w .well; sized = w .sized; spares = w .spares }
 
 -- .. over the entries of a message
 module _ (own : ℕ) (b : List ℕ) where
@@ -126,6 +139,7 @@ module _ (own epoch : ℕ) (es : List Entry) (s : Store) (z : Sized s) (w : well
     kept = λ t. refl;
     well = w;
     sized = z;
+    spares = spares-none s;
   }
 
   module _ (some-entry : isEmpty es ≡ false) where
@@ -140,6 +154,7 @@ module _ (own epoch : ℕ) (es : List Entry) (s : Store) (z : Sized s) (w : well
       kept = λ t. refl;
       well = w;
       sized = z;
+      spares = spares-none s;
     }
 
     module _ (p : epoch ≡ own) where
@@ -155,6 +170,7 @@ module _ (own epoch : ℕ) (es : List Entry) (s : Store) (z : Sized s) (w : well
         kept = λ t. refl;
         well = w;
         sized = z;
+        spares = spares-none s;
       }
 
       pub copies-all : (t : Store) → StoresAll own es s t → (n : ℕ) → ((m : Metric) → n ≡ lastOffset (storeAll (replicaOf own m s) own es)) → n ≤ 1024
@@ -171,6 +187,7 @@ module _ (own epoch : ℕ) (es : List Entry) (s : Store) (z : Sized s) (w : well
         kept = λ c. absurd-kept c;
         well = d .well;
         sized = d .sized;
+        spares = d .spares;
       }
         where
           absurd-kept : false ≡ true → t ≡ s

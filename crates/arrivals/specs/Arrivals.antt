@@ -15,7 +15,7 @@ use Rattle.model.specs.Node.Shards.{gives, withReplica}
 use Rattle.model.specs.Node.Backup.{BackupAnswer, replied, backupRefused, copyHeld}
 use Rattle.model.specs.declared.Metric.{Metric}
 use Rattle.shard.specs.View.{opFrom}
-use Rattle.shard.specs.Store.{Store, Sized, Storable, Arrived, replicaOf, wellFormedStore}
+use Rattle.shard.specs.Store.{Store, Sized, Storable, Spares, Arrived, replicaOf, wellFormedStore}
 use Rattle.shard.specs.declared.replica.Outcome.{Outcome}
 use Rattle.shard.specs.declared.replica.Outcome.the-variants.{Through, Gap, Stale, Full}
 use Rattle.arrivals.specs.declared.ops.OpRead.{OpRead}
@@ -48,6 +48,7 @@ pub record StoresAll (own : ℕ) (es : List Entry) (s t : Store) : Type 0 where
   pub replica : (m : Metric) → replicaOf own m t ≡ storeAll (replicaOf own m s) own es
   pub well : wellFormedStore t ≡ true
   pub sized : Sized t
+  pub spares : Spares s t
 
 -- the answer to a CopyShard or a Replicate: 30, 31, 32, or 23
 abbrev pub answerAs : Outcome → BackupAnswer
@@ -63,3 +64,4 @@ pub record Copies (own epoch : ℕ) (es : List Entry) (s t : Store) (a : Outcome
   pub kept : turnedDown a ≡ true → t ≡ s
   pub well : wellFormedStore t ≡ true
   pub sized : Sized t
+  pub spares : Spares s t

@@ -379,7 +379,18 @@ pub fn look(
         );
     }
     if call == 9 {
-        return listed(replica::reads::ids(keys, h.stored));
+        return listed(replica::reads::ids(
+            epochs,
+            offsets,
+            ids,
+            codes,
+            lengths,
+            floats,
+            keys,
+            places,
+            h.count,
+            h.stored,
+        ));
     }
     state(
         epochs,

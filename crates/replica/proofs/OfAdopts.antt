@@ -23,6 +23,7 @@ use Rattle.shard.specs.declared.replica.Adoption.{Adoption}
 use Rattle.arrivals.specs.Parts.{tableIn}
 use Rattle.arrivals.proofs.OfMessages.{new-epoch-part, new-epoch-table}
 use Rattle.arrivals.proofs.OfStores.{last-is, own-epoch}
+use Rattle.shard.proofs.Spared.{spares-none}
 use Rattle.replica.specs.Fits.{lentFits}
 use Rattle.replica.specs.Calls.{After, tested, adoptTo, adoptLent, Calls}
 use Rattle.replica.specs.declared.Answer.the-variants as A
@@ -73,6 +74,7 @@ module _ (b : List ℕ) (own : Epoch) (s : Store) (count stored : ℕ) where
       same = λ m. sym (there f m ∙ adopt-by (own .0) m s (p .epoch .0) (p .end .0) (tableIn b (p .table)) true (lt-ltb _ _ l));
       kept = λ k. (refl, refl);
       fits = λ x. x;
+      spares = spares-none s;
     }
 
     pub adopts-taken : (t : Store) (a : Adoption) → lentFits s ≡ true → own .0 ≤ p .epoch .0
@@ -90,4 +92,5 @@ module _ (b : List ℕ) (own : Epoch) (s : Store) (count stored : ℕ) where
           ∙ sym (there f m ∙ adopt-by (own .0) m s (p .epoch .0) (p .end .0) (tableIn b (p .table)) false o);
       kept = λ k. not-both false k refl;
       fits = λ _. fits-from t (d .sized) (d .well);
+      spares = d .spares;
     }

@@ -121,4 +121,5 @@ module _ (b : List ℕ) (own : Epoch) (s : Store) (count stored : ℕ) where
         same = λ m. append-there (own .0) m s t op l d ∙ ap (appendTo (replicaOf (own .0) m s)) q ∙ sym (there f m);
         kept = λ k. not-both false k refl;
         fits = λ _. fits-from t (d .sized) (d .well);
+        spares = d .spares;
       }

@@ -112,4 +112,5 @@ module _ (b : List ℕ) (own : Epoch) (s : Store) (count stored : ℕ) where
             ∙ outcome-as a (overfull (taken m .replica)) (taken m .answer) (replicaOf (own .0) m s) (taken m .replica) (d .arrived .answer m) ∙ sym (there f m);
         kept = λ k. (d .kept (down-as a (sym (ap turnedDown e) ∙ k)), refl);
         fits = λ _. fits-from t (d .arrived .sized) (d .arrived .well);
+        spares = d .arrived .spares;
       }

@@ -132,4 +132,5 @@ module _ (b : List ℕ) (own : Epoch) (s : Store) (count stored : ℕ) where
             ∙ copy-is (replicaOf (own .0) m s) (p .epoch .0) batch ∙ sym (there f m);
         kept = λ k. (d .kept (down-as a (sym (ap turnedDown e) ∙ k)), refl);
         fits = λ _. fits-from t (d .sized) (d .well);
+        spares = d .spares;
       }

@@ -1,28 +1,30 @@
--- Laws of the test of a lent store, and of a search behind it. Assumes nothing.
-use Prim.Native.Nat.{ℕ, _<_}
+-- Laws of the test of a lent store, of a search behind it and of its ids. Assumes nothing.
+use Prim.Native.Nat.{ℕ, _<_, _≤_}
 use mathlib.Core.Path.{_≡_, refl, sym, ap, _∙_, subst}
 use mathlib.Core.Bool.{Bool, true, false, not, cond}
-use mathlib.Core.List.{List}
+use mathlib.Core.List.{List, [], _∷_, map}
 use lib.Dec.{eqb, ltb}
 use lib.Ieee.{Float}
-use lib.ListN.{length}
+use lib.ListN.{length, take}
+use lib.Seq.{length-take-le}
 use native.Mathlib.Omega.{arith}
 use borrow.Author.Tests.{eqb-true, eq-eqb, ne-eqb}
 use Rattle.model.specs.Lists.{_and_}
 use Rattle.model.specs.Refusals.{outsideDomain, malformed, noRoom}
-use Rattle.model.specs.Nearest.Search.{hits}
+use Rattle.model.specs.Nearest.Search.{Vector, hits}
+use Rattle.model.specs.Log.{Log}
 use Rattle.model.specs.Node.WellFormed.{wellFormedVector}
 use Rattle.model.specs.Node.Client.{SearchAnswer, found, searchRefused}
 use Rattle.model.specs.declared.Metric.{Metric}
 use Rattle.model.proofs.Lists.{and-left, and-right}
 use Rattle.model.proofs.LayoutLaws.Tests.{and-true, and-false}
-use Rattle.shard.specs.Table.{vectorsOf}
+use Rattle.shard.specs.Table.{zipped, rowsOf, vectorOf, vectorsOf}
 use Rattle.shard.specs.Store.{Store, Sized, storeLog, storeRows, wellFormedStore}
 use Rattle.shard.proofs.Facts.{facts}
 use Rattle.nearest.specs.declared.answer.Found.{Found}
 use Rattle.nearest.specs.declared.answer.Found.the-variants.{Refused}
 use Rattle.nearest.specs.Search.{searchStore, Searched}
-use Rattle.replica.specs.Fits.{allWhole, sized, lentFits, searchLent}
+use Rattle.replica.specs.Fits.{allWhole, sized, lentFits, searchLent, idsLent}
 
 -- a length that passes leaves the rest to decide; one that does not decides
 pub whole-step : (n : ℕ) (x y : Bool) → n ≡ 1024 → x ≡ y → x ≡ (eqb n 1024 and y)
@@ -116,3 +118,29 @@ module _ (s : Store) (m : Metric) (q : List Float) (k room : ℕ) (is : List ℕ
       ap (λ (x : Bool). cond (not x) (searchRefused outsideDomain) (cond (not (wellFormedStore s)) (searchRefused malformed) short)) e
       ∙ ap (λ (x : Bool). cond (not x) (searchRefused malformed) short) (fits-well s f) in
       subst (λ (a : SearchAnswer). Searched a r is is′ ds ds′) (p ∙ sym (lent-by true true e f)) d
+
+-- ---- ids
+
+ids-zipped : (l : Log) (ks ps : List ℕ) → length ks ≡ length ps → map (λ (v : Vector). v .id) (vectorsOf l (zipped ks ps)) ≡ ks
+unfolding vectorsOf vectorOf zipped
+ids-zipped l [] ps e = refl
+ids-zipped l (k ∷ ks) [] e = absurd (omega arith)
+ids-zipped l (k ∷ ks) (p ∷ ps) e = ap (λ (r : List ℕ). k ∷ r) (ids-zipped l ks ps (omega arith))
+
+module _ (s : Store) (f : lentFits s ≡ true) where
+  pub stored-fits : s .stored ≤ length (s .keys)
+  stored-fits = let z = fits-sized s f in let h = facts s (fits-well s f) .stored in omega (arith, z .keys)
+
+  pub ids-there : take (s .stored) (s .keys) ≡ idsLent s
+  unfolding idsLent rowsOf
+  ids-there =
+      let z = fits-sized s f in
+      let h = facts s (fits-well s f) .stored in
+      let k = length-take-le (s .stored) (s .keys) stored-fits in
+      let p = length-take-le (s .stored) (s .places) (omega (arith, z .places)) in
+      sym (ids-zipped (storeLog s) (take (s .stored) (s .keys)) (take (s .stored) (s .places)) (omega arith))
+      ∙ sym (ap (λ (b : Bool). cond b (map (λ (v : Vector). v .id) (vectorsOf (storeLog s) (storeRows s))) []) f)
+
+pub ids-none : (s : Store) → lentFits s ≡ false → [] ≡ idsLent s
+unfolding idsLent
+ids-none s f = sym (ap (λ (b : Bool). cond b (map (λ (v : Vector). v .id) (vectorsOf (storeLog s) (storeRows s))) []) f)

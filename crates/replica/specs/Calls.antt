@@ -15,7 +15,7 @@ use Rattle.model.specs.Node.Shards.{Result, gives}
 use Rattle.model.specs.Node.Client.{overfull}
 use Rattle.model.specs.Node.Backup.{isEmpty}
 use Rattle.model.specs.declared.Metric.{Metric}
-use Rattle.shard.specs.Store.{Store, replicaOf}
+use Rattle.shard.specs.Store.{Store, Spares, replicaOf}
 use Rattle.shard.specs.declared.replica.Outcome.{Outcome}
 use Rattle.shard.specs.declared.replica.Outcome.the-variants.{Through, Gap, Stale, Full}
 use Rattle.replica.specs.Fits.{lentFits}
@@ -107,8 +107,10 @@ turnedDown (A.Adopted o) = false
 turnedDown (A.Refused n) = true
 
 -- the definition's answer, and the definition's replica, read from the store at exit under the epoch that is answered. Turned down,
--- every place of the lent columns and both counts are as they were, the free places too
+-- every place of the lent columns and both counts are as they were, the free places too; so they are after a Gap, a repeated Stored and an
+-- Adopted that cuts nothing. Else new entries are all that the log's columns differ by (`Spares`)
 pub record Calls (call : Metric → After) (own : ℕ) (s t : Store) (d : Done) : Type 0 where
   pub same : (m : Metric) → gives (d .answer) (replicaOf (d .epoch .0) m t) ≡ call m
   pub kept : turnedDown (d .answer) ≡ true → (t ≡ s) × (d .epoch .0 ≡ own)
   pub fits : lentFits s ≡ true → lentFits t ≡ true
+  pub spares : Spares s t

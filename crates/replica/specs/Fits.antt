@@ -1,7 +1,7 @@
--- When the lent store of one replica is refused (paper 01, 'Who is turned down', 24), and a search over it. Definitions only.
+-- When the lent store of one replica is refused (paper 01, 'Who is turned down', 24), a search over it, and its ids. Definitions only.
 use Prim.Native.Nat.{ℕ}
 use mathlib.Core.Bool.{Bool, not, cond}
-use mathlib.Core.List.{List}
+use mathlib.Core.List.{List, [], map}
 use lib.Dec.{eqb, ltb}
 use lib.Ieee.{Float}
 use lib.ListN.{length}
@@ -43,3 +43,7 @@ searchLent s m q k room =
     let h = hits m q (vectorsOf (storeLog s) (storeRows s)) k in
     cond (not (wellFormedVector q)) (searchRefused outsideDomain)
     (cond (not (lentFits s)) (searchRefused malformed) (cond (ltb room (length h)) (searchRefused noRoom) (found h)))
+
+-- shard.rs, ids: those of the vectors, rising; none of a malformed store
+unfoldable pub idsLent : Store → List ℕ
+idsLent s = cond (lentFits s) (map (λ v. v .id) (vectorsOf (storeLog s) (storeRows s))) []

@@ -3,14 +3,40 @@
 use model::Epoch;
 ghost use mathlib.Core.Path.{_≡_};
 ghost use Prim.Native.Nat.{max};
-ghost use lib.ListN.{take};
+ghost use Rattle.shard.specs.View.{columns};
+ghost use Rattle.shard.specs.Store.{lent};
+ghost use Rattle.replica.specs.Fits.{idsLent};
 
-// The ids that have a vector, rising: a part of the lent keys, no copy.
-pub fn ids<'a>(keys: &'a [u64], stored: usize) -> &'a [u64]
-    ensures { λ r. ⌜ now r ≡ take stored (now (keys .entry)) ⌝ }
+// The ids that have a vector, rising: a part of the lent keys, no copy. The part is empty where none has one, and where the store is malformed
+// (`lent_fits` says which of them).
+pub fn ids<'a>(
+    epochs: &[u64],
+    offsets: &[u64],
+    ids: &[u64],
+    codes: &[u8],
+    lengths: &[u8],
+    floats: &[f32],
+    keys: &'a [u64],
+    places: &[u64],
+    count: usize,
+    stored: usize,
+) -> &'a [u64]
+    ensures { λ r. ⌜ now r ≡ idsLent (lent (columns (now (epochs .entry)) (now (offsets .entry)) (now (ids .entry)) (now (codes .entry)) (now (lengths .entry)) (now (floats .entry)))
+        (now (keys .entry)) (now (places .entry)) count stored) ⌝ }
 {
-    if keys.len() < stored {
-        return keys;
+    if !super::fits::lent_fits(
+        epochs,
+        offsets,
+        ids,
+        codes,
+        lengths,
+        floats,
+        keys,
+        places,
+        count,
+        stored,
+    ) {
+        return &keys[0..0];
     }
     &keys[..stored]
 }

@@ -19,9 +19,9 @@ use Rattle.model.proofs.Lists.{take-within}
 use Rattle.model.proofs.Map.Rows.{every-tail, every-cons}
 use Rattle.model.proofs.Log.Numbered.{Numbered, numbered-within}
 use Rattle.model.proofs.Log.Keep.{keep-lead}
-use Rattle.shard.specs.View.{Columns, firsts, entryOf, logOf}
+use Rattle.shard.specs.View.{Columns, firsts, entryOf, logOf, writtenAll}
 use Rattle.shard.specs.Table.{Row, Tabled, rowsOf, playRows, rowsPlayed, vectorsOf}
-use Rattle.shard.specs.Store.{Store, lent, storeLog, storeRows, replicaOf, wellFormedStore, Sized}
+use Rattle.shard.specs.Store.{Store, lent, storeLog, storeRows, replicaOf, wellFormedStore, Sized, Spares}
 use Rattle.shard.specs.Align.{KeptOf, Aligned, adoptionOf}
 use Rattle.shard.specs.declared.replica.Adoption.{Adoption}
 use Rattle.shard.specs.declared.replica.Adoption.the-variants.{Older, Kept}
@@ -30,6 +30,7 @@ use Rattle.shard.proofs.Columns.{log-length}
 use Rattle.shard.proofs.Rebuilt.{played-log}
 use Rattle.shard.proofs.Put.{lead-most}
 use Rattle.shard.proofs.Facts.{Facts, facts, well-formed, store-in-step}
+use Rattle.shard.proofs.Spared.{spares-none}
 
 pub prefix-log : (c : Columns) (n k : ℕ) → k ≤ n → logOf c k ≡ take k (logOf c n)
 unfolding logOf
@@ -83,6 +84,7 @@ module _ (s : Store) (z : Sized s) (w : wellFormedStore s ≡ true) where
           ∙ sym (ap (λ (b : Bool). cond b (replicaOf own m s) (adopted (replicaOf own m s) epoch end t)) (lt-ltb epoch own h));
       well = w;
       sized = z;
+      spares = spares-none s;
     }
 
     module _ (newer : own ≤ epoch) (k : ℕ) (isKept : k ≡ lead (agrees end t) (storeLog s)) where
@@ -98,9 +100,9 @@ module _ (s : Store) (z : Sized s) (w : wellFormedStore s ≡ true) where
       -- the replica that is left, given its log and its vectors
       aligned-by : (s′ : Store) (o : Offset) → o .0 ≡ k → storeLog s′ ≡ keep end t (storeLog s)
           → ((m : Metric) → replicaOf epoch m s′ .vectors ≡ adopted (replicaOf own m s) epoch end t .vectors)
-          → wellFormedStore s′ ≡ true → Sized s′ → Aligned own epoch end t s s′ (Kept o)
+          → wellFormedStore s′ ≡ true → Sized s′ → Spares s s′ → Aligned own epoch end t s s′ (Kept o)
       unfolding replicaOf adopted
-      aligned-by s′ o q l v w′ z′ = record {
+      aligned-by s′ o q l v w′ z′ sp = record {
         answer =
             λ m.
             ap replyAdopted (q ∙ sym kept-length)
@@ -113,12 +115,13 @@ module _ (s : Store) (z : Sized s) (w : wellFormedStore s ≡ true) where
             ∙ sym (ap (λ (b : Bool). cond b (replicaOf own m s) (adopted (replicaOf own m s) epoch end t)) (le-ltb epoch own newer));
         well = w′;
         sized = z′;
+        spares = sp;
       }
 
       pub aligned-cut : (ks ps : List ℕ) (r : ℕ) (o : Offset) → o .0 ≡ k → k < s .count
-          → Tabled (s .keys) (s .places) ks ps r (rowsPlayed (s .columns .offsets) (s .columns .ids) (s .columns .codes) k)
+          → Tabled k (s .keys) (s .places) ks ps r (rowsPlayed (s .columns .offsets) (s .columns .ids) (s .columns .codes) k)
           → Aligned own epoch end t s (lent (s .columns) ks ps k r) (Kept o)
-      unfolding adopted replicaOf
+      unfolding adopted replicaOf writtenAll
       aligned-cut ks ps r o q h u =
           let lk : length ks ≡ 1024 = u .keys ∙ z .keys in
           let lp : length ps ≡ 1024 = u .places ∙ z .places in
@@ -130,6 +133,14 @@ module _ (s : Store) (z : Sized s) (w : wellFormedStore s ≡ true) where
           ∙ sym (ap (λ (b : Bool). cond b (play (keep end t (storeLog s))) (replicaOf own m s .vectors))
           (lt-ltb (length (keep end t (storeLog s))) (length (storeLog s)) (omega (arith, kept-length, log-length (s .columns) (s .count))))))
           (well-formed (lent (s .columns) ks ps k r) fc) (cut-sized ks ps k r lk lp)
+          (record {
+            entries = [];
+            grown = omega arith;
+            columns = refl;
+            keys = u .keysPast;
+            places = u .placesPast;
+            same = λ e. absurd (omega arith);
+          })
 
       pub aligned-whole : (o : Offset) → o .0 ≡ s .count → s .count ≤ k → Aligned own epoch end t s s (Kept o)
       unfolding adopted replicaOf
@@ -139,4 +150,4 @@ module _ (s : Store) (z : Sized s) (w : wellFormedStore s ≡ true) where
           (λ m.
           sym (ap (λ (b : Bool). cond b (play (keep end t (storeLog s))) (replicaOf own m s .vectors))
           (le-ltb (length (keep end t (storeLog s))) (length (storeLog s)) (omega (arith, kept-length, log-length (s .columns) (s .count))))))
-          w z
+          w z (spares-none s)

@@ -15,11 +15,12 @@ use Rattle.model.specs.declared.Epoch.{Epoch}
 use Rattle.model.specs.declared.Offset.{Offset}
 use Rattle.model.proofs.Log.Store.{push-length, store-other, store-next, store-old, store-far}
 use Rattle.shard.specs.View.{logOf}
-use Rattle.shard.specs.Store.{Store, storeLog, replicaOf, wellFormedStore, Sized, Pushed, answerOf, Arrived}
+use Rattle.shard.specs.Store.{Store, storeLog, replicaOf, wellFormedStore, Sized, Spares, Pushed, answerOf, Arrived}
 use Rattle.shard.specs.declared.replica.Outcome.{Outcome}
 use Rattle.shard.specs.declared.replica.Outcome.the-variants.{Through, Gap, Stale, Full}
 use Rattle.shard.proofs.Columns.{log-length}
 use Rattle.shard.proofs.Facts.{Facts, facts}
+use Rattle.shard.proofs.Spared.{spares-none}
 
 last-is : (e : ℕ) (m : Metric) (s : Store) → lastOffset (replicaOf e m s) ≡ s .count
 unfolding replicaOf
@@ -35,14 +36,15 @@ module _ (own epoch : ℕ) (e : Entry) (s : Store) (z : Sized s) (w : wellFormed
       → ((m : Metric) → store (replicaOf own m s) epoch e ≡ record { answer = answer m; replica = r m })
       → ((m : Metric) → lastOffset (r m) ≤ 1024)
       → ((m : Metric) → answerOf a ≡ some (answer m)) → ((m : Metric) → replicaOf own m t ≡ r m)
-      → wellFormedStore t ≡ true → Sized t → Arrived own epoch e s t a
-  fits-case t a answer r q l ea er wt zt = record {
+      → wellFormedStore t ≡ true → Sized t → Spares s t → Arrived own epoch e s t a
+  fits-case t a answer r q l ea er wt zt sp = record {
     answer = λ m. ea m ∙ sym (ap (λ (v : StoreResult). cond (overfull (v .replica)) none (some (v .answer))) (q m)
         ∙ ap (λ (b : Bool). cond b none (some (answer m))) (le-ltb 1024 (lastOffset (r m)) (l m)));
     replica = λ m. er m ∙ sym (ap (λ (v : StoreResult). cond (overfull (v .replica)) (replicaOf own m s) (v .replica)) (q m)
         ∙ ap (λ (b : Bool). cond b (replicaOf own m s) (r m)) (le-ltb 1024 (lastOffset (r m)) (l m)));
     well = wt;
     sized = zt;
+    spares = sp;
   }
 
   still : (m : Metric) → lastOffset (replicaOf own m s) ≤ 1024
@@ -53,7 +55,7 @@ module _ (own epoch : ℕ) (e : Entry) (s : Store) (z : Sized s) (w : wellFormed
       fits-case s (Stale o) (λ m. stale own) (λ m. replicaOf own m s)
       (λ m. store-other (replicaOf own m s) epoch e (λ p. n (p ∙ own-epoch own m s))
       ∙ ap (λ (k : ℕ). record { answer = stale k; replica = replicaOf own m s }) (own-epoch own m s))
-      still (λ m. ap (λ (k : ℕ). some (stale k)) q) (λ m. refl) w z
+      still (λ m. ap (λ (k : ℕ). some (stale k)) q) (λ m. refl) w z (spares-none s)
 
   module _ (p : epoch ≡ own) where
     at-own : (m : Metric) → epoch ≡ replicaOf own m s .epoch
@@ -63,13 +65,13 @@ module _ (own epoch : ℕ) (e : Entry) (s : Store) (z : Sized s) (w : wellFormed
     arrived-old o q h =
         fits-case s (Through o) (λ m. through (lastOffset (replicaOf own m s))) (λ m. replicaOf own m s)
         (λ m. store-old (replicaOf own m s) epoch e (at-own m) (let l = last-is own m s in omega arith))
-        still (λ m. ap (λ (k : ℕ). some (through k)) (q ∙ sym (last-is own m s))) (λ m. refl) w z
+        still (λ m. ap (λ (k : ℕ). some (through k)) (q ∙ sym (last-is own m s))) (λ m. refl) w z (spares-none s)
 
     pub arrived-far : (o : Offset) → o .0 ≡ s .count + 1 → s .count + 1 < e .offset → Arrived own epoch e s s (Gap o)
     arrived-far o q h =
         fits-case s (Gap o) (λ m. gap (lastOffset (replicaOf own m s) + 1)) (λ m. replicaOf own m s)
         (λ m. store-far (replicaOf own m s) epoch e (at-own m) (let l = last-is own m s in omega arith))
-        still (λ m. ap (λ (k : ℕ). some (gap k)) (q ∙ ap (_+ 1) (sym (last-is own m s)))) (λ m. refl) w z
+        still (λ m. ap (λ (k : ℕ). some (gap k)) (q ∙ ap (_+ 1) (sym (last-is own m s)))) (λ m. refl) w z (spares-none s)
 
     pub arrived-new : (o : Offset) (t : Store) → o .0 ≡ s .count + 1 → e .offset ≡ s .count + 1 → s .count < 1024 → Pushed s t e
         → Arrived own epoch e s t (Through o)
@@ -77,7 +79,7 @@ module _ (own epoch : ℕ) (e : Entry) (s : Store) (z : Sized s) (w : wellFormed
         fits-case t (Through o) (λ m. through (lastOffset (replicaOf own m s) + 1)) (λ m. push (replicaOf own m s) e)
         (λ m. store-next (replicaOf own m s) epoch e (at-own m) (let l = last-is own m s in omega arith))
         (λ m. let l = last-is own m s in let k = push-length (replicaOf own m s) e in omega arith)
-        (λ m. ap (λ (k : ℕ). some (through k)) (q ∙ ap (_+ 1) (sym (last-is own m s)))) (λ m. u .replica own m) (u .well) (u .sized)
+        (λ m. ap (λ (k : ℕ). some (through k)) (q ∙ ap (_+ 1) (sym (last-is own m s)))) (λ m. u .replica own m) (u .well) (u .sized) (u .spares)
 
     pub arrived-full : e .offset ≡ s .count + 1 → s .count ≡ 1024 → Arrived own epoch e s s Full
     arrived-full h full =
@@ -92,6 +94,7 @@ module _ (own epoch : ℕ) (e : Entry) (s : Store) (z : Sized s) (w : wellFormed
           replica = λ m. sym (ap (λ (b : Bool). cond b (replicaOf own m s) (store (replicaOf own m s) epoch e .replica)) (over m));
           well = w;
           sized = z;
+          spares = spares-none s;
         }
 
 -- the next entry, pushed at the place that its offset names

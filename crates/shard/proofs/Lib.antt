@@ -16,3 +16,4 @@ pub mod Aligning
 pub mod Adopting
 pub mod Checking
 pub mod Ends
+pub mod Spared

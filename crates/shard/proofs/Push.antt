@@ -22,14 +22,15 @@ use Rattle.model.proofs.Lists.{and-true, by-test}
 use Rattle.model.proofs.Map.Rows.{every-tail, every-cons}
 use Rattle.model.proofs.Log.Numbered.{Numbered, numbered-snoc}
 use Rattle.model.proofs.Log.Play.{play-snoc}
-use Rattle.shard.specs.View.{Columns, Room, logOf, opFrom, written}
+use Rattle.shard.specs.View.{Columns, Room, logOf, opFrom, written, writtenAll}
 use Rattle.shard.specs.Table.{Row, Tabled, rowsOf, rowBelow, otherRow, rowOp, playRows, vectorsOf}
-use Rattle.shard.specs.Store.{Store, lent, storeLog, storeRows, replicaOf, codeFits, wellFormedStore, Sized, Storable, Pushed}
+use Rattle.shard.specs.Store.{Store, lent, storeLog, storeRows, replicaOf, codeFits, wellFormedStore, Sized, Storable, Spares, Pushed}
 use Rattle.shard.proofs.Columns.{log-length}
 use Rattle.shard.proofs.PlayRows.{rows-snoc}
 use Rattle.shard.proofs.Written.{written-log, written-room, written-floats}
 use Rattle.shard.proofs.Bits.{floats-length}
-use Rattle.shard.proofs.Facts.{Facts, facts, well-formed, room-of, store-in-step}
+use Rattle.shard.proofs.Facts.{Facts, facts, well-formed, room-of, stored-most, store-in-step}
+use Rattle.shard.proofs.Spared.{past-later}
 
 pub every-snoc {ℓ} : {A : Type ℓ} (t : A → Bool) (l : List A) (x : A) → every t l ≡ true → t x ≡ true → every t (l ++ (x ∷ [])) ≡ true
 unfolding every
@@ -117,7 +118,7 @@ module _ (s : Store) (z : Sized s) (w : wellFormedStore s ≡ true) (free : s .c
       (eq-or-lt-of-le {n = i} {m = n} (omega arith))
 
   module _ (ks ps : List ℕ) (r : ℕ)
-      (t : Tabled (s .keys) (s .places) ks ps r (rowOp (storeRows s) (opFrom code id bits) (n + 1))) where
+      (t : Tabled (s .stored + 1) (s .keys) (s .places) ks ps r (rowOp (storeRows s) (opFrom code id bits) (n + 1))) where
     abbrev after : Store
     after = lent new ks ps (n + 1) r
 
@@ -171,12 +172,26 @@ module _ (s : Store) (z : Sized s) (w : wellFormedStore s ≡ true) (free : s .c
           places = t .places ∙ z .places;
         }
 
+    spared : Spares s after
+    unfolding writtenAll
+    spared =
+        let few = stored-most s f z in
+        record {
+          entries = record { epoch = epoch; code = code; id = id; bits = bits } ∷ [];
+          grown = omega arith;
+          columns = refl;
+          keys = past-later (s .stored + 1) (n + 1) ks (s .keys) (omega arith) (t .keysPast);
+          places = past-later (s .stored + 1) (n + 1) ps (s .places) (omega arith) (t .placesPast);
+          same = λ e. absurd (omega arith);
+        }
+
     pushed-new : Pushed s after entry
     pushed-new = record {
       count = refl;
       replica = replica-after;
       well = well-formed after after-facts;
       sized = sized-after;
+      spares = spared;
     }
 
     -- by any columns that are the written ones
@@ -186,13 +201,13 @@ module _ (s : Store) (z : Sized s) (w : wellFormedStore s ≡ true) (free : s .c
   -- what set_row and drop_row leave is the operation played
   module _ (ks ps : List ℕ) (r : ℕ) (c : Columns) (e : c ≡ new) where
     pub pushed-set : code ≡ 1
-        → Tabled (s .keys) (s .places) ks ps r (put rowBelow (record { id = id; offset = n + 1 }) (storeRows s))
+        → Tabled (s .stored + 1) (s .keys) (s .places) ks ps r (put rowBelow (record { id = id; offset = n + 1 }) (storeRows s))
         → Pushed s (lent c ks ps (n + 1) r) entry
     pushed-set q t =
-        pushed ks ps r (subst (Tabled (s .keys) (s .places) ks ps r) (set-op (storeRows s) code id (n + 1) bits q) t) c e
+        pushed ks ps r (subst (Tabled (s .stored + 1) (s .keys) (s .places) ks ps r) (set-op (storeRows s) code id (n + 1) bits q) t) c e
 
     pub pushed-drop : (code ≡ 1 → ⊥)
-        → Tabled (s .keys) (s .places) ks ps r (filter (otherRow id) (storeRows s))
+        → Tabled (s .stored + 1) (s .keys) (s .places) ks ps r (filter (otherRow id) (storeRows s))
         → Pushed s (lent c ks ps (n + 1) r) entry
     pushed-drop q t =
-        pushed ks ps r (subst (Tabled (s .keys) (s .places) ks ps r) (drop-op (storeRows s) code id (n + 1) bits q) t) c e
+        pushed ks ps r (subst (Tabled (s .stored + 1) (s .keys) (s .places) ks ps r) (drop-op (storeRows s) code id (n + 1) bits q) t) c e

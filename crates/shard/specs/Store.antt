@@ -1,10 +1,10 @@
 -- The lent store of one shard, read as `model`'s replica, and when it is malformed (24). Definitions only.
-use Prim.Native.Nat.{ℕ, zero, suc, _+_, _≤_}
+use Prim.Native.Nat.{ℕ, zero, suc, _+_, _-_, _≤_}
 use mathlib.Core.Path.{_≡_}
 use mathlib.Core.Bool.{Bool, true, false, cond}
 use mathlib.Core.List.{List, [], _∷_}
 use lib.Dec.{eqb, leb}
-use lib.ListN.{length, getD}
+use lib.ListN.{length, getD, drop}
 use Rattle.model.specs.Lists.{_and_, every}
 use Rattle.model.specs.Limits.{maxComponents, maxEntries, minFloats}
 use mathlib.Core.Option.{Option, none, some}
@@ -15,7 +15,7 @@ use Rattle.shard.specs.declared.replica.Outcome.the-variants.{Through, G
 use Rattle.model.specs.Nearest.Order.{bitsInDomain}
 use Rattle.model.specs.Node.WellFormed.{numberedFrom, wellFormedEntry}
 use Rattle.model.specs.declared.Metric.{Metric}
-use Rattle.shard.specs.View.{Columns, logOf}
+use Rattle.shard.specs.View.{Columns, logOf, Inscribed, writtenAll}
 use Rattle.shard.specs.Table.{Row, rowsOf, playRows, vectorsOf}
 
 -- the columns of the log, the two of the table, and how much of them is used
@@ -84,12 +84,24 @@ pub record Storable (code : ℕ) (bits : List ℕ) : Type 0 where
   pub short : length bits ≤ maxComponents
   pub domain : every bitsInDomain bits ≡ true
 
+-- what a change of the log leaves of every place. Of the log's columns only new entries are written, behind those that were there; of the
+-- table's two columns the places past the log's length stay, and those between its rows and there are free. A log that is as long as it
+-- was leaves every place as it was
+pub record Spares (s t : Store) : Type 0 where
+  pub entries : List Inscribed
+  pub grown : t .count - s .count ≡ length entries
+  pub columns : t .columns ≡ writtenAll (s .columns) (s .count) entries
+  pub keys : drop (t .count) (t .keys) ≡ drop (t .count) (s .keys)
+  pub places : drop (t .count) (t .places) ≡ drop (t .count) (s .places)
+  pub same : t .count ≡ s .count → t ≡ s
+
 -- a store after one entry more: `model`'s replica with that entry pushed, well formed still
 pub record Pushed (s t : Store) (e : Entry) : Type 0 where
   pub count : t .count ≡ s .count + 1
   pub replica : (epoch : ℕ) (m : Metric) → replicaOf epoch m t ≡ push (replicaOf epoch m s) e
   pub well : wellFormedStore t ≡ true
   pub sized : Sized t
+  pub spares : Spares s t
 
 -- what became of an entry that arrived, in `model`'s words; Full is 23, which nothing of the replica tells
 abbrev pub answerOf : Outcome → Option Stored
@@ -106,3 +118,4 @@ pub record Arrived (own epoch : ℕ) (e : Entry) (s t : Store) (a : Outcome) : T
       replicaOf own m t ≡ cond (overfull (q .replica)) (replicaOf own m s) (q .replica)
   pub well : wellFormedStore t ≡ true
   pub sized : Sized t
+  pub spares : Spares s t

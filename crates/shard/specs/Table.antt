@@ -58,13 +58,15 @@ inserted at n x l = take (suc n) (take at l ++ x ∷ drop at l) ++ drop (suc n) 
 unfoldable pub removed : (at n : ℕ) → List ℕ → List ℕ
 removed at n l = take (n - 1) (take at l ++ drop (at + 1) l) ++ drop (n - 1) l
 
--- two columns after a change: they make these rows, and are as long as they were
-pub record Tabled (ks ps ks′ ps′ : List ℕ) (stored : ℕ) (rs : List Row) : Type 0 where
+-- two columns after a change: they make these rows, are as long as they were, and hold from place `top` on what they held
+pub record Tabled (top : ℕ) (ks ps ks′ ps′ : List ℕ) (stored : ℕ) (rs : List Row) : Type 0 where
   pub rows : rowsOf ks′ ps′ stored ≡ rs
   pub fits : stored ≤ length ks
   pub also : stored ≤ length ps
   pub keys : length ks′ ≡ length ks
   pub places : length ps′ ≡ length ps
+  pub keysPast : drop top ks′ ≡ drop top ks
+  pub placesPast : drop top ps′ ≡ drop top ps
 
 -- an operation on rows by its code: 1 sets, any other removes
 unfoldable pub rowBy : List Row → (code id offset : ℕ) → List Row

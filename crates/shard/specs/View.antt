@@ -70,3 +70,15 @@ written c n epoch code id bits = record {
   lengths = set (c .lengths) n (length bits);
   floats = take (n * 32) (c .floats) ++ (floatsOf bits ++ drop (n * 32 + length bits) (c .floats));
 }
+
+-- an entry as it is written: its operation by code, id and the bits of its components
+pub record Inscribed : Type 0 where
+  pub epoch : ℕ
+  pub code : ℕ
+  pub id : ℕ
+  pub bits : List ℕ
+
+-- entries written one behind the other, from place n on
+unfoldable pub writtenAll : Columns → ℕ → List Inscribed → Columns
+writtenAll c n [] = c
+writtenAll c n (x ∷ xs) = writtenAll (written c n (x .epoch) (x .code) (x .id) (x .bits)) (n + 1) xs

@@ -11,8 +11,9 @@ ghost use mathlib.Core.Path.{_≡_};
 ghost use Prim.Native.Nat.{_<_};
 ghost use Rattle.shard.specs.View.{LookedUp};
 
-// Paper 01, 'The log': the components of the entry at `offset`, as a part of the lent floats, whatever the other
-// columns hold. Empty for a Delete, and for an offset that the log lacks.
+// Internal: paper 01, 'The log': the components of the entry at `offset`, as a part of the lent floats, whatever the other
+// columns hold and however long they are. Empty for a Delete, and for an offset that the log lacks. The callers have
+// tested the store (24); `lookups` exports the lookup by id.
 pub fn components<'a>(
     codes: &[u8],
     lengths: &[u8],
