@@ -4,7 +4,7 @@
 ghost use mathlib.Core.Path.{_≡_};
 ghost use Prim.Native.Nat.{_+_, _*_, _^_, _≤_, _<_};
 ghost use lib.Dec.{T};
-ghost use lib.Ieee.{binary32};
+ghost use lib.Ieee.{binary32, toBits};
 ghost use Rattle.model.specs.Nearest.Order.{unitsOf};
 ghost use Rattle.model.specs.Nearest.Root.{sqrt, rootable};
 ghost use Rattle.floatroot.specs.Digits.{nearRoot, IsNormal, Radicand};
@@ -97,24 +97,20 @@ fn near_root(n: u64, g: u64) -> u64
     lowered(n, raised(n, q))
 }
 
-// The root of a finite float with a plus sign, as every sum of squares in the domain is.
+// The root of a finite float above zero, as nearly every sum of squares in the domain is.
 fn plus_root(x: f32) -> f32
-    requires { ⌜ T (rootable x) ⌝ }
+    requires { ⌜ T (rootable x) × (0 < toBits binary32 x) ⌝ }
     ensures { λ r. ⌜ r ≡ sqrt binary32 x ⌝ }
 {
-    let b = f32::to_bits(x);
-    if b == 0 {
-        return x;
-    }
-    let d = normalised(b);
+    let d = normalised(f32::to_bits(x));
     let m = d.digits as u64;
     let j = d.power;
     let q = near_root(radicand(m, j), guess(m, j));
     f32::from_bits((j / 2 - 1) * 8388608 + (q as u32))
 }
 
-// Internal: IEEE 754's squareRoot of any float: plus infinity and minus zero are their own roots, and a NaN or a float
-// below zero has none but a NaN.
+// Internal: IEEE 754's squareRoot of any float: the zeros and plus infinity are their own roots, and a NaN or a float below
+// zero has none but a NaN. One test tells the patterns above +0 and below the infinity's from the others.
 pub fn sqrt_f32(x: f32) -> f32
     ensures { λ r. ⌜ r ≡ sqrt binary32 x ⌝ }
 {
@@ -122,8 +118,11 @@ pub fn sqrt_f32(x: f32) -> f32
         return x;
     }
     let b = f32::to_bits(x);
-    if b < 0x7f80_0000 {
+    if std::num::wrapping_sub_u32(b, 1) < 0x7f7f_ffff {
         return plus_root(x);
+    }
+    if b == 0 {
+        return x;
     }
     if b == 0x7f80_0000 {
         return x;

@@ -2,13 +2,12 @@
 use borrow.Author.Needs.{needs}
 use mathlib.Core.Path.{sym, ap, _∙_, subst}
 use Prim.Native.Nat.{ℕ, _-_, _/_, _<_, _≤_, _^_}
-use native.Mathlib.Nat.{pos-of-ne-zero}
 use native.Mathlib.Omega.{arith}
 use lib.Dec.{T}
 use lib.Ieee.{binary32, fits, toBits, units}
 use mathlib.Core.Bool.{false}
 use Rattle.model.specs.Nearest.Order.{unitsOf}
-use Rattle.floatroot.proofs.Floats.{no-nan, Pattern, pattern, near-24, Written, written, sqrt-whole, zero-root}
+use Rattle.floatroot.proofs.Floats.{no-nan, Pattern, pattern, near-24, Written, written, sqrt-whole}
 use Rattle.floatroot.proofs.plus_root.Statement.{statement}
 use Rattle.floatroot.proofs.plus_root.Tie as tie
 
@@ -16,16 +15,13 @@ held : (c : tie.Start) → T (fits binary32 (c .args .x))
 held c = subst T (sym (c .good .0 .1)) tt
 
 read : (c : tie.Start) → Pattern (c .args .x) (toBits binary32 (c .args .x))
-read c = pattern (c .args .x) (held c) (c .pre)
+read c = pattern (c .args .x) (held c) (c .pre .0)
 
-float-to-bits-b : tie.Need-float-to-bits-b
-float-to-bits-b c = no-nan (c .args .x) (c .pre)
-
-returns : tie.Need-returns
-returns c = zero-root (c .before .args .x) (held (c .before)) (c .if1 .taken)
+float-to-bits-normalised : tie.Need-float-to-bits-normalised
+float-to-bits-normalised c = no-nan (c .args .x) (c .pre .0)
 
 normalised-requires : tie.Need-normalised-requires
-normalised-requires c κs = (pos-of-ne-zero (c .if1 .left), read (c .before) .under)
+normalised-requires c κs = (c .pre .1, read c .under)
 
 cast-m : tie.Need-cast-m
 cast-m c = search needs
@@ -68,11 +64,11 @@ add-result c = omega (arith, digits c .1, c .before .before .before .before .nor
 float-from-bits-result : tie.Need-float-from-bits-result
 float-from-bits-result c = done c .number
 
-returns-2 : tie.Need-returns-2
-returns-2 c =
+returns : tie.Need-returns
+returns c =
     let n = c .before .before .radicand in
     let s = c .before .before .before .before .normalised in
-    let start = c .before .before .before .before .before .before in
+    let start = c .before .before .before .before .before in
     let x = start .args .x in
     let K = s .result .power / 2 - 1 in
     done c .float
@@ -84,8 +80,7 @@ pub plus-root-spec : {M : Type 1} → statement M
 plus-root-spec =
     tie.close
     (tie.spec
-    float-to-bits-b
-    returns
+    float-to-bits-normalised
     normalised-requires
     cast-m
     radicand-requires
@@ -96,4 +91,4 @@ plus-root-spec =
     cast-result
     add-result
     float-from-bits-result
-    returns-2)
+    returns)

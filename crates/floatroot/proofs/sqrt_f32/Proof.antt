@@ -4,6 +4,7 @@ use mathlib.Core.Path.{sym, subst}
 use native.Mathlib.Omega.{arith}
 use lib.Dec.{T}
 use lib.Ieee.{binary32, fits}
+use Rattle.floatroot.proofs.Floats.{zero-root}
 use Rattle.floatroot.proofs.AnyRoot.{nan-root, number, plus-rootable, infinity-root, minus-zero-root, none-root}
 use Rattle.floatroot.proofs.sqrt_f32.Statement.{statement}
 use Rattle.floatroot.proofs.sqrt_f32.Tie as tie
@@ -17,22 +18,42 @@ returns c = nan-root _ (c .if1 .taken)
 float-to-bits-b : tie.Need-float-to-bits-b
 float-to-bits-b c = number _ (c .if1 .left)
 
+wrapping-sub-u32-requires : tie.Need-wrapping-sub-u32-requires
+wrapping-sub-u32-requires c κs = search needs
+
 plus-root-requires : tie.Need-plus-root-requires
-plus-root-requires c κs = plus-rootable _ (held (c .before .before)) (c .if2 .taken)
+plus-root-requires c κs =
+    let w = c .before .wrapping-sub-u32 .ensures in
+    (plus-rootable _ (held (c .before .before .before)) (omega (arith, w, c .if2 .taken)), omega (arith, w, c .if2 .taken))
 
 returns-2 : tie.Need-returns-2
 returns-2 c = search needs
 
 returns-3 : tie.Need-returns-3
-returns-3 c = infinity-root _ (held (c .before .before .before)) (c .if3 .taken)
+returns-3 c = zero-root _ (held (c .before .before .before .before)) (c .if3 .taken)
 
 returns-4 : tie.Need-returns-4
-returns-4 c = minus-zero-root _ (held (c .before .before .before .before)) (c .if4 .taken)
+returns-4 c = infinity-root _ (held (c .before .before .before .before .before)) (c .if4 .taken)
 
 returns-5 : tie.Need-returns-5
-returns-5 c = none-root _ (held (c .before .before .before .before)) (omega (arith, c .before .before .if2 .left, c .before .if3 .left)) (c .if4 .left)
+returns-5 c = minus-zero-root _ (held (c .before .before .before .before .before .before)) (c .if5 .taken)
+
+returns-6 : tie.Need-returns-6
+returns-6 c =
+    none-root _ (held (c .before .before .before .before .before .before))
+    (omega (arith, c .before .before .before .before .wrapping-sub-u32 .ensures, c .before .before .before .if2 .left, c .before .before .if3 .left, c .before .if4 .left))
+    (c .if5 .left)
 
 pub sqrt-f32-spec : {M : Type 1} → statement M
 sqrt-f32-spec =
     tie.close
-    (tie.spec returns float-to-bits-b plus-root-requires returns-2 returns-3 returns-4 returns-5)
+    (tie.spec
+    returns
+    float-to-bits-b
+    wrapping-sub-u32-requires
+    plus-root-requires
+    returns-2
+    returns-3
+    returns-4
+    returns-5
+    returns-6)
