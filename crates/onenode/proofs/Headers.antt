@@ -85,19 +85,19 @@ read-written = refl
 -- ---- each lends a header
 
 pub lent-new : headerLent new ≡ true
-unfolding opened new headerLent image.codesListed
+unfolding opened new headerLent image.codesListed image.shardCodes
 lent-new = refl
 
 pub lent-shown : headerLent shown ≡ true
-unfolding opened header headerLent image.codesListed
+unfolding opened header headerLent image.codesListed image.shardCodes
 lent-shown = refl
 
 pub lent-leased : headerLent leased ≡ true
-unfolding opened header headerLent image.codesListed
+unfolding opened header headerLent image.codesListed image.shardCodes
 lent-leased = refl
 
 pub lent-written : headerLent written ≡ true
-unfolding opened header headerLent image.codesListed
+unfolding opened header headerLent image.codesListed image.shardCodes
 lent-written = refl
 
 -- ---- each holds bytes
