@@ -1,5 +1,5 @@
--- Computed runs that keep the paper's rules to the letter, with acknowledged writes: a promotion, and a shrink with a later expand, whose
--- proposals have the seqs 1 and 2. Assumes nothing.
+-- Computed runs that keep the paper's rules to the letter, with acknowledged writes: a promotion; a shrink with a later expand, whose
+-- proposals have the seqs 1 and 2; lost messages, and a proposal that arrives after its timeout. Assumes nothing.
 use Prim.Native.Nat.{suc}
 use native.Mathlib.Omega.{arith}
 use mathlib.Core.Path.{_≡_, refl}
@@ -11,6 +11,7 @@ use Rattle.run.proofs.Cases.Opened.{opened}
 use Rattle.run.proofs.Cases.Start.{start, created, info}
 use Rattle.run.proofs.Cases.Promotion as promotion
 use Rattle.run.proofs.Cases.ShrinkExpand as shrinkExpand
+use Rattle.run.proofs.Cases.Loss as loss
 
 -- each node's first proposal has seq 1, the next 2, and so on
 abbrev pub seqs : Seqs
@@ -29,3 +30,7 @@ promotion-of-paper = refl
 pub shrink-of-paper : paperRun seqs start history shrinkExpand.events ≡ true
 unfolding opened start started created shrinkExpand.events paper.firstStarted freshHistory paper.proposing paper.made paper.remember paper.repliesFrom paper.paper paperRun
 shrink-of-paper = refl
+
+pub loss-of-paper : paperRun seqs start history loss.events ≡ true
+unfolding opened start started created loss.events paper.firstStarted freshHistory paper.proposing paper.made paper.remember paper.repliesFrom paper.paper paperRun
+loss-of-paper = refl
