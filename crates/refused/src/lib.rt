@@ -23,7 +23,7 @@ pub fn count_refused(r: &mut Refused)
 }
 
 // One more, through a record that is made for it and lent.
-pub fn one_more(n: u32) -> u32
+fn one_more(n: u32) -> u32
     ensures { λ r. ⌜ r ≡ bumped n ⌝ }
 {
     let mut r = Refused { count: n };
