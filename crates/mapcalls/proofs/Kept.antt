@@ -2,12 +2,13 @@
 -- nothing.
 use Prim.Native.Nat.{ℕ}
 use mathlib.Core.Path.{_≡_, refl}
-use mathlib.Core.Bool.{Bool, true, false}
+use mathlib.Core.Bool.{Bool, true, false, not}
 use mathlib.Core.Option.{Option, none, some}
 use lib.ListN.{length}
 use lib.Dec.{eqb, leb, ltb}
 use Rattle.model.specs.Limits.{maxU64, maxNodes, maxReplicas, maxClients}
 use Rattle.model.specs.Keys.{Name, Key}
+use Rattle.model.specs.Refusals.{numberOf}
 use Rattle.model.specs.Map.Tables.{NodeInfo, Spec, ShardInfo, applied, rejected, Session, Map, Answer, outcome, refused}
 use Rattle.model.specs.Map.Change.{Change, add, remove, promote, shrink, expand, decideChange, holds, inSync, isPrimary}
 use Rattle.model.specs.Map.Create.{Placement, nodeAt, hasCollection, zeroIn, matches, firstNotAlive, createRoom, createOn, createAnswer}
@@ -23,12 +24,12 @@ use Rattle.mapcalls.specs.Calls.{noted}
 
 -- ---- a command that is decided is no older one
 
--- an outcome that the map remembers, or a refusal
-abbrev now : Answer → Bool
+-- an outcome that the map remembers, or a refusal other than 24
+abbrev pub now : Answer → Bool
 now (outcome o) = noted (reasonNumber (outcome o))
-now (refused r) = true
+now (refused r) = not (eqb (numberOf r) 24)
 
-abbrev Now : Answer → Type 0
+abbrev pub Now : Answer → Type 0
 Now a = now a ≡ true
 
 change-now : (s : ShardInfo) (c : Change) → Now (decideChange s c)
@@ -64,7 +65,7 @@ unfolding deadAnswer
 dead-now n i none = refl
 dead-now n i (some x) = by-test Now (eqb (x .incarnation) i) (λ q. refl) (λ q. refl)
 
-decide-now : (m : Map) (c : Command) → Now (decide m c)
+pub decide-now : (m : Map) (c : Command) → Now (decide m c)
 unfolding decide
 decide-now m (create name spec p) = create-now m name spec p
 decide-now m (dropCollection name) = by-test Now (hasCollection name (m .collections)) (λ q. refl) (λ q. refl)
