@@ -13,15 +13,23 @@ use crate::shards::trimmed;
 use crate::shards::with_held;
 use model::DataNodeId;
 use model::Epoch;
+use model::Offset;
 use node::Nodes;
 use node::WaitAnswer;
 use state::ShardKey;
 use waits::wait_held;
 
 // Internal: the wait on a header that is not malformed: 17, then the wait on the shard.
-fn wait_in(n: Node, key: ShardKey, epoch: Epoch, offset: u64, now: u64, timeout: u64) -> NodeWaited
+fn wait_in(
+    n: Node,
+    key: ShardKey,
+    epoch: Epoch,
+    offset: Offset,
+    now: u64,
+    timeout: u64,
+) -> NodeWaited
     requires { ⌜ formedNode n ≡ true ⌝ }
-    ensures { λ r. ⌜ WaitsIn n (viewKey key) (epoch .0) offset now timeout r ⌝ }
+    ensures { λ r. ⌜ WaitsIn n (viewKey key) (epoch .0) (offset .0) now timeout r ⌝ }
     ensures { λ r. ⌜ Keeps n (r .node) ⌝ }
 {
     let held = n.held;
@@ -55,8 +63,15 @@ fn wait_in(n: Node, key: ShardKey, epoch: Epoch, offset: u64, now: u64, timeout:
 
 // Paper 01, 'Who is turned down', waiting for acks: 21 a time above 2^62, 24, 17, 18; otherwise whether all have acked, and for whom a
 // Shrink is to be proposed.
-pub fn wait(n: Node, key: ShardKey, epoch: Epoch, offset: u64, now: u64, timeout: u64) -> NodeWaited
-    ensures { λ r. ⌜ WaitsNode n (viewKey key) (epoch .0) offset now timeout r ⌝ }
+pub fn wait(
+    n: Node,
+    key: ShardKey,
+    epoch: Epoch,
+    offset: Offset,
+    now: u64,
+    timeout: u64,
+) -> NodeWaited
+    ensures { λ r. ⌜ WaitsNode n (viewKey key) (epoch .0) (offset .0) now timeout r ⌝ }
     ensures { λ r. ⌜ Keeps n (r .node) ⌝ }
 {
     let none = Nodes {

@@ -6,6 +6,7 @@ use crate::times::late;
 use asked::named::key_named;
 use headerimage::read_header;
 use model::Epoch;
+use model::Offset;
 use rpcw::fit::text_fits;
 
 // Internal: the name or a time is none.
@@ -42,6 +43,6 @@ pub fn wait(
     }
     let n = lent.node;
     let key = key_named(name, shard);
-    let a = header::wait::wait(n, key, Epoch(epoch), offset, clock, timeout);
+    let a = header::wait::wait(n, key, Epoch(epoch), Offset(offset), clock, timeout);
     put_waited(header, a, peers, answer)
 }

@@ -8,6 +8,7 @@ ghost use Rattle.model.specs.Node.Client.{lacks, behindSince, overdue, toShrink
 ghost use Rattle.node.specs.Answers.{WaitsHeld, Waits};
 use model::DataNodeId;
 use model::Epoch;
+use model::Offset;
 use model::Peer;
 use node::Held;
 use node::Nodes;
@@ -123,9 +124,9 @@ fn all_acked(peers: [Peer; 32], count: usize, offset: u64) -> bool
 }
 
 // Internal: the wait on a shard whose counts are within their limits.
-pub fn wait_held(h: Held, epoch: Epoch, offset: u64, now: u64, timeout: u64) -> Waited
+pub fn wait_held(h: Held, epoch: Epoch, offset: Offset, now: u64, timeout: u64) -> Waited
     requires { ⌜ h .count ≤ 32 ⌝ }
-    ensures { λ r. ⌜ WaitsHeld h (epoch .0) offset now timeout r ⌝ }
+    ensures { λ r. ⌜ WaitsHeld h (epoch .0) (offset .0) now timeout r ⌝ }
 {
     let role = h.role;
     if leads(role, epoch.0) {
@@ -136,7 +137,7 @@ pub fn wait_held(h: Held, epoch: Epoch, offset: u64, now: u64, timeout: u64) -> 
         let rows = rows_waited(peers, count, last, now, timeout);
         let mut out = h;
         out.peers = rows;
-        if all_acked(peers, count, offset) {
+        if all_acked(peers, count, offset.0) {
             return Waited {
                 answer: WaitAnswer::Done,
                 shrink: late,
@@ -162,8 +163,8 @@ pub fn wait_held(h: Held, epoch: Epoch, offset: u64, now: u64, timeout: u64) -> 
 
 // Paper 01, 'Who is turned down', waiting for acks, on the shard that the call names: 21 a time above 2^62, 24 a malformed shard, 18;
 // otherwise whether all have acked, and for whom a Shrink is to be proposed.
-pub fn wait(h: Held, epoch: Epoch, offset: u64, now: u64, timeout: u64) -> Waited
-    ensures { λ r. ⌜ Waits h (epoch .0) offset now timeout r ⌝ }
+pub fn wait(h: Held, epoch: Epoch, offset: Offset, now: u64, timeout: u64) -> Waited
+    ensures { λ r. ⌜ Waits h (epoch .0) (offset .0) now timeout r ⌝ }
 {
     let none = Nodes {
         items: [DataNodeId(0); 32],

@@ -28,13 +28,13 @@ all-acked-requires : tie.Need-all-acked-requires
 all-acked-requires c κs = search needs
 
 returns : tie.Need-returns
-returns c = waits-done (c .before .before .before .before .before .before .before .args .h) (c .before .before .before .before .before .before .before .args .epoch .0) (c .before .before .before .before .before .before .before .args .offset) (c .before .before .before .before .before .before .before .args .now) (c .before .before .before .before .before .before .before .args .timeout) (sym (c .before .before .before .before .before .before .leads .ensures) ∙ c .before .before .before .before .before .if1 .taken) (c .before .before .before .shrinks-of .result) (c .before .before .before .shrinks-of .ensures) (c .before .before .rows-waited .result) (c .before .before .rows-waited .ensures) (sym (c .before .all-acked .ensures) ∙ c .if2 .taken)
+returns c = waits-done (c .before .before .before .before .before .before .before .args .h) (c .before .before .before .before .before .before .before .args .epoch .0) (c .before .before .before .before .before .before .before .args .offset .0) (c .before .before .before .before .before .before .before .args .now) (c .before .before .before .before .before .before .before .args .timeout) (sym (c .before .before .before .before .before .before .leads .ensures) ∙ c .before .before .before .before .before .if1 .taken) (c .before .before .before .shrinks-of .result) (c .before .before .before .shrinks-of .ensures) (c .before .before .rows-waited .result) (c .before .before .rows-waited .ensures) (sym (c .before .all-acked .ensures) ∙ c .if2 .taken)
 
 returns-2 : tie.Need-returns-2
-returns-2 c = waits-on (c .before .before .before .before .before .before .before .args .h) (c .before .before .before .before .before .before .before .args .epoch .0) (c .before .before .before .before .before .before .before .args .offset) (c .before .before .before .before .before .before .before .args .now) (c .before .before .before .before .before .before .before .args .timeout) (sym (c .before .before .before .before .before .before .leads .ensures) ∙ c .before .before .before .before .before .if1 .taken) (c .before .before .before .shrinks-of .result) (c .before .before .before .shrinks-of .ensures) (c .before .before .rows-waited .result) (c .before .before .rows-waited .ensures) (sym (c .before .all-acked .ensures) ∙ c .if2 .left)
+returns-2 c = waits-on (c .before .before .before .before .before .before .before .args .h) (c .before .before .before .before .before .before .before .args .epoch .0) (c .before .before .before .before .before .before .before .args .offset .0) (c .before .before .before .before .before .before .before .args .now) (c .before .before .before .before .before .before .before .args .timeout) (sym (c .before .before .before .before .before .before .leads .ensures) ∙ c .before .before .before .before .before .if1 .taken) (c .before .before .before .shrinks-of .result) (c .before .before .before .shrinks-of .ensures) (c .before .before .rows-waited .result) (c .before .before .rows-waited .ensures) (sym (c .before .all-acked .ensures) ∙ c .if2 .left)
 
 returns-3 : tie.Need-returns-3
-returns-3 c = waits-not (c .before .before .args .h) (c .before .before .args .epoch .0) (c .before .before .args .offset) (c .before .before .args .now) (c .before .before .args .timeout) (sym (c .before .leads .ensures) ∙ c .if1 .left) (record { items = []; count = 0 }) refl
+returns-3 c = waits-not (c .before .before .args .h) (c .before .before .args .epoch .0) (c .before .before .args .offset .0) (c .before .before .args .now) (c .before .before .args .timeout) (sym (c .before .leads .ensures) ∙ c .if1 .left) (record { items = []; count = 0 }) refl
 
 pub wait-held-spec : {M : Type 1} → statement M
 wait-held-spec =

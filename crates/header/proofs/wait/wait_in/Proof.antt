@@ -31,7 +31,7 @@ place-of-requires : tie.Need-place-of-requires
 place-of-requires c κs = header-few (c .before .args .n) (c .before .pre)
 
 returns : tie.Need-returns
-returns c = (wait-absent (c .before .before .before .args .n) (viewKey (c .before .before .before .args .key)) (c .before .before .before .args .epoch .0) (c .before .before .before .args .offset) (c .before .before .before .args .now) (c .before .before .before .args .timeout) (fits (c .before .before .before)) (c .before .place-of .result) (c .before .place-of .ensures) (c .if1 .taken) (record { items = []; count = 0 }) refl, keeps-all _)
+returns c = (wait-absent (c .before .before .before .args .n) (viewKey (c .before .before .before .args .key)) (c .before .before .before .args .epoch .0) (c .before .before .before .args .offset .0) (c .before .before .before .args .now) (c .before .before .before .args .timeout) (fits (c .before .before .before)) (c .before .place-of .result) (c .before .place-of .ensures) (c .if1 .taken) (record { items = []; count = 0 }) refl, keeps-all _)
 
 mul-x : tie.Need-mul-x
 mul-x c = let few = header-few (c .before .before .before .args .n) (c .before .before .before .pre) in search needs
@@ -49,7 +49,7 @@ with-held-requires : tie.Need-with-held-requires
 with-held-requires c κs = let few = header-few (c .before .before .before .before .before .before .before .before .before .args .n) (c .before .before .before .before .before .before .before .before .before .pre) in let lt = c .before .before .before .before .before .before .if1 .left in omega arith
 
 returns-2 : tie.Need-returns-2
-returns-2 c = (wait-done (c .before .before .before .before .before .before .before .before .before .before .args .n) (viewKey (c .before .before .before .before .before .before .before .before .before .before .args .key)) (c .before .before .before .before .before .before .before .before .before .before .args .epoch .0) (c .before .before .before .before .before .before .before .before .before .before .args .offset) (c .before .before .before .before .before .before .before .before .before .before .args .now) (c .before .before .before .before .before .before .before .before .before .before .args .timeout) (fits (c .before .before .before .before .before .before .before .before .before .before)) (c .before .before .before .before .before .before .before .before .place-of .result) (c .before .before .before .before .before .before .before .before .place-of .ensures) (c .before .before .before .before .before .before .before .if1 .left) (c .before .before .before .before .wait-held .result) (c .before .before .before .before .wait-held .ensures) (c .before .trimmed .result) (c .before .trimmed .ensures) (c .with-held .result) (c .with-held .ensures), keeps-put (c .before .before .before .before .before .before .before .before .before .before .args .n) (fits (c .before .before .before .before .before .before .before .before .before .before)) (c .before .before .before .before .before .before .before .before .place-of .result) (c .before .before .before .before .before .before .before .if1 .left) _ (c .before .trimmed .result) (c .before .trimmed .ensures) (c .with-held .result) (c .with-held .ensures))
+returns-2 c = (wait-done (c .before .before .before .before .before .before .before .before .before .before .args .n) (viewKey (c .before .before .before .before .before .before .before .before .before .before .args .key)) (c .before .before .before .before .before .before .before .before .before .before .args .epoch .0) (c .before .before .before .before .before .before .before .before .before .before .args .offset .0) (c .before .before .before .before .before .before .before .before .before .before .args .now) (c .before .before .before .before .before .before .before .before .before .before .args .timeout) (fits (c .before .before .before .before .before .before .before .before .before .before)) (c .before .before .before .before .before .before .before .before .place-of .result) (c .before .before .before .before .before .before .before .before .place-of .ensures) (c .before .before .before .before .before .before .before .if1 .left) (c .before .before .before .before .wait-held .result) (c .before .before .before .before .wait-held .ensures) (c .before .trimmed .result) (c .before .trimmed .ensures) (c .with-held .result) (c .with-held .ensures), keeps-put (c .before .before .before .before .before .before .before .before .before .before .args .n) (fits (c .before .before .before .before .before .before .before .before .before .before)) (c .before .before .before .before .before .before .before .before .place-of .result) (c .before .before .before .before .before .before .before .if1 .left) _ (c .before .trimmed .result) (c .before .trimmed .ensures) (c .with-held .result) (c .with-held .ensures))
 
 pub wait-in-spec : {M : Type 1} → statement M
 wait-in-spec =
