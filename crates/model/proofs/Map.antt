@@ -10,3 +10,5 @@ pub mod Replacements
 pub mod WellFormed
 pub mod Stream
 pub mod InParts
+pub mod Sheet
+pub mod SheetCase

@@ -6,3 +6,4 @@ pub mod Place
 pub mod Lightest
 pub mod WellFormed
 pub mod Calls
+pub mod Sheet

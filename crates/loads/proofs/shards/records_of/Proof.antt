@@ -1,0 +1,66 @@
+-- `shards::records_of` meets its contract. Assumes nothing.
+use borrow.Author.Needs.{needs}
+use native.Mathlib.Omega.{arith}
+use mathlib.Core.Path.{_≡_, refl, sym, _∙_, ap}
+use mathlib.Core.List.{List, [], _∷_, _++_}
+use Prim.Native.Nat.{ℕ, _+_, _-_, _*_, _≤_, _<_}
+use lib.ListN.{length, getD, take, drop, set}
+use borrow.Author.Tests.{leb-true}
+use Rattle.model.specs.Lists.{_and_}
+use Rattle.model.specs.Map.Tables.{ShardInfo}
+use Rattle.model.specs.Map.Place.{onNode, replicasOf}
+use Rattle.model.proofs.Lists.{and-left}
+use Rattle.state.specs.View.{viewShard, viewShards, viewNodes}
+use Rattle.state.specs.Counted.{rowCounted}
+use Rattle.state.proofs.Defaults.{noShard}
+use Rattle.state.proofs.Tables.{of-field, used-size, every-at}
+use Rattle.placement.proofs.Collecting.{used-drop}
+use Rattle.loads.proofs.Counting.{next-counted, all-counted}
+use Rattle.loads.proofs.shards.records_of.Statement.{statement}
+use Rattle.loads.proofs.shards.records_of.Tie as tie
+
+abbrev Inv-loop : tie.InvT-loop
+Inv-loop node t count n₀ i₀ n i = (i ≤ t .count) × (n ≤ 8 * i) × (replicasOf (node .0) (viewShards t) ≡ n + replicasOf (node .0) (drop i (viewShards t)))
+
+abbrev μ-loop : tie.MeasureT-loop
+μ-loop node t count n₀ i₀ n i = t .count - i
+
+-- the rows in use are in the array
+fits : (c : tie.Start Inv-loop μ-loop) → c .args .t1 .count ≤ length (c .args .t1 .items)
+fits c = let h : length (c .args .t1 .items) ≡ 64 = search (needs, of-field) in omega (arith, c .pre .count)
+
+-- and none has more than eight holders
+held : (c : tie.Start Inv-loop μ-loop) (i : ℕ) → i < c .args .t1 .count → getD (c .args .t1 .items) i noShard .replicas .count ≤ 8
+held c i h = leb-true _ 8 (and-left _ _ (every-at rowCounted (c .args .t1 .items) (c .args .t1 .count) i noShard (fits c) (c .pre .rows) h))
+
+loop-holds : tie.Need-loop-holds Inv-loop μ-loop
+loop-holds c = (search needs, search needs, omega arith)
+
+mul-row : tie.Need-mul-row Inv-loop μ-loop
+mul-row c = search needs
+
+element-copy-out-row : tie.Need-element-copy-out-row Inv-loop μ-loop
+element-copy-out-row c = search needs
+
+on-node-requires : tie.Need-on-node-requires Inv-loop μ-loop
+on-node-requires c κs = held (c .before .before .before) ((c .before .before .loop) .i) (search needs)
+
+add-n : tie.Need-add-n Inv-loop μ-loop
+add-n c = omega (arith, (c .before .before .before .loop) .inv .1, (c .before .before .before .before .pre) .count, (c .on-node) .ensures .1)
+
+add-i : tie.Need-add-i Inv-loop μ-loop
+add-i c = search needs
+
+loop-less : tie.Need-loop-less Inv-loop μ-loop
+loop-less c = search needs
+
+loop-again : tie.Need-loop-again Inv-loop μ-loop
+unfolding replicasOf
+loop-again c = (search needs, omega (arith, (c .before .before .before .loop) .inv .1, (c .on-node) .ensures .1), omega (arith, next-counted (λ (s : ShardInfo). onNode ((c .before .before .before .before .args) .node .0) (s .replicas)) (replicasOf ((c .before .before .before .before .args) .node .0)) (λ x xs. refl) (viewShards ((c .before .before .before .before .args) .t1)) ((c .before .before .before .loop) .i) _ ((c .before .before .before .loop) .n) (viewShard (getD ((c .before .before .before .before .args) .t1 .items) ((c .before .before .before .loop) .i) noShard)) (used-drop viewShard ((c .before .before .before .before .args) .t1 .items) ((c .before .before .before .before .args) .t1 .count) (fits (c .before .before .before .before)) ((c .before .before .before .loop) .i) noShard (search needs)) ((c .before .before .before .loop) .inv .2), (c .on-node) .ensures .0))
+
+returns : tie.Need-returns Inv-loop μ-loop
+unfolding replicasOf
+returns c = all-counted (replicasOf ((c .before .before .args) .node .0)) refl (viewShards ((c .before .before .args) .t1)) ((c .before .loop) .i) _ ((c .before .loop) .n) (omega (arith, used-size viewShard ((c .before .before .args) .t1 .items) ((c .before .before .args) .t1 .count) (fits (c .before .before)))) ((c .before .loop) .inv .2)
+
+pub records-of-spec : {M : Type 1} → statement M
+records-of-spec = tie.close (tie.spec Inv-loop μ-loop loop-holds mul-row element-copy-out-row on-node-requires add-n add-i loop-less loop-again returns)
