@@ -5,7 +5,7 @@ use mathlib.Core.Path.{_≡_, refl, sym, _∙_}
 use Prim.Native.Nat.{_≤_}
 use lib.ListN.{length, take}
 use lib.Seq.{length-take-le}
-use Rattle.applymap.specs.Stream.{Sound}
+use Rattle.intake.specs.Stream.{Sound}
 use Rattle.applymap.proofs.run.Statement.{statement}
 use Rattle.applymap.proofs.run.Tie as tie
 

@@ -1,7 +1,7 @@
 // The requests that stand in the bytes at hand, one after the other.
 ghost use Prim.Native.Nat.{_≤_};
 ghost use lib.ListN.{length};
-ghost use Rattle.applymap.specs.Stream.{Sound, DrainedAs};
+ghost use Rattle.intake.specs.Stream.{Sound, DrainedAs};
 use crate::Drained;
 use crate::Said;
 use crate::step::step;

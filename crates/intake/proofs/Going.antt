@@ -19,8 +19,8 @@ use Rattle.state.specs.declared.Verdict.{Verdict}
 use Rattle.requests.specs.Read.{LoadedAt}
 use Rattle.requests.specs.declared.Loaded.{Loaded}
 use Rattle.lines.specs.Words.{viewLine, lineFor}
-use Rattle.applymap.specs.Stream.{Stepped}
-use Rattle.applymap.specs.declared.Answered.{Answered}
+use Rattle.intake.specs.Stream.{Stepped}
+use Rattle.intake.specs.declared.Answered.{Answered}
 
 -- 24 is not answered of a map that passes
 pub call-is : (m : tables.Map) (r : request.Request) → wellFormedMap m ≡ true → applyCall m r ≡ apply m r

@@ -4,9 +4,9 @@ use native.Mathlib.Omega.{arith}
 use mathlib.Core.Path.{_≡_, subst}
 use Prim.Native.Nat.{ℕ, _+_, _-_, _≤_, _<_}
 use lib.ListN.{length, take, drop}
-use Rattle.applymap.proofs.Front.{front-more, back-less}
-use Rattle.applymap.proofs.input.to_front.Statement.{statement}
-use Rattle.applymap.proofs.input.to_front.Tie as tie
+use Rattle.intake.proofs.Front.{front-more, back-less}
+use Rattle.intake.proofs.input.to_front.Statement.{statement}
+use Rattle.intake.proofs.input.to_front.Tie as tie
 
 abbrev Inv-loop : tie.InvT-loop
 Inv-loop buf₀ at n rest i₀ buf i =

@@ -11,10 +11,10 @@ use Rattle.model.specs.Map.Calls.{Line}
 use Rattle.state.specs.View.{viewMap}
 use Rattle.lines.specs.Words.{viewLine}
 use Rattle.requests.proofs.Rows.{copied-on}
-use Rattle.applymap.specs.Stream.{Sound}
-use Rattle.applymap.proofs.Going.{Going, starts, ended, not-there, stepped-on}
-use Rattle.applymap.proofs.drain.drain.Statement.{statement}
-use Rattle.applymap.proofs.drain.drain.Tie as tie
+use Rattle.intake.specs.Stream.{Sound}
+use Rattle.intake.proofs.Going.{Going, starts, ended, not-there, stepped-on}
+use Rattle.intake.proofs.drain.drain.Statement.{statement}
+use Rattle.intake.proofs.drain.drain.Tie as tie
 
 abbrev Inv-loop : tie.InvT-loop
 Inv-loop s m₀ at₀ items₀ n₀ m at items n =

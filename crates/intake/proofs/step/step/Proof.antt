@@ -7,9 +7,9 @@ use Rattle.model.specs.Map.Tables as tables
 use Rattle.model.specs.Map.Apply.{Applied, apply}
 use Rattle.model.specs.Map.Calls.{applyCall}
 use Rattle.state.specs.View.{viewMap, viewRequest}
-use Rattle.applymap.proofs.Going.{call-is, line-is}
-use Rattle.applymap.proofs.step.step.Statement.{statement}
-use Rattle.applymap.proofs.step.step.Tie as tie
+use Rattle.intake.proofs.Going.{call-is, line-is}
+use Rattle.intake.proofs.step.step.Statement.{statement}
+use Rattle.intake.proofs.step.step.Tie as tie
 
 settle-requires : tie.Need-settle-requires
 settle-requires c κs =

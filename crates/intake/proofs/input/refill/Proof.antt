@@ -5,8 +5,8 @@ use mathlib.Core.Path.{_∙_}
 use Prim.Native.Nat.{_-_, _≤_}
 use lib.ListN.{length, take}
 use lib.Seq.{take-at, length-take-le}
-use Rattle.applymap.proofs.input.refill.Statement.{statement}
-use Rattle.applymap.proofs.input.refill.Tie as tie
+use Rattle.intake.proofs.input.refill.Statement.{statement}
+use Rattle.intake.proofs.input.refill.Tie as tie
 
 to-front-requires : tie.Need-to-front-requires
 to-front-requires c κs = search needs

@@ -1,6 +1,6 @@
 // One request applied to a map that passed the 24 test; what it makes of the map passes again.
 ghost use Rattle.requests.specs.Read.{Within};
-ghost use Rattle.applymap.specs.Stream.{Sound, Stepped};
+ghost use Rattle.intake.specs.Stream.{Sound, Stepped};
 use crate::Answered;
 use lines::line_of;
 use settle::settle;

@@ -12,9 +12,9 @@ use Rattle.state.specs.View.{viewMap, viewRequest}
 use Rattle.state.specs.declared.Request.{Request}
 use Rattle.state.specs.declared.ShardMap.{ShardMap}
 use Rattle.lines.specs.Words.{viewLine}
-use Rattle.applymap.specs.declared.Answered.{Answered}
-use Rattle.applymap.specs.declared.Said.{Said}
-use Rattle.applymap.specs.declared.Drained.{Drained}
+use Rattle.intake.specs.declared.Answered.{Answered}
+use Rattle.intake.specs.declared.Said.{Said}
+use Rattle.intake.specs.declared.Drained.{Drained}
 
 -- a map that passes the 24 test
 pub record Sound (m : ShardMap) : Type 0 where

@@ -1,0 +1,77 @@
+// Program `loadsheet` of paper 02, 2.4: takes its input as program `applymap` does and prints of the last map how many replica records name each
+// node, by rising id, how many name a node that the map does not know, and how many there are.
+ghost use Prim.Native.Nat.{_≤_};
+ghost use lib.ListN.{length};
+ghost use Rattle.intake.specs.Stream.{Sound};
+use intake::LONGEST;
+use intake::drain::drain;
+use intake::input::refill;
+use lines::words::line;
+use lines::words::number;
+use loads::Load;
+use loads::Loads;
+use loads::SheetOf;
+use loads::sheet_of;
+use requests::start::empty_map;
+use state::ShardMap;
+
+// The map after the last request. Nothing says that an input ends, so the turns are counted down, from a number that no run uses up.
+fn last_map(buf: &mut [u8]) -> ShardMap
+    requires { ⌜ length (now buf) ≤ 8192 ⌝ }
+    ensures { λ r. ⌜ Sound r ⌝ }
+{
+    let mut map = empty_map();
+    let mut n: usize = 0;
+    let mut turns = u64::MAX;
+    while 0 < turns {
+        let done = drain(map, &buf[..n]);
+        let next = done.map;
+        map = next;
+        let at = done.at;
+        let rest = n - at;
+        if LONGEST <= rest {
+            return map;
+        }
+        let more = refill(buf, at, n);
+        if more <= rest {
+            return map;
+        }
+        n = more;
+        turns -= 1;
+    }
+    map
+}
+
+// The id, a blank and the count.
+fn print_load(x: Load) {
+    io::print_decimal(1, x.node.0);
+    number(x.count);
+    io::write_all(1, b"\n");
+}
+
+fn print_lines(l: Loads)
+    requires { ⌜ l .count ≤ 32 ⌝ }
+{
+    let mut i: usize = 0;
+    while i < l.count {
+        let x = l.items[i];
+        print_load(x);
+        i += 1;
+    }
+}
+
+fn print_sheet(s: SheetOf)
+    requires { ⌜ s .lines .count ≤ 32 ⌝ }
+{
+    let each = s.lines;
+    print_lines(each);
+    line(b"unknown", s.unknown);
+    line(b"total", s.total);
+}
+
+fn main() {
+    let mut buf = [0u8; 8192];
+    let m = last_map(&mut buf);
+    let s = sheet_of(m);
+    print_sheet(s);
+}
