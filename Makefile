@@ -20,10 +20,11 @@ target/staticlib/lib%.a: $(ENGINE_SOURCES) | need-rt need-target
 	@make/prove.sh $(@D)/$*.log --library $*
 
 # The engine's programs, and where the targets below find them.
-PROGRAMS := applymap histories messages orders placements roots searches shards streams
+PROGRAMS := applymap histories loadsheet messages orders placements roots searches shards streams
 export ENGINE_APPLYMAP ?= target/bin/applymap
 export ENGINE_DECODE ?= target/bin/messages
 export ENGINE_HISTORY ?= target/bin/histories
+export ENGINE_LOADSHEET ?= target/bin/loadsheet
 export ENGINE_ORDER ?= target/bin/orders
 export ENGINE_PLACEMENT ?= target/bin/placements
 export ENGINE_REPLAY ?= target/host/replay
@@ -37,6 +38,9 @@ programs: need-rt need-target ## the engine's programs, proved, built and run on
 
 # Wrong programs beyond those of the gate, unused dependencies, the gate's time.
 include tools/gate.mk
+
+# What an operator asks of a file of requests.
+include crates/loadsheet/loadsheet.mk
 
 # Hosts in C and Rust over the entry points.
 include host/host.mk

@@ -19,6 +19,7 @@ pub struct List {
 pub fn all() -> Vec<List> {
     let mut all = applymap();
     all.push(streams(&all));
+    all.extend(loadsheet());
     all.extend(search());
     all.extend(history());
     all.extend(placement());
@@ -124,6 +125,30 @@ fn streams(lists: &[List]) -> List {
         .chain([&remembered])
         .flat_map(|i| front::streams::record(i));
     list("streams", "all", records.collect(), front::streams::run)
+}
+
+/// The load sheet: each case of its own, full maps, and what ends the reading.
+fn loadsheet() -> Vec<List> {
+    use maps::sheets;
+    let whole = sheets::known_later().input;
+    let mut inputs = vec![
+        ("ids", sheets::ids().input),
+        ("repeated", sheets::repeated().input),
+        ("unknown", sheets::unknown().input),
+        ("known-later", whole.clone()),
+        ("removed", sheets::removed().input),
+        ("lives", sheets::lives().input),
+        ("full", sheets::full().input),
+        ("clients", sheets::clients().input),
+        ("random", maps::random(4, 300).input),
+        ("crowded", maps::crowded(5, 200).input),
+        ("empty", vec![]),
+        ("garbage", [vec![0x7f], whole.clone()].concat()),
+    ];
+    inputs.push(("cut", whole[..whole.len() - 1].to_vec()));
+    let run = front::loadsheet::run;
+    let list = |(name, input)| list("loadsheet", name, input, run);
+    inputs.into_iter().map(list).collect()
 }
 
 fn search() -> Vec<List> {

@@ -49,6 +49,14 @@ const PROGRAMS: [Program; 10] = [
         describe: |_| String::new(),
     },
     Program {
+        name: "loadsheet",
+        variable: "ENGINE_LOADSHEET",
+        default: "target/host/loadsheet",
+        oracle: front::loadsheet::run,
+        fresh: fresh_applymap,
+        describe: describe_message,
+    },
+    Program {
         name: "search",
         variable: "ENGINE_SEARCH",
         default: "target/host/search",

@@ -3,6 +3,7 @@
 
 mod command;
 mod scripts;
+pub mod sheets;
 
 use std::collections::BTreeMap;
 

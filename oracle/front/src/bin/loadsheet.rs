@@ -1,0 +1,6 @@
+//! Program `loadsheet` over the unchanged Rust: standard input to standard output.
+
+fn main() {
+    front::quiet();
+    front::main(front::loadsheet::run);
+}
