@@ -2,5 +2,4 @@
 pub use floatorder::before_bits;
 pub use floatorder::bits_in_domain;
 pub use floatorder::in_domain;
-pub use floatorder::key_of;
 pub use floatorder::nearer;

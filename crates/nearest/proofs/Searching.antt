@@ -4,8 +4,9 @@ use mathlib.Core.Path.{_≡_, refl, sym, ap, _∙_, subst}
 use mathlib.Core.Bool.{Bool, true, false, not, cond}
 use mathlib.Core.List.{List, [], _∷_, map}
 use mathlib.Core.Logic.{_⊎_, inl, inr}
+use native.Mathlib.Nat.{le-of-lt}
 use native.Mathlib.Omega.{arith}
-use lib.Dec.{T, not-T, leb, ltb, eqb}
+use lib.Dec.{T, leb, ltb, eqb, ltb→lt}
 use lib.Ieee.{Float, nan, binary32, fits, toBits}
 use borrow.Author.Tests.{leb-true, ltb-true, ltb-false, eqb-true, eqb-false, lt-ltb}
 use lib.ListN.{length, take, getD, length-map, List·getD-map}
@@ -14,16 +15,17 @@ use Rattle.model.specs.Lists.{_and_, nth, every, rising}
 use Rattle.model.specs.declared.Metric.{Metric}
 use Rattle.model.specs.declared.Metric.the-variants.{Euclidean, Angular}
 use Rattle.model.specs.declared.Neighbor.{Neighbor}
-use Rattle.model.specs.Nearest.Order.{key, inDomain}
+use Rattle.model.specs.Nearest.Order.{before, inDomain}
 use Rattle.model.specs.Nearest.Distance.{Bounded, allInDomain, norm, squares, distance}
 use Rattle.model.specs.Nearest.Search.{Vector, neighbor, nearer, ordered, hits}
 use Rattle.model.specs.Node.WellFormed.{component, wellFormedVector, wellFormedOp, wellFormedEntry}
 use Rattle.model.specs.Log.{Op, upsert, delete, Log, entryAt, components, componentsAt, lookup}
 use Rattle.model.proofs.Lists.{and-left, and-right}
 use Rattle.model.proofs.Map.Rows.{every-tail}
+use Rattle.model.proofs.Nearest.Classes.{before-plus}
 use Rattle.model.proofs.Nearest.Exact.{sqrt-nearest, plus-float}
 use Rattle.model.proofs.Nearest.NoNan.{squares-rootable}
-use Rattle.model.proofs.Nearest.Rank.{nearer-says}
+use Rattle.model.proofs.Nearest.Rank.{behind-not-nearer}
 use Rattle.model.proofs.Nearest.Skip.{squares-fits, passed-over}
 use Rattle.shard.specs.View.{columns, logOf, firsts, stretch, opOf}
 use Rattle.shard.specs.Table.{Row, rowBelow, vectorOf, vectorsOf}
@@ -34,7 +36,7 @@ use Rattle.shard.proofs.Firsts.{firsts-length, firsts-at}
 use Rattle.shard.proofs.Rows.{rows-length, rows-at, no-row}
 use Rattle.ieee.specs.declared.sums.Kind.{Kind}
 use Rattle.ieee.specs.Halves.{settled, kindOf, elementOf}
-use Rattle.nearest.specs.Column.{Ready, neighborAt, keyAt, Selectable, rough, Walkable}
+use Rattle.nearest.specs.Column.{Ready, neighborAt, bitsAt, Selectable, rough, Walkable}
 use Rattle.nearest.proofs.Settled.{rough-settled, rough-ready}
 
 -- ---- stored vectors lie in the domain
@@ -125,31 +127,24 @@ ids-rise d (x ∷ l) r (suc i) zero h k = absurd (omega arith)
 ids-rise d (x ∷ l) r zero (suc j) h k = below-all x d l r j (omega arith)
 ids-rise d (x ∷ l) r (suc i) (suc j) h k = ids-rise d l (rising-rest x l r) i j (omega arith) (omega arith)
 
--- ---- a greater element, a later id: not nearer
-key-plus : (b : ℕ) → b < 2 ^ 31 → key b ≡ b + 2 ^ 31
-unfolding key
-key-plus b h = ap (λ (t : Bool). cond t (b + 2 ^ 31) (2 ^ 32 - 1 - b)) (lt-ltb b (2 ^ 31) h)
+-- ---- an element further back, a later id: not nearer
 
--- a sum has a plus sign, so that its place is its pattern's
-sum-key : (q v : List Float) → Bounded q → Bounded v → key (toBits binary32 (squares q v)) ≡ toBits binary32 (squares q v) + 2 ^ 31
-sum-key q v a b =
+-- a sum has a plus sign
+sum-plus : (q v : List Float) → Bounded q → Bounded v → toBits binary32 (squares q v) < 2 ^ 31
+sum-plus q v a b =
     let f = squares-fits q v in
     let r = sqrt-nearest (squares q v) f (squares-rootable q v a b) in
-    key-plus (toBits binary32 (squares q v)) (plus-float (squares q v) (r .u) f (r .ofX) .0)
+    plus-float (squares q v) (r .u) f (r .ofX) .0
 
 not-nearer : (m : Metric) (q : List Float) (a b : Vector) → Bounded q → Bounded (a .components) → Bounded (b .components)
-    → key (toBits binary32 (rough m q (a .components))) < key (toBits binary32 (rough m q (b .components))) → a .id ≤ b .id
+    → T (before (toBits binary32 (rough m q (a .components))) (toBits binary32 (rough m q (b .components)))) → a .id ≤ b .id
     → T (not (nearer (neighbor m q b) (neighbor m q a)))
 unfolding elementOf neighbor distance
 not-nearer Euclidean q a b l m n h i =
-    passed-over q a b l m n (omega (arith, sum-key q (a .components) l m, sum-key q (b .components) l n)) i
-not-nearer Angular q a b l m n h i =
-    not-T (nearer (neighbor Angular q b) (neighbor Angular q a)) (λ t. go (nearer-says (neighbor Angular q b) (neighbor Angular q a) t))
-  where
-    go : (key (toBits binary32 (distance Angular q (b .components))) < key (toBits binary32 (distance Angular q (a .components))))
-        ⊎ ((key (toBits binary32 (distance Angular q (b .components))) ≡ key (toBits binary32 (distance Angular q (a .components)))) × (b .id < a .id)) → ⊥
-    go (inl k) = omega arith
-    go (inr (e, k)) = omega arith
+    passed-over q a b l m n (le-of-lt (ltb→lt (toBits binary32 (squares q (a .components))) (toBits binary32 (squares q (b .components)))
+    (subst T (before-plus (toBits binary32 (squares q (a .components))) (toBits binary32 (squares q (b .components)))
+    (sum-plus q (a .components) l m) (sum-plus q (b .components) l n)) h))) i
+not-nearer Angular q a b l m n h i = behind-not-nearer (neighbor Angular q a) (neighbor Angular q b) h
 
 -- ---- the stored vectors
 module _ (s : Store) (f : Facts s) (z : Sized s) (m : Metric) (q : List Float) (asked : Bounded q) where
@@ -196,16 +191,16 @@ module _ (s : Store) (f : Facts s) (z : Sized s) (m : Metric) (q : List Float) (
     bounded : (i : ℕ) → Bounded (lookup (storeLog s) (getD (s .places) i 0))
     bounded i = look-bounded (storeLog s) (getD (s .places) i 0) (f .entries)
 
-    passes : (i j : ℕ) → i < j → j < s .stored → keyAt xs i < keyAt xs j
+    passes : (i j : ℕ) → i < j → j < s .stored → T (before (bitsAt xs i) (bitsAt xs j))
         → T (not (nearer (neighborAt (kindOf m) (s .keys) xs j) (neighborAt (kindOf m) (s .keys) xs i)))
     passes i j h k l =
         let hi : i < s .stored = omega arith in
-        let keys : key (toBits binary32 (rough m q (vec i .components))) < key (toBits binary32 (rough m q (vec j .components))) =
-        subst (λ (x : Float). key (toBits binary32 x) < key (toBits binary32 (rough m q (vec j .components)))) (filled i hi)
-        (subst (λ (x : Float). keyAt xs i < key (toBits binary32 x)) (filled j k) l) in
+        let ahead : T (before (toBits binary32 (rough m q (vec i .components))) (toBits binary32 (rough m q (vec j .components)))) =
+        subst (λ (x : Float). T (before (toBits binary32 x) (toBits binary32 (rough m q (vec j .components))))) (filled i hi)
+        (subst (λ (x : Float). T (before (bitsAt xs i) (toBits binary32 x))) (filled j k) l) in
         subst (λ (x : Neighbor). T (not (nearer x (neighborAt (kindOf m) (s .keys) xs i)))) (sym (at-neighbor j k))
         (subst (λ (x : Neighbor). T (not (nearer (neighbor m q (vec j)) x))) (sym (at-neighbor i hi))
-        (not-nearer m q (vec i) (vec j) asked (bounded i) (bounded j) keys (omega (arith, keys-rise i j h k))))
+        (not-nearer m q (vec i) (vec j) asked (bounded i) (bounded j) ahead (omega (arith, keys-rise i j h k))))
 
     selectable : Selectable (kindOf m) (s .keys) xs (s .stored)
     selectable = record {

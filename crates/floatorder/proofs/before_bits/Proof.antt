@@ -1,18 +1,19 @@
--- By the keys of both.
+-- Under plus signs by the patterns, which is the same there; else by class.
 use borrow.Author.Needs.{needs}
-use Rattle.model.specs.Nearest.Order.{before}
+use mathlib.Core.Path.{sym}
+use Rattle.model.proofs.Nearest.Classes.{before-plus}
 use Rattle.floatorder.proofs.before_bits.Statement.{statement}
 use Rattle.floatorder.proofs.before_bits.Tie as tie
-
-key-of-requires : tie.Need-key-of-requires
-key-of-requires c κs = search needs
-
-key-of-requires-2 : tie.Need-key-of-requires-2
-key-of-requires-2 c κs = search needs
+use Rattle.floatorder.proofs.by_class.Reads as by-class-reads
 
 returns : tie.Need-returns
-unfolding before
-returns c = cc
+returns c = sym (before-plus _ _ (c .before .if1 .taken) (c .if2 .taken))
+
+by-class-requires : tie.Need-by-class-requires
+by-class-requires c κs = search needs
+
+returns-2 : tie.Need-returns-2
+returns-2 c = search needs
 
 pub before-bits-spec : {M : Type 1} → statement M
-before-bits-spec = tie.close (tie.spec key-of-requires key-of-requires-2 returns)
+before-bits-spec = tie.close (tie.spec returns by-class-requires returns-2)

@@ -1,9 +1,6 @@
 -- Patterns that differ stand one before the other; equal ones leave it to the ids.
 use borrow.Author.Needs.{needs}
 use mathlib.Core.Path.{sym, _∙_}
-use lib.Ieee.{binary32}
-use lib.Ieee.Bits.{toBits-lt}
-use Rattle.model.proofs.Nearest.Tests.{holds}
 use Rattle.model.proofs.Nearest.Rank.{nearer-same, nearer-other}
 use Rattle.floatorder.proofs.nearer.Statement.{statement}
 use Rattle.floatorder.proofs.nearer.Tie as tie
@@ -25,12 +22,7 @@ before-bits-requires c κs = search needs
 returns-2 : tie.Need-returns-2
 returns-2 c =
     let at = c .before .before .before .before in
-    let f = holds (at .good .0 .1 .1 .1 .0 .1) in
-    let g = holds (at .good .1 .0 .1 .1 .1 .0 .1) in
-    c .before-bits .ensures
-    ∙ sym (nearer-other (at .args .a) (at .args .b)
-    (toBits-lt binary32 (at .args .a .distance) f) (toBits-lt binary32 (at .args .b .distance) g)
-    (c .before .if1 .left))
+    c .before-bits .ensures ∙ sym (nearer-other (at .args .a) (at .args .b) (c .before .if1 .left))
 
 pub nearer-spec : {M : Type 1} → statement M
 nearer-spec =

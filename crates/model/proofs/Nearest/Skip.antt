@@ -2,23 +2,24 @@
 -- is
 -- not lower, is not the nearer one. So a search by rising ids may pass over a vector by its sum alone. Assumes
 -- nothing.
-use mathlib.Core.Path.{_≡_, ap}
+use mathlib.Core.Path.{_≡_, subst}
 use mathlib.Core.Logic.{_⊎_, inl, inr}
-use mathlib.Core.Bool.{Bool, not, cond}
+use mathlib.Core.Bool.{not}
 use mathlib.Core.List.{List, [], _∷_}
-use Prim.Native.Nat.{ℕ, _+_, _-_, _^_, _≤_, _<_}
+use Prim.Native.Nat.{_^_, _≤_, _<_}
+use native.Mathlib.Nat.{not-le-of-lt}
 use native.Mathlib.Omega.{arith}
-use lib.Dec.{T, not-T}
-use borrow.Author.Tests.{lt-ltb}
+use lib.Dec.{T, not-T, ltb→lt}
 use lib.Ieee.{Float, binary32, add, fits, toBits}
 use lib.Ieee.Fits.{add-fits}
 use Rattle.model.specs.declared.Metric.the-variants.{Euclidean}
-use Rattle.model.specs.Nearest.Order.{key}
+use Rattle.model.specs.Nearest.Order.{before}
 use Rattle.model.specs.Nearest.Root.{sqrt, rootable}
 use Rattle.model.specs.Nearest.Distance.{sumFrom, squares, plusZero, distance, Bounded}
 use Rattle.model.specs.Nearest.Search.{Vector, nearer, neighbor}
 use Rattle.model.proofs.Nearest.Exact.{sqrt-nearest, sqrt-mono, plus-float}
 use Rattle.model.proofs.Nearest.NoNan.{squares-rootable}
+use Rattle.model.proofs.Nearest.Classes.{before-plus}
 use Rattle.model.proofs.Nearest.Rank.{nearer-says}
 
 -- ---- a sum is a float of the format
@@ -37,16 +38,9 @@ zero-fits = tt
 pub squares-fits : (q v : List Float) → T (fits binary32 (squares q v))
 squares-fits q v = sum-fits _ plusZero q v zero-fits
 
--- ---- the key of a root
-key-plus : (b : ℕ) → b < 2 ^ 31 → key b ≡ b + 2 ^ 31
-unfolding key
-key-plus b h = ap (λ (t : Bool). cond t (b + 2 ^ 31) (2 ^ 32 - 1 - b)) (lt-ltb b (2 ^ 31) h)
-
-root-key : (x : Float) → T (fits binary32 x) → T (rootable x)
-    → key (toBits binary32 (sqrt binary32 x)) ≡ toBits binary32 (sqrt binary32 x) + 2 ^ 31
-root-key x f t =
-    let r = sqrt-nearest x f t in
-    key-plus (toBits binary32 (sqrt binary32 x)) (plus-float (sqrt binary32 x) (r .w) (r .held) (r .ofR) .0)
+-- ---- a root has a plus sign
+root-plus : (x : Float) → T (fits binary32 x) → T (rootable x) → toBits binary32 (sqrt binary32 x) < 2 ^ 31
+root-plus x f t = let r = sqrt-nearest x f t in plus-float (sqrt binary32 x) (r .w) (r .held) (r .ofR) .0
 
 -- ---- the rule
 pub passed-over : (q : List Float) (a b : Vector) → Bounded q → Bounded (a .components) → Bounded (b .components)
@@ -63,17 +57,16 @@ passed-over q a b l m n h i =
     y : Float
     y = squares q (b .components)
 
-    keys : key (toBits binary32 (sqrt binary32 x)) ≤ key (toBits binary32 (sqrt binary32 y))
-    keys =
-        omega (
-          arith,
-          root-key x (squares-fits q (a .components)) (squares-rootable q (a .components) l m),
-          root-key y (squares-fits q (b .components)) (squares-rootable q (b .components) l n),
-          sqrt-mono x y (squares-fits q (a .components)) (squares-fits q (b .components))
-              (squares-rootable q (a .components) l m) (squares-rootable q (b .components) l n) h,
-        )
+    roots : toBits binary32 (sqrt binary32 x) ≤ toBits binary32 (sqrt binary32 y)
+    roots =
+        sqrt-mono x y (squares-fits q (a .components)) (squares-fits q (b .components))
+        (squares-rootable q (a .components) l m) (squares-rootable q (b .components) l n) h
 
-    go : (key (toBits binary32 (sqrt binary32 y)) < key (toBits binary32 (sqrt binary32 x)))
-        ⊎ ((key (toBits binary32 (sqrt binary32 y)) ≡ key (toBits binary32 (sqrt binary32 x))) × (b .id < a .id)) → ⊥
-    go (inl k) = omega (arith, keys)
+    go : T (before (toBits binary32 (sqrt binary32 y)) (toBits binary32 (sqrt binary32 x)))
+        ⊎ ((toBits binary32 (sqrt binary32 y) ≡ toBits binary32 (sqrt binary32 x)) × (b .id < a .id)) → ⊥
+    go (inl s) =
+        not-le-of-lt (ltb→lt (toBits binary32 (sqrt binary32 y)) (toBits binary32 (sqrt binary32 x))
+        (subst T (before-plus (toBits binary32 (sqrt binary32 y)) (toBits binary32 (sqrt binary32 x))
+        (root-plus y (squares-fits q (b .components)) (squares-rootable q (b .components) l n))
+        (root-plus x (squares-fits q (a .components)) (squares-rootable q (a .components) l m))) s)) roots
     go (inr (e, k)) = omega arith

@@ -1,4 +1,4 @@
--- The order of the keys is IEEE 754's totalOrder at every two patterns that are no NaN's. Assumes nothing.
+-- The order by classes is IEEE 754's text of totalOrder at every two patterns that are no NaN's. Assumes nothing.
 use mathlib.Core.Path.{_≡_, refl, sym, ap, _∙_, subst}
 use Prim.Native.Nat.{ℕ, _+_, _-_, _*_, _%_, _^_, _≤_, _<_}
 use native.Mathlib.Nat.{le-of-eq, le-of-lt, mul-comm, mul-assoc, mul-right-comm, mul-lt-mul-of-pos-right}
@@ -12,8 +12,9 @@ use lib.Pow.{pow-pos}
 use lib.Ieee.{Float, nan, inf, fin, binary32, up, down, fits, isNan, ofBits, toBits}
 use lib.Ieee.Fits.{down-pos}
 use lib.Ieee.Bits.{ofBits-toBits, toBits-lt}
-use Rattle.model.specs.Nearest.Order.{unitsOf, key, before, minus, total}
+use Rattle.model.specs.Nearest.Order.{unitsOf, before, minus, total}
 use Rattle.model.proofs.Nearest.Tests.{ltb-iff, and-false, or-false}
+use Rattle.model.proofs.Nearest.Classes.{key, byKey, as-before}
 use Rattle.model.proofs.Nearest.Patterns.{top, units-mono, units-back, Val, reads}
 
 -- the order of sign and magnitude
@@ -98,8 +99,7 @@ total-at (fin true m e) (fin true n d) r q h k = no-eq (ltb (n * up d * down e) 
 
 -- ---- the keys are in the order of sign and magnitude
 key-less : (a b : ℕ) → a < 2 ^ 32 → b < 2 ^ 32 → signedLess (leb (2 ^ 31) a) (a % 2 ^ 31) (leb (2 ^ 31) b)
-    (b % 2 ^ 31) ≡ before a b
-unfolding before key
+    (b % 2 ^ 31) ≡ byKey a b
 key-less a b A B = go (leb (2 ^ 31) a) refl (leb (2 ^ 31) b) refl
   where
     go : (s : Bool) → leb (2 ^ 31) a ≡ s → (t : Bool) → leb (2 ^ 31) b ≡ t
@@ -135,6 +135,7 @@ total-bits a b A B n m =
     ∙ ap (λ (s : Bool). signedLess s (a % 2 ^ 31) (minus (ofBits binary32 b)) (b % 2 ^ 31)) (x .1)
     ∙ ap (λ (t : Bool). signedLess (leb (2 ^ 31) a) (a % 2 ^ 31) t (b % 2 ^ 31)) (y .1)
     ∙ key-less a b A B
+    ∙ sym (as-before a b A B)
 
 pub total-floats : (x y : Float) → T (fits binary32 x) → T (fits binary32 y) → T (not (isNan x)) → T (not (isNan y))
     → total x y ≡ before (toBits binary32 x) (toBits binary32 y)
