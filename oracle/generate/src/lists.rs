@@ -260,9 +260,11 @@ fn float_patterns() -> Vec<List> {
     let roots = patterns::root_input(&patterns::for_roots(3));
     let order = patterns::order_input(&patterns::for_order(4));
     let nans = patterns::order_input(&patterns::for_order_of_nans());
+    let classes = patterns::order_input(&patterns::for_order_of_classes());
     vec![
         list("roots", "all", roots, programs::roots),
         list("order", "finite", order, programs::order),
         list("order", "nan", nans, programs::order),
+        list("order", "classes", classes, programs::order),
     ]
 }

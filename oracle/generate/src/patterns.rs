@@ -36,6 +36,26 @@ const ENDS: [u32; 11] = [
     0x7f7f_ffff,
     0x7f80_0000,
 ];
+/// Both ends of every class of totalOrder with their neighbours, subnormal and normal numbers apart, and 1.
+const EDGES: [u32; 17] = [
+    0x0000_0000,
+    0x0000_0001,
+    0x0000_0002,
+    0x007f_fffe,
+    0x007f_ffff,
+    0x0080_0000,
+    0x0080_0001,
+    0x3f7f_ffff,
+    0x3f80_0000,
+    0x3f80_0001,
+    0x7f7f_fffe,
+    0x7f7f_ffff,
+    0x7f80_0000,
+    0x7f80_0001,
+    0x7fc0_0000,
+    0x7fff_fffe,
+    0x7fff_ffff,
+];
 const NANS: [u32; 4] = [0x7f80_0001, 0x7fbf_ffff, 0x7fc0_0000, 0x7fff_ffff];
 
 fn both_signs(magnitudes: &[u32]) -> Vec<u32> {
@@ -71,6 +91,13 @@ pub fn for_order_of_nans() -> Vec<(u32, u32)> {
         all.extend(ends.iter().flat_map(|&b| [(a, b), (b, a)]));
     }
     all
+}
+
+/// Every pair of the patterns at the edges of the eight classes.
+pub fn for_order_of_classes() -> Vec<(u32, u32)> {
+    let edges = both_signs(&EDGES);
+    let beside = |&a: &u32| edges.iter().map(move |&b| (a, b)).collect::<Vec<_>>();
+    edges.iter().flat_map(beside).collect()
 }
 
 pub fn root_input(patterns: &[u32]) -> Vec<u8> {
