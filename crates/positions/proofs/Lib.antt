@@ -1,0 +1,9 @@
+pub mod OfSigned
+pub mod OfFields
+pub mod OfSizes
+pub mod OfFloats
+pub mod OfPlaces
+pub mod Laws
+pub mod FloatLaws
+pub mod Refusals
+pub mod Cases
