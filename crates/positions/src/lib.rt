@@ -15,7 +15,7 @@ use crate::signed::sizes_of;
 
 mod floats;
 mod parts;
-mod signed;
+pub mod signed;
 
 // What an editor types. `minus` is 0 for a plus and 1 for a minus.
 pub struct Fields {

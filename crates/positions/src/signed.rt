@@ -23,7 +23,7 @@ pub enum Sized {
 }
 
 // One less than the size of a number below zero always fits.
-fn split(z: i64) -> Signed
+pub fn split(z: i64) -> Signed
     ensures { λ r. ⌜ (r .minus ≡ isMinus z) × (r .size ≡ natAbs z) ⌝ }
 {
     if z < 0 {

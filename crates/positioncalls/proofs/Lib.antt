@@ -1,0 +1,4 @@
+pub mod OfPattern
+pub mod OfBytes
+pub mod Answered
+pub mod OfVector
