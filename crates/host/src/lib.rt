@@ -5,5 +5,6 @@ pub mod headers;
 pub mod ids;
 pub mod maps;
 pub mod peers;
+pub mod position;
 pub mod version;
 pub mod workers;
