@@ -8,7 +8,7 @@ ORACLE_CARGO := CARGO_TARGET_DIR=$(ORACLE_BUILD)/cargo cargo
 SECONDS ?= 60
 SEED ?= $(shell date +%s)
 
-.PHONY: oracle oracle-ready oracle-test oracle-coverage oracle-mutants stored stored-check differential conformance
+.PHONY: oracle oracle-ready oracle-test oracle-coverage oracle-mutants stored stored-positions stored-check differential conformance
 
 oracle: oracle-ready ## the published Rust, unchanged, behind applymap, search, replay and decode (target/oracle)
 	@cd $(ORACLE_ROOT)/oracle && $(ORACLE_CARGO) build --release --offline --quiet
@@ -23,6 +23,11 @@ oracle-test: oracle-ready ## the oracle's own tests, each finding of docs/DIFFER
 stored: oracle ## makes the stored lists again, byte for byte, with the table of what they cover
 	@$(ORACLE_BIN)/store $(ORACLE_ROOT)/oracle/stored
 	@$(ORACLE_BIN)/coverage 2000 $(ORACLE_ROOT)/oracle/stored/COVERAGE.md
+
+stored-positions: ## makes the stored list of positions again, which has no Rust to ask (Python 3)
+	@cd $(ORACLE_ROOT)/oracle && python3 positions.py lines >stored/positions/all.in && \
+	    python3 positions.py answers <stored/positions/all.in >stored/positions/all.out && \
+	    cp stored/positions/all.in ../crates/coordinates/stdin && cp stored/positions/all.out ../crates/coordinates/stdout
 
 stored-check: oracle ## the stored lists are what the oracle answers today
 	@$(ORACLE_BIN)/store --check $(ORACLE_ROOT)/oracle/stored
