@@ -9,7 +9,7 @@ FUZZ_FLAGS ?= -O1 -g -pthread -fsanitize=address,undefined -fno-sanitize-recover
 RUNS ?= 200
 STEPS ?= 2000
 
-.PHONY: host-library replay dome minimal stuck replace fuzz bindings simulate simulate-wrong picture
+.PHONY: host-library replay dome minimal stuck replace position fuzz bindings simulate simulate-wrong picture
 
 host-library: $(HOST_LIBRARY) ## the engine as a static library (target/staticlib/libhost.a)
 
@@ -20,6 +20,11 @@ replay: need-cc $(HOST_LIBRARY) ## calls in, answers out, by a host in C (target
 dome: need-cc $(HOST_LIBRARY)
 	@mkdir -p $(HOST_BUILD)
 	@$(CC) $(HOST_CFLAGS) examples/dome.c $(HOST_LIBRARY) -o $(HOST_BUILD)/dome
+
+position: $(HOST_LIBRARY) ## a position in hours and degrees typed in, written, found and read back (examples/position.c)
+	@mkdir -p $(HOST_BUILD)
+	@$(CC) $(HOST_CFLAGS) examples/position.c $(HOST_LIBRARY) -o $(HOST_BUILD)/position
+	@$(HOST_BUILD)/position
 
 picture: dome ## the dome's run as a space-time diagram (docs/dome.svg)
 	@[ -w docs ] || { echo "make: docs/ cannot be written" >&2; exit 1; }

@@ -67,6 +67,9 @@ uint32_t catalogue_version(void);
 #define CATALOGUE_STARTS 13824u   /* room for any workers to start: 8 shards, 32 peers each */
 #define CATALOGUE_PEERS 256u      /* room for the peers that a wait names: 32 times u64 */
 #define CATALOGUE_LISTS 1024u     /* room for any placement: 16 lists of 8 nodes, u64 each */
+#define CATALOGUE_POSITION 16u    /* milliarcseconds: right ascension and declination, i64 each */
+#define CATALOGUE_FIELDS 28u      /* a position's seven fields, u32 each */
+#define CATALOGUE_VECTOR 17u      /* a position's vector as a Write has it: 04, four floats */
 #define CATALOGUE_STACK 524288u   /* stack that a call needs at most; `make fuzz` measures it: under 392,000 */
 
 /* ---- answers */
@@ -105,6 +108,8 @@ uint32_t catalogue_version(void);
 #define CATALOGUE_MALFORMED 24u       /* an image is too short, or no state that the engine makes */
 #define CATALOGUE_LAST_EPOCH 25u      /* the epoch cannot rise */
 #define CATALOGUE_NO_WORKER 26u       /* an ack for a peer without a worker */
+#define CATALOGUE_OUT_OF_RANGE 30u    /* a position's field, or its milliarcseconds, out of range */
+#define CATALOGUE_NO_THOUSANDTH 31u   /* a right ascension with no whole thousandth of a second */
 
 /* ---- numbers in images and outputs, least significant byte first */
 
@@ -119,6 +124,12 @@ static inline uint64_t catalogue_u64(const uint8_t *p)
 static inline uint32_t catalogue_u32(const uint8_t *p)
 {
     return (uint32_t)p[0] | (uint32_t)p[1] << 8 | (uint32_t)p[2] << 16 | (uint32_t)p[3] << 24;
+}
+
+static inline int64_t catalogue_i64(const uint8_t *p)
+{
+    uint64_t n = catalogue_u64(p);
+    return n >> 63 ? -(int64_t)~n - 1 : (int64_t)n;
 }
 
 /* ---- making state */
@@ -223,6 +234,26 @@ uint32_t catalogue_ack(uint8_t *header, size_t header_len, const uint8_t *name, 
  * (docs/HOST.md, 'Two traps'). */
 uint32_t catalogue_outcome(uint8_t *header, size_t header_len, const uint8_t *name, size_t name_len, uint32_t shard,
                            uint64_t epoch, uint64_t peer, uint8_t command, uint8_t applied);
+
+/* ---- positions in hours and degrees. No state, and no bytes come in: 21, 22 and 24 do not arise */
+
+/* The milliarcseconds of what an editor types: right ascension as hours (0 to 23), minutes (0 to 59) and thousandths of
+ * seconds (0 to 59,999); declination as sign (`minus` 0 or 1), degrees (0 to 90, and nothing beyond 90), arcminutes and
+ * thousandths of arcseconds. A minus before zero is out of range. 0: CATALOGUE_POSITION bytes stand in `position`; 30,
+ * 23. */
+uint32_t catalogue_position(uint32_t hours, uint32_t minutes, uint32_t thousandths, uint32_t minus, uint32_t degrees,
+                            uint32_t arcminutes, uint32_t arcthousandths, uint8_t *position, size_t position_len);
+
+/* And back. 0: CATALOGUE_FIELDS bytes stand in `fields`, in the order above; zero has a plus. 30 a right ascension below
+ * 0 or above 1,295,999,985 or a declination beyond 324,000,000 either way; then 31 a right ascension that is no multiple
+ * of 15; 23. */
+uint32_t catalogue_position_fields(int64_t ra, int64_t dec, uint8_t *fields, size_t fields_len);
+
+/* The vector of a position, for a Write or a Search. 0: CATALOGUE_VECTOR bytes stand in `vector`: right ascension's whole
+ * arcseconds and left-over thousandths, then declination's, which both carry its sign, all exact; a zero is plus zero.
+ * 30 as above; 23. A search measures these floats as they are: nothing wraps around at 24 hours, and a thousandth
+ * counts as much as an arcsecond. */
+uint32_t catalogue_position_vector(int64_t ra, int64_t dec, uint8_t *vector, size_t vector_len);
 
 #ifdef __cplusplus
 }

@@ -688,6 +688,57 @@ static uint32_t call_outcome(uint8_t *base)
                              (uint8_t)numbers[3]);
 }
 
+/* Positions have no image. */
+static uint32_t fields[7];
+static int64_t place[2];
+
+static void for_position(void)
+{
+    static const size_t limits[7] = {24, 60, 60000, 2, 91, 60, 60000};
+    for (size_t i = 0; i < 7; i++)
+        fields[i] = one_in(30) ? (uint32_t)any_number() : (uint32_t)below(limits[i]);
+    set_room(&reply, CATALOGUE_POSITION);
+}
+
+static uint32_t call_position(uint8_t *base)
+{
+    (void)base;
+    return catalogue_position(fields[0], fields[1], fields[2], fields[3], fields[4], fields[5], fields[6],
+                              GIVEN(reply));
+}
+
+static void any_place(void)
+{
+    uint64_t ra = one_in(8) ? any_number() : (one_in(8) ? 1 : 15) * (uint64_t)below(86400001);
+    uint64_t dec = one_in(8) ? any_number() : (uint64_t)below(648000002) - 324000001;
+    memcpy(&place[0], &ra, sizeof ra);
+    memcpy(&place[1], &dec, sizeof dec);
+}
+
+static void for_position_fields(void)
+{
+    any_place();
+    set_room(&reply, CATALOGUE_FIELDS);
+}
+
+static uint32_t call_position_fields(uint8_t *base)
+{
+    (void)base;
+    return catalogue_position_fields(place[0], place[1], GIVEN(reply));
+}
+
+static void for_position_vector(void)
+{
+    any_place();
+    set_room(&reply, CATALOGUE_VECTOR);
+}
+
+static uint32_t call_position_vector(uint8_t *base)
+{
+    (void)base;
+    return catalogue_position_vector(place[0], place[1], GIVEN(reply));
+}
+
 /* ---- the two calls that are lent nothing: any numbers are an answer, and there is no refusal */
 
 static void try_numbers(void)
@@ -705,7 +756,7 @@ static void try_numbers(void)
 
 struct entry {
     const char *name;
-    enum { OF_MAP = 1, OF_NODE = 2, OF_BOTH = 3 } whose; /* which images it gets */
+    enum { OF_NONE = 0, OF_MAP = 1, OF_NODE = 2, OF_BOTH = 3 } whose; /* which images it gets */
     void (*operands)(void);
     uint32_t (*call)(uint8_t *stores);
     uint32_t most_done; /* the largest answer that is no refusal */
@@ -728,6 +779,9 @@ static const struct entry entries[] = {
     {"catalogue_step", OF_NODE, for_step, call_step, CATALOGUE_STEP_COPY},
     {"catalogue_ack", OF_NODE, for_ack, call_ack, 1},
     {"catalogue_outcome", OF_NODE, for_outcome, call_outcome, 0},
+    {"catalogue_position", OF_NONE, for_position, call_position, 0},
+    {"catalogue_position_fields", OF_NONE, for_position_fields, call_position_fields, 0},
+    {"catalogue_position_vector", OF_NONE, for_position_vector, call_position_vector, 0},
 };
 
 /* ---- one trial */
@@ -744,7 +798,10 @@ static void for_all(void (*act)(struct buffer *))
 /* 18 alone writes: the own epoch, into an answer of eight bytes. The count is looked at apart. */
 static void check_refused(const struct entry *e, uint32_t said)
 {
-    if (said < CATALOGUE_UNKNOWN_SHARD || said > CATALOGUE_NO_WORKER)
+    bool listed = said >= CATALOGUE_UNKNOWN_SHARD && said <= CATALOGUE_NO_WORKER;
+    if (e->whose == OF_NONE)
+        listed = said == CATALOGUE_NO_ROOM || said == CATALOGUE_OUT_OF_RANGE || said == CATALOGUE_NO_THOUSANDTH;
+    if (!listed)
         fail(e->name, "answered what catalogue.h does not list", said);
     for (size_t i = 0; i < BUFFERS; i++) {
         bool told = buffers[i] == &answer && said == CATALOGUE_NOT_PRIMARY;
@@ -807,7 +864,7 @@ static void try_entry(const struct entry *e)
             done++;
     }
     alarm(0);
-    printf("%-22s %" PRIu64 " calls, %" PRIu64 " refused\n", e->name, calls, calls - done);
+    printf("%-26s %" PRIu64 " calls, %" PRIu64 " refused\n", e->name, calls, calls - done);
     fflush(stdout);
     if (done == 0 || done == calls)
         fail(e->name, "was never refused, or always", done);

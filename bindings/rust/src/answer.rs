@@ -16,6 +16,9 @@ pub enum Refusal {
     Malformed,
     LastEpoch,
     NoWorker,
+    /// A position out of range.
+    OutOfRange,
+    NoThousandth,
 }
 
 impl Refusal {
@@ -32,6 +35,8 @@ impl Refusal {
             24 => Refusal::Malformed,
             25 => Refusal::LastEpoch,
             26 => Refusal::NoWorker,
+            30 => Refusal::OutOfRange,
+            31 => Refusal::NoThousandth,
             other => panic!("the engine answered {other}, which catalogue.h does not list here"),
         }
     }
@@ -48,6 +53,8 @@ impl Refusal {
             Refusal::Malformed => 24,
             Refusal::LastEpoch => 25,
             Refusal::NoWorker => 26,
+            Refusal::OutOfRange => 30,
+            Refusal::NoThousandth => 31,
         }
     }
 }
@@ -67,6 +74,8 @@ impl fmt::Display for Refusal {
             Refusal::Malformed => "a state that the engine does not make",
             Refusal::LastEpoch => "the epoch cannot rise",
             Refusal::NoWorker => "an ack for a peer without a worker",
+            Refusal::OutOfRange => "a position out of range",
+            Refusal::NoThousandth => "a right ascension with no whole thousandth of a second",
         };
         f.write_str(words)
     }

@@ -5,6 +5,7 @@
 mod answer;
 mod map;
 mod node;
+mod position;
 pub mod sys;
 
 pub use answer::{
@@ -12,6 +13,7 @@ pub use answer::{
 };
 pub use map::{MAP, Map};
 pub use node::{HEADER, Node, STORES};
+pub use position::{Fields, Position};
 
 /// Which shard of a collection of so many holds an id; 0 of none.
 pub fn shard_of(id: u64, shards: u32) -> u32 {

@@ -165,4 +165,17 @@ unsafe extern "C" {
         command: u8,
         applied: u8,
     ) -> u32;
+    pub fn catalogue_position(
+        hours: u32,
+        minutes: u32,
+        thousandths: u32,
+        minus: u32,
+        degrees: u32,
+        arcminutes: u32,
+        arcthousandths: u32,
+        position: *mut u8,
+        position_len: usize,
+    ) -> u32;
+    pub fn catalogue_position_fields(ra: i64, dec: i64, fields: *mut u8, fields_len: usize) -> u32;
+    pub fn catalogue_position_vector(ra: i64, dec: i64, vector: *mut u8, vector_len: usize) -> u32;
 }
