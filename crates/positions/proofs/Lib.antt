@@ -7,3 +7,4 @@ pub mod Laws
 pub mod FloatLaws
 pub mod Refusals
 pub mod Cases
+pub mod Instances
