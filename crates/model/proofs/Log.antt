@@ -4,3 +4,5 @@ pub mod Keep
 pub mod Play
 pub mod Store
 pub mod Ids
+pub mod Edits
+pub mod EditCases
