@@ -4,5 +4,6 @@ pub mod Keep
 pub mod Play
 pub mod Store
 pub mod Ids
-pub mod Edits
 pub mod EditCases
+pub mod Edits
+pub mod EditsMet
