@@ -1,0 +1,3 @@
+pub mod OfAppends
+pub mod OfSearches
+pub mod Order
