@@ -4,6 +4,7 @@
 use front::history::{History, call, record};
 use wire::{Entry, Key, Message, Op};
 
+use crate::edits;
 use crate::floats::{self, KINDS};
 use crate::rng::Rng;
 
@@ -253,6 +254,50 @@ pub fn full() -> Made {
     m.entries_from(690, 256);
     m.call(call::STATE, &[]);
     m
+}
+
+/// A log appended, all but its last two entries in batches, and its vectors looked at.
+fn appended(metric: u8, log: &[Op]) -> Made {
+    let mut m = Made::default();
+    m.make(1, metric);
+    let (first, edits) = log.split_at(log.len().saturating_sub(2));
+    let entry = |(n, op): (usize, &Op)| Entry {
+        epoch: 1,
+        offset: 1 + n as u64,
+        op: op.clone(),
+    };
+    let entries: Vec<Entry> = first.iter().enumerate().map(entry).collect();
+    for batch in entries.chunks(256) {
+        m.copy(1, batch.to_vec());
+    }
+    edits.iter().for_each(|op| m.append(op.clone()));
+    m.call(call::IDS, &[]);
+    for id in [3, 5, 7, 9, u64::MAX] {
+        m.vector(id);
+    }
+    m.search(4, vec![0x3f80_0000, 0]);
+    m
+}
+
+/// Logs of which each two have the same vectors, one behind the other.
+pub fn orders() -> Vec<[Made; 2]> {
+    let twins = [edits::different(), edits::same()].concat();
+    let long = |t: &edits::Twins| t[0].len() > 1000;
+    let few = twins.iter().filter(|t| long(t)).step_by(9);
+    let all = twins.iter().filter(|t| !long(t)).chain(few).enumerate();
+    all.map(|(n, t)| t.each_ref().map(|log| appended((n % 2) as u8, log)))
+        .collect()
+}
+
+/// These logs with their last entries, in which they differ, and one edit more.
+pub fn orders_shown() -> Made {
+    let mut all = Made::default();
+    for mut made in orders().into_iter().flatten() {
+        made.entries_from(made.last().saturating_sub(1), 2);
+        made.append(Op::Delete { id: 5 });
+        all.records.extend(made.records);
+    }
+    all
 }
 
 fn op(rng: &mut Rng) -> Op {

@@ -4,6 +4,7 @@
 pub mod coverage;
 pub mod damage;
 pub mod dome;
+pub mod edits;
 pub mod floats;
 pub mod histories;
 pub mod lists;

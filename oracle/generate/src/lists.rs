@@ -160,6 +160,12 @@ fn search() -> Vec<List> {
     vec![
         list("search", "chosen", searches::chosen().concat(), run),
         list("search", "random", random, run),
+        list(
+            "search",
+            "orders",
+            searches::orders().concat().concat(),
+            run,
+        ),
     ]
 }
 
@@ -171,6 +177,7 @@ fn history() -> Vec<List> {
     let mut all = vec![
         from("chosen", histories::chosen()),
         from("full", histories::full()),
+        from("orders", histories::orders_shown()),
     ];
     for seed in 1..=3 {
         all.push(from(

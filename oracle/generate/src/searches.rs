@@ -3,6 +3,7 @@
 
 use wire::Op;
 
+use crate::edits;
 use crate::floats::{self, KINDS, Kind};
 use crate::rng::Rng;
 
@@ -156,4 +157,25 @@ fn many() -> Vec<u8> {
     let op = |n: u64, rng: &mut Rng| put(2000 - n, &floats::vector(rng, Kind::Few, 1));
     let ops: Vec<Op> = (0..1024).map(|n| op(n, &mut rng)).collect();
     case(0, 1024, &bits(&[0.0]), &ops)
+}
+
+/// Logs of which each two have the same vectors, one behind the other: each two answers are equal.
+pub fn orders() -> Vec<[Vec<u8>; 2]> {
+    let short = |twins: &edits::Twins| twins[0].len() < 1000;
+    let mut twins: Vec<edits::Twins> = [edits::different(), edits::same()].concat();
+    // Of the longest logs a few: an Upsert and a Delete of different ids, two edits of one id.
+    let few: Vec<_> = twins
+        .iter()
+        .filter(|t| !short(t))
+        .step_by(9)
+        .cloned()
+        .collect();
+    twins.retain(short);
+    twins.extend(few);
+    let query = bits(&[1.0, 0.5]);
+    let both = |(n, logs): (usize, &edits::Twins)| {
+        let metric = (n % 2) as u8;
+        logs.each_ref().map(|log| case(metric, 6, &query, log))
+    };
+    twins.iter().enumerate().map(both).collect()
 }
