@@ -1,3 +1,4 @@
 pub mod OfAppends
 pub mod OfSearches
 pub mod Order
+pub mod Instance

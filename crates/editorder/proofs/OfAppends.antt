@@ -42,13 +42,12 @@ append-epoch : (r : ShardReplica) (op : Op) → append r op .epoch ≡ r .epoch
 unfolding append push
 append-epoch r op = refl
 
-module _ (b : List ℕ) (own : ℕ) (s t : Store) (op : Op) (d : Done)
-    (x : Edit b op) (f : lentFits s ≡ true) (room : s .count < 1024) (c : Appends b own s t d) where
+module _ (b : List ℕ) (own : ℕ) (s : Store) (op : Op) (x : Edit b op) (f : lentFits s ≡ true) (room : s .count < 1024) where
   abbrev r : Metric → ShardReplica
   r m = replicaOf own m s
 
   -- with space the definition appends
-  there : (m : Metric) → appendLent b own s m ≡ gives (A.Appended (record { 0 = s .count + 1 })) (append (r m) op)
+  pub there : (m : Metric) → appendLent b own s m ≡ gives (A.Appended (record { 0 = s .count + 1 })) (append (r m) op)
   unfolding appendLent appendTo
   there m =
       let n = append (r m) op in
@@ -59,24 +58,25 @@ module _ (b : List ℕ) (own : ℕ) (s t : Store) (op : Op) (d : Done)
       ∙ ap (λ (z : Bool). cond z (refused noRoom (r m)) (gives (A.Appended (record { 0 = lastOffset n })) n)) o
       ∙ ap (λ (k : ℕ). gives {S = ShardReplica} (A.Appended (record { 0 = k })) n) l
 
-  told : (m : Metric) → gives (d .answer) (replicaOf (d .epoch .0) m t) ≡ gives (A.Appended (record { 0 = s .count + 1 })) (append (r m) op)
-  told m = c .same m ∙ there m
+  module _ (t : Store) (d : Done) (c : Appends b own s t d) where
+    told : (m : Metric) → gives (d .answer) (replicaOf (d .epoch .0) m t) ≡ gives (A.Appended (record { 0 = s .count + 1 })) (append (r m) op)
+    told m = c .same m ∙ there m
 
-  left : (m : Metric) → replicaOf (d .epoch .0) m t ≡ append (r m) op
-  left m = ap (λ (z : After). z .after) (told m)
+    left : (m : Metric) → replicaOf (d .epoch .0) m t ≡ append (r m) op
+    left m = ap (λ (z : After). z .after) (told m)
 
-  same-epoch : d .epoch .0 ≡ own
-  same-epoch =
-      sym (own-epoch (d .epoch .0) Euclidean t) ∙ ap (λ (z : ShardReplica). z .epoch) (left Euclidean)
-      ∙ append-epoch (r Euclidean) op ∙ own-epoch own Euclidean s
+    same-epoch : d .epoch .0 ≡ own
+    same-epoch =
+        sym (own-epoch (d .epoch .0) Euclidean t) ∙ ap (λ (z : ShardReplica). z .epoch) (left Euclidean)
+        ∙ append-epoch (r Euclidean) op ∙ own-epoch own Euclidean s
 
-  pub appended : Appended own s t op d
-  appended = record {
-    answer = ap (λ (z : After). z .answer) (told Euclidean);
-    epoch = same-epoch;
-    replica = λ m. sym (ap (λ (e : ℕ). replicaOf e m t) same-epoch) ∙ left m;
-    count =
-        sym (last-is (d .epoch .0) Euclidean t) ∙ ap lastOffset (left Euclidean) ∙ longer (r Euclidean) op
-        ∙ ap (λ (k : ℕ). k + 1) (last-is own Euclidean s);
-    fits = c .fits f;
-  }
+    pub appended : Appended own s t op d
+    appended = record {
+      answer = ap (λ (z : After). z .answer) (told Euclidean);
+      epoch = same-epoch;
+      replica = λ m. sym (ap (λ (e : ℕ). replicaOf e m t) same-epoch) ∙ left m;
+      count =
+          sym (last-is (d .epoch .0) Euclidean t) ∙ ap lastOffset (left Euclidean) ∙ longer (r Euclidean) op
+          ∙ ap (λ (k : ℕ). k + 1) (last-is own Euclidean s);
+      fits = c .fits f;
+    }

@@ -32,10 +32,10 @@ module _ (own : ℕ) (s : Store) (f : lentFits s ≡ true) (room : s .count ≤ 
   pub both-appended : (x y : List ℕ) (a b : Op) (u : Store) → Edit x a → Edit y b → (t : InTurn x y own s u)
       → BothAppended own s u a b (t .first) (t .second)
   both-appended x y a b u p q t =
-      let k = appended x own s (t .between) a (t .first) p f (omega arith) (t .called) in
+      let k = appended x own s a p f (omega arith) (t .between) (t .first) (t .called) in
       let c : Appends y own (t .between) u (t .second) =
       subst (λ (e : ℕ). Appends y e (t .between) u (t .second)) (k .epoch) (t .followed) in
-      let j = appended y own (t .between) u b (t .second) q (k .fits) (omega (arith, k .count)) c in
+      let j = appended y own (t .between) b q (k .fits) (omega (arith, k .count)) u (t .second) c in
       let n : t .between .count + 1 ≡ s .count + 2 = omega (arith, k .count) in
       record {
         one = k .answer;
@@ -85,7 +85,7 @@ module _ (own : ℕ) (s : Store) (f : lentFits s ≡ true) (room : s .count ≤ 
     -- one id: the later alone, appended to the same store
     module _ (t : InTurn x y own s u) (d : Done) (w : Appends y own s v d) (same : opId a ≡ opId b) where
       alone : Appended own s v b d
-      alone = appended y own s v b d q f (omega arith) w
+      alone = appended y own s b q f (omega arith) v d w
 
       pub later-vectors : readVectors u ≡ readVectors v
       later-vectors =
