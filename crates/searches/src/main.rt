@@ -1,7 +1,7 @@
 // Replays the oracle's stored searches (paper 01, 'Nearest objects'): cases one after the other on standard input, each a metric, k,
 // a query, and operations that are appended to an empty replica; for each a line `found C` and C lines with an id and the bits of its
-// distance, or `refused 22`, on standard output. stdin is oracle/stored/search/chosen.in and random.in one after the other, stdout their
-// .out: the answers of the Rust. Every append and the search are crate replica's exported calls.
+// distance, or `refused 22`, on standard output. stdin is oracle/stored/search/chosen.in, random.in and orders.in one after the other, stdout
+// their .out: the answers of the Rust. Every append and the search are crate replica's exported calls.
 use input::floats_in;
 use input::four;
 use input::operation;
