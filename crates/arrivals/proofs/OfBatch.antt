@@ -20,7 +20,7 @@ use Rattle.model.specs.declared.Metric.the-variants.{Euclidean}
 use Rattle.model.specs.declared.Epoch.{Epoch}
 use Rattle.model.specs.declared.Offset.{Offset}
 use Rattle.model.proofs.Log.Store.{store-all-longer}
-use Rattle.shard.specs.Store.{Store, Sized, Spares, replicaOf, wellFormedStore}
+use Rattle.shard.specs.Store.{Store, Sized, Spares, replicaIn, wellFormedStore}
 use Rattle.shard.specs.declared.replica.Outcome.{Outcome}
 use Rattle.shard.proofs.Spared.{spares-none, spares-on}
 use Rattle.shard.specs.declared.replica.Outcome.the-variants.{Through, Stale, Full}
@@ -39,7 +39,7 @@ use Rattle.arrivals.proofs.OfStores.{last-is, own-epoch}
 
 -- a store on the way, with what is left of a batch
 pub record OnWay (own : ℕ) (es : List Entry) (s₀ s : Store) (rest : List Entry) : Type 0 where
-  pub same : (m : Metric) → storeAll (replicaOf own m s) own rest ≡ storeAll (replicaOf own m s₀) own es
+  pub same : (m : Metric) → storeAll (replicaIn own m s) own rest ≡ storeAll (replicaIn own m s₀) own es
   pub well : wellFormedStore s ≡ true
   pub sized : Sized s
   pub longer : s₀ .count ≤ s .count
@@ -47,16 +47,16 @@ pub record OnWay (own : ℕ) (es : List Entry) (s₀ s : Store) (rest : List Ent
 
 -- a batch's growth, of the replica in a store
 pub grows-last : (own : ℕ) (es : List WireEntry) (s : Store) (n : ℕ) → GrowsTo es (s .count) n → (m : Metric)
-    → n ≡ lastOffset (storeAll (replicaOf own m s) own (map storedEntry es))
+    → n ≡ lastOffset (storeAll (replicaIn own m s) own (map storedEntry es))
 grows-last own es s n g m =
-    g (replicaOf own m s) (last-is own m s)
-    ∙ ap (λ (e : ℕ). lastOffset (storeAll (replicaOf own m s) e (map storedEntry es))) (own-epoch own m s)
+    g (replicaIn own m s) (last-is own m s)
+    ∙ ap (λ (e : ℕ). lastOffset (storeAll (replicaIn own m s) e (map storedEntry es))) (own-epoch own m s)
 
 pub fitting : (own : ℕ) (es : List WireEntry) (s : Store) (n : ℕ) → GrowsTo es (s .count) n → n ≤ 1024 → HasRoom own (map storedEntry es) s
 fitting own es s n g h m = let q = grows-last own es s n g m in omega arith
 
 pub overflowing : (own : ℕ) (es : List WireEntry) (s : Store) (n : ℕ) → GrowsTo es (s .count) n → 1024 < n → (m : Metric)
-    → 1024 < lastOffset (storeAll (replicaOf own m s) own (map storedEntry es))
+    → 1024 < lastOffset (storeAll (replicaIn own m s) own (map storedEntry es))
 overflowing own es s n g h m = let q = grows-last own es s n g m in omega arith
 
 pub on-start : (own : ℕ) (es : List Entry) (s : Store) → Sized s → wellFormedStore s ≡ true → OnWay own es s s es
@@ -74,19 +74,19 @@ module _ (own : ℕ) (es : List Entry) (s₀ : Store) (fit : HasRoom own es s₀
     spares = spares-on s₀ s t (w .longer) grows (w .spares) (d .arrived .spares);
   }
     where
-      taken : (m : Metric) → replicaOf own m t ≡ store (replicaOf own m s) own e .replica
+      taken : (m : Metric) → replicaIn own m t ≡ store (replicaIn own m s) own e .replica
       taken m =
-          let q = store (replicaOf own m s) own e .replica in
+          let q = store (replicaIn own m s) own e .replica in
           let l = store-all-longer own q rest in
           let f = fit m in
-          let n : lastOffset (storeAll q own rest) ≡ lastOffset (storeAll (replicaOf own m s₀) own es) = ap lastOffset (w .same m) in
+          let n : lastOffset (storeAll q own rest) ≡ lastOffset (storeAll (replicaIn own m s₀) own es) = ap lastOffset (w .same m) in
           let b : overfull q ≡ false = le-ltb 1024 (lastOffset q) (omega arith) in
-          d .arrived .replica m ∙ ap (λ (c : Bool). cond c (replicaOf own m s) q) b
+          d .arrived .replica m ∙ ap (λ (c : Bool). cond c (replicaIn own m s) q) b
 
       grows : s .count ≤ t .count
       grows =
           let m : Metric = Euclidean in
-          let l : lastOffset (replicaOf own m s) ≤ lastOffset (store (replicaOf own m s) own e .replica) = store-all-longer own (replicaOf own m s) (e ∷ []) in
+          let l : lastOffset (replicaIn own m s) ≤ lastOffset (store (replicaIn own m s) own e .replica) = store-all-longer own (replicaIn own m s) (e ∷ []) in
           let q = ap lastOffset (taken m) in
           omega (arith, last-is own m s, last-is own m t)
 
@@ -134,7 +134,7 @@ module _ (own epoch : ℕ) (es : List Entry) (s : Store) (z : Sized s) (w : well
   pub copies-none : es ≡ [] → (o : Offset) → o .0 ≡ s .count → Copies own epoch es s s (Through o)
   unfolding copyHeld
   copies-none e o q = record {
-    same = λ m h r. rw e (ap (λ (n : ℕ). gives {S = Held} (replied (replyStored n)) (withReplica h (replicaOf own m s)))
+    same = λ m h r. rw e (ap (λ (n : ℕ). gives {S = Held} (replied (replyStored n)) (withReplica h (replicaIn own m s)))
         (q ∙ sym (last-is own m s) ∙ ap lastOffset (sym r)) ∙ ap (λ (v : ShardReplica). gives {S = Held} (replied (replyStored (lastOffset (h .replica)))) (withReplica h v)) (sym r));
     kept = λ t. refl;
     well = w;
@@ -149,7 +149,7 @@ module _ (own epoch : ℕ) (es : List Entry) (s : Store) (z : Sized s) (w : well
       same = λ m h r.
           let e : h .replica .epoch ≡ own = ap (λ (v : ShardReplica). v .epoch) r ∙ own-epoch own m s in
           let b : eqb epoch (h .replica .epoch) ≡ false = ne-eqb epoch (h .replica .epoch) (λ p. n (p ∙ e)) in
-          rw (some-entry, b) (ap (λ (n : ℕ). gives {S = Held} (replied (replyStale n)) (withReplica h (replicaOf own m s))) (q ∙ sym e)
+          rw (some-entry, b) (ap (λ (n : ℕ). gives {S = Held} (replied (replyStale n)) (withReplica h (replicaIn own m s))) (q ∙ sym e)
           ∙ ap (λ (v : ShardReplica). gives {S = Held} (replied (replyStale (h .replica .epoch))) (withReplica h v)) (sym r));
       kept = λ t. refl;
       well = w;
@@ -158,13 +158,13 @@ module _ (own epoch : ℕ) (es : List Entry) (s : Store) (z : Sized s) (w : well
     }
 
     module _ (p : epoch ≡ own) where
-      pub copies-full : ((m : Metric) → 1024 < lastOffset (storeAll (replicaOf own m s) own es)) → Copies own epoch es s s Full
+      pub copies-full : ((m : Metric) → 1024 < lastOffset (storeAll (replicaIn own m s) own es)) → Copies own epoch es s s Full
       unfolding copyHeld
       copies-full f = record {
         same = λ m h r.
             let e : h .replica .epoch ≡ own = ap (λ (v : ShardReplica). v .epoch) r ∙ own-epoch own m s in
             let b : eqb epoch (h .replica .epoch) ≡ true = eq-eqb epoch (h .replica .epoch) (p ∙ sym e) in
-            let k : storeAll (h .replica) epoch es ≡ storeAll (replicaOf own m s) own es = ap (λ (v : ShardReplica). storeAll v epoch es) r ∙ ap (λ (x : ℕ). storeAll (replicaOf own m s) x es) p in
+            let k : storeAll (h .replica) epoch es ≡ storeAll (replicaIn own m s) own es = ap (λ (v : ShardReplica). storeAll v epoch es) r ∙ ap (λ (x : ℕ). storeAll (replicaIn own m s) x es) p in
             let o : overfull (storeAll (h .replica) epoch es) ≡ true = lt-ltb 1024 (lastOffset (storeAll (h .replica) epoch es)) (rw k (f m)) in
             rw (some-entry, b, o) (ap (λ (v : ShardReplica). gives {S = Held} (backupRefused noRoom) (withReplica h v)) (sym r));
         kept = λ t. refl;
@@ -173,17 +173,17 @@ module _ (own epoch : ℕ) (es : List Entry) (s : Store) (z : Sized s) (w : well
         spares = spares-none s;
       }
 
-      pub copies-all : (t : Store) → StoresAll own es s t → (n : ℕ) → ((m : Metric) → n ≡ lastOffset (storeAll (replicaOf own m s) own es)) → n ≤ 1024
+      pub copies-all : (t : Store) → StoresAll own es s t → (n : ℕ) → ((m : Metric) → n ≡ lastOffset (storeAll (replicaIn own m s) own es)) → n ≤ 1024
           → (o : Offset) → o .0 ≡ n → Copies own epoch es s t (Through o)
       unfolding copyHeld
       copies-all t d n l most o q = record {
         same = λ m h r.
             let e : h .replica .epoch ≡ own = ap (λ (v : ShardReplica). v .epoch) r ∙ own-epoch own m s in
             let b : eqb epoch (h .replica .epoch) ≡ true = eq-eqb epoch (h .replica .epoch) (p ∙ sym e) in
-            let k : storeAll (h .replica) epoch es ≡ replicaOf own m t = ap (λ (v : ShardReplica). storeAll v epoch es) r ∙ ap (λ (x : ℕ). storeAll (replicaOf own m s) x es) p ∙ sym (d .replica m) in
-            let j : n ≡ lastOffset (replicaOf own m t) = l m ∙ ap lastOffset (sym (d .replica m)) in
-            let v : overfull (replicaOf own m t) ≡ false = le-ltb 1024 (lastOffset (replicaOf own m t)) (omega arith) in
-            rw (some-entry, b, k, v) (ap (λ (x : ℕ). gives {S = Held} (replied (replyStored x)) (withReplica h (replicaOf own m t))) (q ∙ j));
+            let k : storeAll (h .replica) epoch es ≡ replicaIn own m t = ap (λ (v : ShardReplica). storeAll v epoch es) r ∙ ap (λ (x : ℕ). storeAll (replicaIn own m s) x es) p ∙ sym (d .replica m) in
+            let j : n ≡ lastOffset (replicaIn own m t) = l m ∙ ap lastOffset (sym (d .replica m)) in
+            let v : overfull (replicaIn own m t) ≡ false = le-ltb 1024 (lastOffset (replicaIn own m t)) (omega arith) in
+            rw (some-entry, b, k, v) (ap (λ (x : ℕ). gives {S = Held} (replied (replyStored x)) (withReplica h (replicaIn own m t))) (q ∙ j));
         kept = λ c. absurd-kept c;
         well = d .well;
         sized = d .sized;

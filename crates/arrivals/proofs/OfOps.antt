@@ -9,7 +9,7 @@ use native.Mathlib.Numerals.{add-one}
 use borrow.Author.Tests.{le-leb}
 use Rattle.model.specs.Lists.{every}
 use Rattle.model.specs.Layout.Parts.{wireUpsert, wireDelete}
-use Rattle.model.specs.Node.Wire.{vectorInDomain, storedOp}
+use Rattle.model.specs.Node.Wire.{patternsInDomain, storedOp}
 use Rattle.shard.specs.View.{opFrom}
 use Rattle.rpc.specs.declared.Part.{Part}
 use Rattle.arrivals.specs.Parts.{bitsIn, VectorThere}
@@ -32,7 +32,7 @@ column-end l out n i e h q =
 
 pub reads-upsert : (s : List ℕ) (id : ℕ) (v : Part) (bits : List ℕ) → VectorThere s v → length bits ≡ 32 → take (v .len) bits ≡ bitsIn s v
     → Reads (wireUpsert id (bitsIn s v)) (record { code = 1; id = id; n = v .len }) bits
-unfolding opFrom storedOp vectorInDomain
+unfolding opFrom storedOp patternsInDomain
 reads-upsert s id v bits h z e = record {
   op = ap (λ (b : List ℕ). opFrom 1 id b) e;
   storable = λ d. record {

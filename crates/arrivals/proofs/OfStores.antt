@@ -14,7 +14,7 @@ use Rattle.model.specs.declared.Metric.the-variants.{Euclidean}
 use Rattle.model.proofs.Lists.{not-both, and-left, and-right}
 use Rattle.model.proofs.LayoutLaws.Tests.{and-true, and-false}
 use Rattle.model.proofs.Log.Store.{push-length, store-cases}
-use Rattle.shard.specs.Store.{Store, Sized, Arrived, replicaOf, wellFormedStore}
+use Rattle.shard.specs.Store.{Store, Sized, Arrived, replicaIn, wellFormedStore}
 use Rattle.shard.specs.declared.replica.Outcome.{Outcome}
 use Rattle.shard.specs.declared.replica.Outcome.the-variants.{Through, Gap, Stale, Full}
 use Rattle.shard.proofs.Columns.{log-length}
@@ -23,12 +23,12 @@ use Rattle.model.specs.declared.Epoch.{Epoch}
 use Rattle.arrivals.specs.Arrivals.{turnedDown, Arrives}
 
 -- a replica's log is as long as its store says
-pub last-is : (e : ℕ) (m : Metric) (s : Store) → lastOffset (replicaOf e m s) ≡ s .count
-unfolding replicaOf
+pub last-is : (e : ℕ) (m : Metric) (s : Store) → lastOffset (replicaIn e m s) ≡ s .count
+unfolding replicaIn
 last-is e m s = log-length (s .columns) (s .count)
 
-pub own-epoch : (e : ℕ) (m : Metric) (s : Store) → replicaOf e m s .epoch ≡ e
-unfolding replicaOf
+pub own-epoch : (e : ℕ) (m : Metric) (s : Store) → replicaIn e m s .epoch ≡ e
+unfolding replicaIn
 own-epoch e m s = refl
 
 -- both of two tests, taken one after the other
@@ -88,21 +88,21 @@ module _ (own epoch : ℕ) (e : Entry) (s : Store) (z : Sized s) (w : wellFormed
       by-test′ false h = let n = eqb-false (s .count) 1024 h in omega (arith, n, count-most s w)
 
   module _ (t : Store) (p : epoch ≡ own) (o : eqb (s .count) 1024 and eqb (e .offset) 1025 ≡ false) where
-    not-over : overfull (store (replicaOf own Euclidean s) epoch e .replica) ≡ false
+    not-over : overfull (store (replicaIn own Euclidean s) epoch e .replica) ≡ false
     not-over =
         let l = last-is own Euclidean s in
-        has-room (replicaOf own Euclidean s) epoch e (let m = count-most s w in omega arith)
+        has-room (replicaIn own Euclidean s) epoch e (let m = count-most s w in omega arith)
         (λ q. let f = free o (omega arith) in omega arith)
 
     kept-by : (a : Outcome) → Arrived own epoch e s t a → turnedDown a ≡ true → t ≡ s
     kept-by (Through x) d e′ = not-both false e′ refl
     kept-by (Gap x) d e′ = not-both false e′ refl
     kept-by (Stale x) d e′ =
-        absurd (not-stale (replicaOf own Euclidean s) epoch e (x .0) (p ∙ sym (own-epoch own Euclidean s)) (d .answer Euclidean))
+        absurd (not-stale (replicaIn own Euclidean s) epoch e (x .0) (p ∙ sym (own-epoch own Euclidean s)) (d .answer Euclidean))
     kept-by Full d e′ =
         let r = d .answer Euclidean in
-        let q : none ≡ some (store (replicaOf own Euclidean s) epoch e .answer) =
-        r ∙ ap (λ (b : Bool). cond b none (some (store (replicaOf own Euclidean s) epoch e .answer))) not-over in
+        let q : none ≡ some (store (replicaIn own Euclidean s) epoch e .answer) =
+        r ∙ ap (λ (b : Bool). cond b none (some (store (replicaIn own Euclidean s) epoch e .answer))) not-over in
         let z : _≡_ {A = ℕ} 0 1 = cc in absurd (omega arith)
 
     pub arrives-stored : (a : Outcome) → Arrived own epoch e s t a → Arrives own epoch e s t a

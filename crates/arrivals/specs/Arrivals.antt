@@ -15,7 +15,7 @@ use Rattle.model.specs.Node.Shards.{gives, withReplica}
 use Rattle.model.specs.Node.Backup.{BackupAnswer, replied, backupRefused, copyHeld}
 use Rattle.model.specs.declared.Metric.{Metric}
 use Rattle.shard.specs.View.{opFrom}
-use Rattle.shard.specs.Store.{Store, Sized, Storable, Spares, Arrived, replicaOf, wellFormedStore}
+use Rattle.shard.specs.Store.{Store, Sized, Storable, Spares, Arrived, replicaIn, wellFormedStore}
 use Rattle.shard.specs.declared.replica.Outcome.{Outcome}
 use Rattle.shard.specs.declared.replica.Outcome.the-variants.{Through, Gap, Stale, Full}
 use Rattle.arrivals.specs.declared.ops.OpRead.{OpRead}
@@ -41,11 +41,11 @@ pub record Arrives (own epoch : ℕ) (e : Entry) (s t : Store) (a : Outcome) : T
 
 -- a log with room for a batch, stored at the own epoch
 abbrev pub HasRoom : (own : ℕ) → List Entry → Store → Type 0
-HasRoom own es s = (m : Metric) → lastOffset (storeAll (replicaOf own m s) own es) ≤ maxEntries
+HasRoom own es s = (m : Metric) → lastOffset (storeAll (replicaIn own m s) own es) ≤ maxEntries
 
 -- a batch stored whole at the own epoch
 pub record StoresAll (own : ℕ) (es : List Entry) (s t : Store) : Type 0 where
-  pub replica : (m : Metric) → replicaOf own m t ≡ storeAll (replicaOf own m s) own es
+  pub replica : (m : Metric) → replicaIn own m t ≡ storeAll (replicaIn own m s) own es
   pub well : wellFormedStore t ≡ true
   pub sized : Sized t
   pub spares : Spares s t
@@ -59,8 +59,8 @@ answerAs Full = backupRefused noRoom
 
 -- 'Who is turned down', CopyShard, whatever shard has this replica
 pub record Copies (own epoch : ℕ) (es : List Entry) (s t : Store) (a : Outcome) : Type 0 where
-  pub same : (m : Metric) (h : Held) → h .replica ≡ replicaOf own m s
-      → gives (answerAs a) (withReplica h (replicaOf own m t)) ≡ copyHeld epoch es h
+  pub same : (m : Metric) (h : Held) → h .replica ≡ replicaIn own m s
+      → gives (answerAs a) (withReplica h (replicaIn own m t)) ≡ copyHeld epoch es h
   pub kept : turnedDown a ≡ true → t ≡ s
   pub well : wellFormedStore t ≡ true
   pub sized : Sized t

@@ -28,7 +28,7 @@ use Rattle.rpc.specs.declared.ReplicatePart.{ReplicatePart}
 use Rattle.rpc.specs.declared.CopyPart.{CopyPart}
 use Rattle.rpc.specs.declared.NewEpochPart.{NewEpochPart}
 use Rattle.shard.specs.View.{Columns}
-use Rattle.shard.specs.Store.{Store, lent, Sized, Arrived, answerOf, storeLog, storeRows, replicaOf, wellFormedStore}
+use Rattle.shard.specs.Store.{Store, lent, Sized, Arrived, answerOf, storeLog, storeRows, replicaIn, wellFormedStore}
 use Rattle.shard.specs.Table.{vectorsOf}
 use Rattle.shard.specs.Align.{Aligned}
 use Rattle.shard.specs.declared.replica.Outcome.{Outcome}
@@ -60,13 +60,13 @@ withLast h n = record {
 }
 
 -- a shard's replica is its store's
-view-replica : (k : Key) (h : Held) (s : Store) → viewStored k h s .replica ≡ replicaOf (h .epoch .0) (h .metric) s
-unfolding replicaOf
+view-replica : (k : Key) (h : Held) (s : Store) → viewStored k h s .replica ≡ replicaIn (h .epoch .0) (h .metric) s
+unfolding replicaIn
 view-replica k h s = refl
 
 view-with : (k : Key) (h : Held) (s t : Store) (n : ℕ)
-    → viewStored k (withLast h n) t ≡ withReplica (viewStored k h s) (replicaOf (h .epoch .0) (h .metric) t)
-unfolding replicaOf
+    → viewStored k (withLast h n) t ≡ withReplica (viewStored k h s) (replicaIn (h .epoch .0) (h .metric) t)
+unfolding replicaIn
 view-with k h s t n = refl
 
 -- ---- Replicate and CopyShard
@@ -89,8 +89,8 @@ turned-as A.NoRoom Full e d = refl
 backs : (call : held.Held → Result BackupAnswer held.Held) (h : Held) (s t : Store) (n : ℕ) (a : Answer) (o : Outcome) (stored : ℕ)
     → s .count ≡ h .last → t .count ≡ n → answered a ≡ answerAs o → (arrivals.turnedDown o ≡ true → t ≡ s)
     → wellFormedStore t ≡ true → Sized t
-    → ((x : held.Held) → x .replica ≡ replicaOf (h .epoch .0) (h .metric) s
-    → gives (answerAs o) (withReplica x (replicaOf (h .epoch .0) (h .metric) t)) ≡ call x)
+    → ((x : held.Held) → x .replica ≡ replicaIn (h .epoch .0) (h .metric) s
+    → gives (answerAs o) (withReplica x (replicaIn (h .epoch .0) (h .metric) t)) ≡ call x)
     → Backs call h s t (record { answer = a; stored = stored; held = withLast h n })
 backs call h s t n a o stored c l e kept w z f = record {
   same = λ k.
@@ -131,16 +131,16 @@ stored-by o x r v false e q =
 
 replicated-by : (own epoch offset : ℕ) (op : Op) (m : Metric) (s t : Store) (o : Outcome)
     → Arrived own epoch (record { epoch = epoch; offset = offset; op = op }) s t o
-    → (x : held.Held) → x .replica ≡ replicaOf own m s
-    → gives (answerAs o) (withReplica x (replicaOf own m t)) ≡ replicateHeld epoch offset op x
+    → (x : held.Held) → x .replica ≡ replicaIn own m s
+    → gives (answerAs o) (withReplica x (replicaIn own m t)) ≡ replicateHeld epoch offset op x
 unfolding replicateHeld
 replicated-by own epoch offset op m s t o d x e =
     let entry : Entry = record { epoch = epoch; offset = offset; op = op } in
     let v = store (x .replica) epoch entry in
-    let q : v ≡ store (replicaOf own m s) epoch entry = ap (λ (r : ShardReplica). store r epoch entry) e in
-    stored-by o x (replicaOf own m t) v (overfull (v .replica))
+    let q : v ≡ store (replicaIn own m s) epoch entry = ap (λ (r : ShardReplica). store r epoch entry) e in
+    stored-by o x (replicaIn own m t) v (overfull (v .replica))
     (d .answer m ∙ ap (λ (y : StoreResult). cond (overfull (y .replica)) none (some (y .answer))) (sym q))
-    (d .replica m ∙ ap (λ (y : StoreResult). cond (overfull (y .replica)) (replicaOf own m s) (y .replica)) (sym q)
+    (d .replica m ∙ ap (λ (y : StoreResult). cond (overfull (y .replica)) (replicaIn own m s) (y .replica)) (sym q)
     ∙ ap (λ (r : ShardReplica). cond (overfull (v .replica)) r (v .replica)) (sym e))
 
 module _ (h : Held) (s t : Store) (n : ℕ) (a : Answer) (o : Outcome) (stored : ℕ)
@@ -191,17 +191,17 @@ module _ (h : Held) (s : Store) (epoch end : ℕ) (t : List End) (d : TakesEpoch
   pub backs-taken : (s′ : Store) (a : Adoption) (r : Held) (kept : Offset) (stored : ℕ) → Aligned (h .epoch .0) epoch end t s s′ a
       → s′ .count ≡ kept .0 → Realigns h epoch (kept .0) r
       → Backs (newEpochHeld epoch end t) h s s′ (record { answer = A.Adopted kept; stored = stored; held = r })
-  unfolding replicaOf
+  unfolding replicaIn
   backs-taken s′ a r kept stored al c re = record {
     same = λ k.
         let own = h .epoch .0 in
         let m = h .metric in
-        let q : replicaOf epoch m s′ ≡ adopted (replicaOf own m s) epoch end t =
-        ap (λ (b : Bool). replicaOf (cond b own epoch) m s′) (sym not-older) ∙ al .replica m
-        ∙ ap (λ (b : Bool). cond b (replicaOf own m s) (adopted (replicaOf own m s) epoch end t)) not-older in
-        let n : kept .0 ≡ lastOffset (adopted (replicaOf own m s) epoch end t) = sym c ∙ sym (last-is epoch m s′) ∙ ap lastOffset q in
+        let q : replicaIn epoch m s′ ≡ adopted (replicaIn own m s) epoch end t =
+        ap (λ (b : Bool). replicaIn (cond b own epoch) m s′) (sym not-older) ∙ al .replica m
+        ∙ ap (λ (b : Bool). cond b (replicaIn own m s) (adopted (replicaIn own m s) epoch end t)) not-older in
+        let n : kept .0 ≡ lastOffset (adopted (replicaIn own m s) epoch end t) = sym c ∙ sym (last-is epoch m s′) ∙ ap lastOffset q in
         ap (λ (x : ℕ). gives {S = held.Held} (replied (replyAdopted x)) (viewStored k r s′)) n
-        ∙ ap (λ (x : held.Held). gives {S = held.Held} (replied (replyAdopted (lastOffset (adopted (replicaOf own m s) epoch end t)))) x)
+        ∙ ap (λ (x : held.Held). gives {S = held.Held} (replied (replyAdopted (lastOffset (adopted (replicaIn own m s) epoch end t)))) x)
         (re .same k (storeLog s) (storeLog s′) (vectorsOf (storeLog s) (storeRows s)) (vectorsOf (storeLog s′) (storeRows s′))
         ∙ ap (λ (v : ShardReplica). demoted (withReplica (viewStored k h s) v)) q)
         ∙ sym (d k (storeLog s) (vectorsOf (storeLog s) (storeRows s)) end t);

@@ -9,7 +9,7 @@ use borrow.Author.Tests.{le-leb, lt-leb}
 use Rattle.model.specs.Lists.{_and_}
 use Rattle.model.specs.Keys.{Key}
 use Rattle.model.specs.Layout.Message.{Query, decodeSearch}
-use Rattle.model.specs.Node.Wire.{vectorInDomain}
+use Rattle.model.specs.Node.Wire.{patternsInDomain}
 use Rattle.model.specs.Node.Calls.{lateTime}
 use Rattle.model.proofs.Lists.{not-both, none-some}
 use Rattle.rpc.specs.declared.SearchPart.{SearchPart}
@@ -73,9 +73,9 @@ module _ (h s c : List ℕ) (clock : ℕ) (m o a : List ℕ) where
         query = λ z v q. f v q;
       }
 
-      module _ (t : Bool) (tested : t ≡ vectorInDomain (bitsIn m (p .vector))) where
-        tells : (v : Query) → decodeSearch m ≡ some v → t ≡ vectorInDomain (v .bits)
-        tells v q = tested ∙ ap vectorInDomain (search-bits m p i v q)
+      module _ (t : Bool) (tested : t ≡ patternsInDomain (bitsIn m (p .vector))) where
+        tells : (v : Query) → decodeSearch m ≡ some v → t ≡ patternsInDomain (v .bits)
+        tells v q = tested ∙ ap patternsInDomain (search-bits m p i v q)
 
         pub bytes-outside : t ≡ false → SearchesBytes h s c clock m o a (ended 22 o a)
         bytes-outside e = by-query (ended 22 o a) (λ v q.

@@ -8,7 +8,7 @@ use mathlib.Core.Option.{none, some}
 use Rattle.model.specs.Lists.{_and_}
 use Rattle.model.specs.Keys.{Key}
 use Rattle.model.specs.Layout.Message.{Query, decodeSearch}
-use Rattle.model.specs.Node.Wire.{vectorInDomain}
+use Rattle.model.specs.Node.Wire.{patternsInDomain}
 use Rattle.model.specs.Node.Calls.{lateTime}
 use Rattle.headerimage.specs.Image.{nodeAt}
 use Rattle.lentimage.specs.Lent.{lendsState, lotIn}
@@ -26,9 +26,9 @@ pub record SearchesShard (h s : List ℕ) (key : Key) (clock : ℕ) (m hits answ
 
 -- past 21, for what the bytes m were read as
 pub record SearchesQuery (h s c : List ℕ) (clock : ℕ) (m hits answer : List ℕ) (v : Query) (e : SearchEnded) : Type 0 where
-  pub outside : vectorInDomain (v .bits) ≡ false → e ≡ ended 22 hits answer
-  pub unlent : vectorInDomain (v .bits) ≡ true → lendsCall c h s (v .key) ≡ false → e ≡ ended 24 hits answer
-  pub lent : vectorInDomain (v .bits) ≡ true → lendsCall c h s (v .key) ≡ true
+  pub outside : patternsInDomain (v .bits) ≡ false → e ≡ ended 22 hits answer
+  pub unlent : patternsInDomain (v .bits) ≡ true → lendsCall c h s (v .key) ≡ false → e ≡ ended 24 hits answer
+  pub lent : patternsInDomain (v .bits) ≡ true → lendsCall c h s (v .key) ≡ true
       → SearchServed (nodeAt h) (lotIn s (nodeAt h) (v .key)) m clock hits answer e
 
 -- h, s and c the header, the stores and the count of refused calls

@@ -16,7 +16,7 @@ use Rattle.model.specs.Nearest.Search.{hits}
 use Rattle.model.specs.Node.Held as held
 use Rattle.model.specs.Node.Shards.{Result, leadsAt}
 use Rattle.model.specs.Node.Lease.{leased}
-use Rattle.model.specs.Node.Wire.{vectorInDomain, floatsOf}
+use Rattle.model.specs.Node.Wire.{patternsInDomain, floatsOf}
 use Rattle.model.specs.Node.Client as client
 use Rattle.model.specs.Node.Calls as calls
 use Rattle.model.proofs.Lists.{by-test, none-some, some-same}
@@ -53,7 +53,7 @@ module _ (lent : Key → Bool) (n : held.Node) (clock most : ℕ) where
   unfolding client.onSearch
   of-fits none = tt
   of-fits (some v) =
-      by-test Fit (not (vectorInDomain (v .bits))) (λ e. tt)
+      by-test Fit (not (patternsInDomain (v .bits))) (λ e. tt)
       (λ e. by-test Fit (not (lent (v .key))) (λ f. tt)
       (λ f. at-cases n (v .key) (client.searchRefused unknownShard) (client.searchHeld (leased n clock) most (v .epoch) (v .k) (floatsOf (v .bits))) Fit
       (λ g. tt) (λ h g. held-fits (leased n clock) most (v .epoch) (v .k) (floatsOf (v .bits)) h)))

@@ -10,7 +10,7 @@ use lib.ListN.{length, getD, take, drop, set}
 use lib.Seq.{take-all}
 use Rattle.model.specs.Lists.{every}
 use Rattle.model.specs.Nearest.Order.{bitsInDomain}
-use Rattle.model.specs.Node.Wire.{floatOf, floatsOf, vectorInDomain}
+use Rattle.model.specs.Node.Wire.{floatOf, floatsOf, patternsInDomain}
 use Rattle.model.specs.Node.WellFormed.{component, wellFormedVector}
 use Rattle.model.proofs.Lists.{not-both}
 use Rattle.shard.proofs.Bits.{floats-length, write-on}
@@ -27,8 +27,8 @@ components-as (b ∷ bs) =
     ∙ ap (λ (x : Bool). cond (bitsInDomain b) x false) (components-as bs)
 
 -- of 1 to 32 bits, the test of the bits is that of the floats
-pub query-formed : (bits : List ℕ) → 1 ≤ length bits → length bits ≤ 32 → wellFormedVector (floatsOf bits) ≡ vectorInDomain bits
-unfolding vectorInDomain
+pub query-formed : (bits : List ℕ) → 1 ≤ length bits → length bits ≤ 32 → wellFormedVector (floatsOf bits) ≡ patternsInDomain bits
+unfolding patternsInDomain
 query-formed bits h k =
     let e = floats-length bits in
     query-start (floatsOf bits) (λ z. omega arith) (omega arith) ∙ components-as bits
@@ -38,7 +38,7 @@ query-formed bits h k =
 module _ (bits : List ℕ) (n : ℕ) (size : length bits ≡ n) (out : List Float) (column : length out ≡ 32) (i : ℕ)
     (inv : every bitsInDomain (drop i bits) ≡ every bitsInDomain bits) where
   pub query-out : i < n → bitsInDomain (getD bits i 0) ≡ false → ReadsQuery bits false n out
-  unfolding vectorInDomain
+  unfolding patternsInDomain
   query-out h e = record {
     tested = sym (sym inv ∙ every-stop bitsInDomain bits i 0 e (omega arith));
     column = column;
@@ -54,7 +54,7 @@ module _ (bits : List ℕ) (n : ℕ) (size : length bits ≡ n) (out : List Floa
         ap (λ (x : ℕ). take (i + 1) (set out i (floatOf x))) (sym e) ∙ write-on out bits i (omega arith) (omega arith) written
 
     pub query-all : i ≡ n → ReadsQuery bits true n out
-    unfolding vectorInDomain
+    unfolding patternsInDomain
     query-all e =
         let l = floats-length bits in
         record {

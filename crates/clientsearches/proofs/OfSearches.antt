@@ -14,7 +14,7 @@ use Rattle.model.specs.Refusals.{unknownShard, notPrimary, noLease, tooFewInSyn
 use Rattle.model.specs.Layout.Message as message
 use Rattle.model.specs.Node.Held as held
 use Rattle.model.specs.Node.Shards.{Result}
-use Rattle.model.specs.Node.Wire.{vectorInDomain, floatsOf}
+use Rattle.model.specs.Node.Wire.{patternsInDomain, floatsOf}
 use Rattle.model.specs.Node.WellFormed.{wellFormedVector}
 use Rattle.model.specs.Node.Client as client
 use Rattle.model.specs.Node.Refused.{counted, countSearch, searchTurnedDown}
@@ -75,7 +75,7 @@ module _ (n : Node) (a : Lot) (m : List ℕ) (clock : ℕ) (o : Output) where
           (record { answer = refl; output = refl })
 
       module _ (e : b ≡ true) where
-        inside : vectorInDomain (bitsIn m (p .vector)) ≡ true
+        inside : patternsInDomain (bitsIn m (p .vector)) ≡ true
         inside = sym (reads .tested) ∙ e
 
         pub message-query : wellFormedVector (take (p .vector .len) column) ≡ true

@@ -5,10 +5,10 @@ use mathlib.Core.Bool.{Bool, true}
 use mathlib.Core.List.{List}
 use lib.Ieee.{Float}
 use lib.ListN.{length, take}
-use Rattle.model.specs.Node.Wire.{vectorInDomain, floatsOf}
+use Rattle.model.specs.Node.Wire.{patternsInDomain, floatsOf}
 
 -- the domain test of the bits; where it passes, the first n places of the column are their floats. Where not, the column is free
 pub record ReadsQuery (bits : List ℕ) (r : Bool) (n : ℕ) (out : List Float) : Type 0 where
-  pub tested : r ≡ vectorInDomain bits
+  pub tested : r ≡ patternsInDomain bits
   pub column : length out ≡ 32
   pub floats : r ≡ true → take n out ≡ floatsOf bits

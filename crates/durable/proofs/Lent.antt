@@ -15,7 +15,7 @@ use Rattle.model.specs.Limits.{maxHeld, minFloats}
 use Rattle.model.specs.Keys.{Key}
 use Rattle.model.specs.Map.WellFormed.{wellFormedMap}
 use Rattle.model.specs.Node.Held as held
-use Rattle.model.specs.Node.Shards.{ofKey, shardOf}
+use Rattle.model.specs.Node.Shards.{ofKey, heldShard}
 use Rattle.model.specs.Node.WellFormed.{wellFormedHeader, wellFormedLog, logIfHeld, wellFormedLent}
 use Rattle.model.proofs.Lists.{and-true, and-left, and-right}
 use Rattle.model.proofs.Node.Logs.{formed-log}
@@ -23,7 +23,7 @@ use Rattle.state.specs.Names.{viewKey}
 use Rattle.state.specs.View.{viewMap}
 use Rattle.state.specs.declared.ShardMap.{ShardMap}
 use Rattle.mapcheck.specs.Lent as maps
-use Rattle.shard.specs.Store.{replicaOf}
+use Rattle.shard.specs.Store.{replicaIn}
 use Rattle.shard.proofs.Facts.{facts, store-in-step}
 use Rattle.replica.proofs.OfFits.{fits-well}
 use Rattle.writes.specs.Writes.{viewStored}
@@ -66,11 +66,11 @@ find-lead v p d (x ∷ xs) =
 
 -- a store that passes is a log that is well formed
 stored-well : (k : Key) (x : Kept) (a : Lot) → keptStore a x ≡ true → wellFormedLog (viewStored k (x .held) (storeOf a x) .replica) ≡ true
-unfolding keptStore replicaOf
+unfolding keptStore replicaIn
 stored-well k x a e =
     let s = storeOf a x in
     let f = facts s (fits-well s e) in
-    formed-log (replicaOf (x .held .epoch .0) (x .held .metric) s)
+    formed-log (replicaIn (x .held .epoch .0) (x .held .metric) s)
     (record { numbered = f .numbered; entries = f .entries; played = store-in-step s f (x .held .epoch .0) (x .held .metric) })
 
 module _ (s : Stores) (slot : ℕ) (a : Lot) (n : Node) (k : Key) (l : Lends s slot a) (own : slot ≡ slotOf n k) where
@@ -86,8 +86,8 @@ module _ (s : Stores) (slot : ℕ) (a : Lot) (n : Node) (k : Key) (l : Lends s s
       (sym (ap (viewKept s) (getD-take (n .count) (n .held) at noKept under) ∙ lends-view s slot a l x (sym (own ∙ slot-held n k at refl under))))
       (stored-well (viewKey (x .key)) x a stored)
 
-  log-well : lentAt n a (placeOf n k) ≡ true → logIfHeld (shardOf (viewNode s n) k) ≡ true
-  unfolding shardOf
+  log-well : lentAt n a (placeOf n k) ≡ true → logIfHeld (heldShard (viewNode s n) k) ≡ true
+  unfolding heldShard
   log-well e =
       ⊎-elim (λ q. rw q) (λ q. rw (q .1) (held-well e (q .0)))
       (find-lead (viewKept s) (ofKey k) noKept (used n))
@@ -95,6 +95,6 @@ module _ (s : Stores) (slot : ℕ) (a : Lot) (n : Node) (k : Key) (l : Lends s s
   pub lent-well : lentFor s n a k ≡ true → wellFormedLent (viewNode s n) k ≡ true
   unfolding lentFor wellFormedLent
   lent-well e =
-      and-true (wellFormedHeader (viewNode s n)) (logIfHeld (shardOf (viewNode s n) k))
+      and-true (wellFormedHeader (viewNode s n)) (logIfHeld (heldShard (viewNode s n) k))
       (header-well s n (and-left (lentNode s n) (lentAt n a (placeOf n k)) e))
       (log-well (and-right (lentNode s n) (lentAt n a (placeOf n k)) e))

@@ -12,7 +12,7 @@ use Rattle.model.specs.Map.WellFormed.{wellFormedMap}
 use Rattle.model.specs.Layout.Message as message
 use Rattle.model.specs.Node.Held as held
 use Rattle.model.specs.Node.Shards.{Result, gives}
-use Rattle.model.specs.Node.Wire.{opInDomain, vectorInDomain, entryInDomain, storedOp, storedEntry, floatsOf}
+use Rattle.model.specs.Node.Wire.{opInDomain, patternsInDomain, entryInDomain, storedOp, storedEntry, floatsOf}
 use Rattle.model.specs.Node.Lease.{granted, grantRefused, grant}
 use Rattle.model.specs.Node.Client.{writeRefused, onWrite, searchRefused, onSearch, waitRefused, onWait}
 use Rattle.model.specs.Node.Backup.{backupRefused, onReplicate, onNewEpoch, onCopy}
@@ -175,7 +175,7 @@ module _ (v : held.Node) (t : Key → Bool) (m : List ℕ) where
       go : (o : Option message.Query) → message.decodeSearch m ≡ o → As searchRefused v (searchOf t v now room o) (searchOf (wellFormedLent v) v now room o)
       go none e = same refl
       go (some z) e =
-          checked searchRefused v (not (vectorInDomain (z .bits))) outsideDomain (t (z .key)) (wellFormedLent v (z .key))
+          checked searchRefused v (not (patternsInDomain (z .bits))) outsideDomain (t (z .key)) (wellFormedLent v (z .key))
           (onSearch v now room (z .key) (z .epoch) (z .k) (floatsOf (z .bits))) (h z e)
 
       late : (b : Bool)

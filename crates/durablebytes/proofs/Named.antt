@@ -12,7 +12,7 @@ use Rattle.model.specs.Keys.{Key}
 use Rattle.model.specs.Lists.{_or_, find, every, collect}
 use Rattle.model.specs.Layout.Format.{Bytes, All, numberAt, concatMap}
 use Rattle.model.specs.Node.Held as held
-use Rattle.model.specs.Node.Shards.{Result, ofKey, atFound, atShard, shardOf, leadsAt}
+use Rattle.model.specs.Node.Shards.{Result, ofKey, atFound, atShard, heldShard, leadsAt}
 use Rattle.model.specs.Node.Client.{WaitAnswer, done, waiting, waitRefused, toShrink, nodeOf, hasAcked, waitHeld, onWait}
 use Rattle.model.specs.Node.Calls.{lateTime, waitWith}
 use Rattle.model.specs.Refusals.{unknownShard}
@@ -89,8 +89,8 @@ module _ (h : List ℕ) (bytes : Bytes h) where
       (all-padded KeptRows 8 noKept no-rows (items u (keptAt h) 1280 48) (all-items KeptRows u (keptAt h) 1280 48 kept-rows))
 
   -- .. and of the shards that it holds
-  shard-rows : (st : Stores) (k : Key) (g : held.Held) → shardOf (viewNode st (nodeAt h)) k ≡ some g → Rows (g .peers)
-  unfolding shardOf
+  shard-rows : (st : Stores) (k : Key) (g : held.Held) → heldShard (viewNode st (nodeAt h)) k ≡ some g → Rows (g .peers)
+  unfolding heldShard
   shard-rows st k g e =
       let n = nodeAt h in
       all-find (λ (x : held.Held). Rows (x .peers)) (ofKey k) (viewNode st n .held) g
@@ -140,9 +140,9 @@ pub wait-ids : (h : List ℕ) → Bytes h → (st : Stores) (b : Bool) (now time
 unfolding waitWith onWait atShard
 wait-ids h bytes st b now timeout k epoch offset =
     by-test (λ (z : Result WaitAnswer held.Node). Answer (z .answer)) (lateTime now or lateTime timeout) (λ e. tt)
-    (λ e. by-test (λ (z : Result WaitAnswer held.Node). Answer (z .answer)) (not b) (λ e. tt) (λ e. at (shardOf (viewNode st (nodeAt h)) k) refl))
+    (λ e. by-test (λ (z : Result WaitAnswer held.Node). Answer (z .answer)) (not b) (λ e. tt) (λ e. at (heldShard (viewNode st (nodeAt h)) k) refl))
   where
-    at : (o : Option held.Held) → shardOf (viewNode st (nodeAt h)) k ≡ o
+    at : (o : Option held.Held) → heldShard (viewNode st (nodeAt h)) k ≡ o
         → Answer (atFound (viewNode st (nodeAt h)) k (waitRefused unknownShard) (waitHeld now timeout epoch offset) o .answer)
     at none e = tt
     at (some g) e = held-ids now timeout epoch offset g (shard-rows h bytes st k g e)

@@ -17,7 +17,7 @@ use Rattle.model.specs.Refusals.{Refusal, unknownShard, notPrimary, noLease, to
 use Rattle.model.specs.Layout.Format.{Bytes}
 use Rattle.model.specs.Layout.Message.{Write, decodeWrite}
 use Rattle.model.specs.Node.Held as held
-use Rattle.model.specs.Node.Shards.{Result, atFound, atShard, shardOf, leadsAt}
+use Rattle.model.specs.Node.Shards.{Result, atFound, atShard, heldShard, leadsAt}
 use Rattle.model.specs.Node.Lease.{leased}
 use Rattle.model.specs.Node.Wire.{opInDomain, storedOp}
 use Rattle.model.specs.Node.Client.{WriteAnswer, accepted, writeRefused, ackCount, overfull, writeHeld, onWrite}
@@ -79,7 +79,7 @@ write-small t v now least m = by-test SmallIn (lateTime now) (λ e. tt) (λ e. o
     of none = tt
     of (some w) =
         by-test SmallIn (not (opInDomain (w .op))) (λ e. tt)
-        (λ e. by-test SmallIn (not (t (w .key))) (λ e. tt) (λ e. at w (shardOf v (w .key))))
+        (λ e. by-test SmallIn (not (t (w .key))) (λ e. tt) (λ e. at w (heldShard v (w .key))))
 
 -- ---- the answer by its word
 

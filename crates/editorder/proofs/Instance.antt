@@ -20,7 +20,7 @@ use Rattle.shard.specs.View as view
 use Rattle.shard.specs.Table as table
 use Rattle.shard.specs.Store as store
 use Rattle.shard.specs.View.{columns}
-use Rattle.shard.specs.Store.{Store, lent, replicaOf}
+use Rattle.shard.specs.Store.{Store, lent, replicaIn}
 use Rattle.replica.specs.Fits as test
 use Rattle.replica.specs.Fits.{lentFits}
 use Rattle.replica.specs.Calls.{Calls, appendLent}
@@ -138,8 +138,8 @@ after-z-y-fits = refl
 abbrev done : ℕ → ℕ → Done
 done count stored = record { answer = A.Appended (record { 0 = count }); epoch = record { 0 = 1 }; count = count; stored = stored }
 
-left-call-x : (m : Metric) → replicaOf 1 m after-x ≡ append (replicaOf 1 m before) (sets 3)
-unfolding opened before after-x store.replicaOf view.logOf view.firsts view.entryOf view.opOf view.stretch table.rowsOf table.zipped table.vectorsOf table.vectorOf
+left-call-x : (m : Metric) → replicaIn 1 m after-x ≡ append (replicaIn 1 m before) (sets 3)
+unfolding opened before after-x store.replicaIn view.logOf view.firsts view.entryOf view.opOf view.stretch table.rowsOf table.zipped table.vectorsOf table.vectorOf
 left-call-x m = refl
 
 call-x : Appends x 1 before after-x (done 2 2)
@@ -152,8 +152,8 @@ call-x = record {
   fits = λ _. after-x-fits;
 }
 
-left-call-x-y : (m : Metric) → replicaOf 1 m after-x-y ≡ append (replicaOf 1 m after-x) (delete 5)
-unfolding opened after-x after-x-y store.replicaOf view.logOf view.firsts view.entryOf view.opOf view.stretch table.rowsOf table.zipped table.vectorsOf table.vectorOf
+left-call-x-y : (m : Metric) → replicaIn 1 m after-x-y ≡ append (replicaIn 1 m after-x) (delete 5)
+unfolding opened after-x after-x-y store.replicaIn view.logOf view.firsts view.entryOf view.opOf view.stretch table.rowsOf table.zipped table.vectorsOf table.vectorOf
 left-call-x-y m = refl
 
 call-x-y : Appends y 1 after-x after-x-y (done 3 1)
@@ -166,8 +166,8 @@ call-x-y = record {
   fits = λ _. after-x-y-fits;
 }
 
-left-call-y : (m : Metric) → replicaOf 1 m after-y ≡ append (replicaOf 1 m before) (delete 5)
-unfolding opened before after-y store.replicaOf view.logOf view.firsts view.entryOf view.opOf view.stretch table.rowsOf table.zipped table.vectorsOf table.vectorOf
+left-call-y : (m : Metric) → replicaIn 1 m after-y ≡ append (replicaIn 1 m before) (delete 5)
+unfolding opened before after-y store.replicaIn view.logOf view.firsts view.entryOf view.opOf view.stretch table.rowsOf table.zipped table.vectorsOf table.vectorOf
 left-call-y m = refl
 
 call-y : Appends y 1 before after-y (done 2 0)
@@ -180,8 +180,8 @@ call-y = record {
   fits = λ _. after-y-fits;
 }
 
-left-call-y-x : (m : Metric) → replicaOf 1 m after-y-x ≡ append (replicaOf 1 m after-y) (sets 3)
-unfolding opened after-y after-y-x store.replicaOf view.logOf view.firsts view.entryOf view.opOf view.stretch table.rowsOf table.zipped table.vectorsOf table.vectorOf
+left-call-y-x : (m : Metric) → replicaIn 1 m after-y-x ≡ append (replicaIn 1 m after-y) (sets 3)
+unfolding opened after-y after-y-x store.replicaIn view.logOf view.firsts view.entryOf view.opOf view.stretch table.rowsOf table.zipped table.vectorsOf table.vectorOf
 left-call-y-x m = refl
 
 call-y-x : Appends x 1 after-y after-y-x (done 3 1)
@@ -194,8 +194,8 @@ call-y-x = record {
   fits = λ _. after-y-x-fits;
 }
 
-left-call-z : (m : Metric) → replicaOf 1 m after-z ≡ append (replicaOf 1 m before) (sets 5)
-unfolding opened before after-z store.replicaOf view.logOf view.firsts view.entryOf view.opOf view.stretch table.rowsOf table.zipped table.vectorsOf table.vectorOf
+left-call-z : (m : Metric) → replicaIn 1 m after-z ≡ append (replicaIn 1 m before) (sets 5)
+unfolding opened before after-z store.replicaIn view.logOf view.firsts view.entryOf view.opOf view.stretch table.rowsOf table.zipped table.vectorsOf table.vectorOf
 left-call-z m = refl
 
 call-z : Appends z 1 before after-z (done 2 1)
@@ -208,8 +208,8 @@ call-z = record {
   fits = λ _. after-z-fits;
 }
 
-left-call-z-y : (m : Metric) → replicaOf 1 m after-z-y ≡ append (replicaOf 1 m after-z) (delete 5)
-unfolding opened after-z after-z-y store.replicaOf view.logOf view.firsts view.entryOf view.opOf view.stretch table.rowsOf table.zipped table.vectorsOf table.vectorOf
+left-call-z-y : (m : Metric) → replicaIn 1 m after-z-y ≡ append (replicaIn 1 m after-z) (delete 5)
+unfolding opened after-z after-z-y store.replicaIn view.logOf view.firsts view.entryOf view.opOf view.stretch table.rowsOf table.zipped table.vectorsOf table.vectorOf
 left-call-z-y m = refl
 
 call-z-y : Appends y 1 after-z after-z-y (done 3 0)

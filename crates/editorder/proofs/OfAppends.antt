@@ -16,7 +16,7 @@ use Rattle.model.specs.Node.Client.{overfull}
 use Rattle.model.specs.declared.Metric.{Metric}
 use Rattle.model.specs.declared.Metric.the-variants.{Euclidean}
 use Rattle.model.proofs.Log.Store.{push-length}
-use Rattle.shard.specs.Store.{Store, replicaOf}
+use Rattle.shard.specs.Store.{Store, replicaIn}
 use Rattle.arrivals.proofs.OfStores.{last-is, own-epoch}
 use Rattle.replica.specs.Fits.{lentFits}
 use Rattle.replica.specs.Calls.{After, refused, appendTo, appendLent, Calls}
@@ -30,7 +30,7 @@ use Rattle.editorder.specs.Edits.{Edit, Appends}
 pub record Appended (own : ℕ) (s t : Store) (op : Op) (d : Done) : Type 0 where
   pub answer : d .answer ≡ A.Appended (record { 0 = s .count + 1 })
   pub epoch : d .epoch .0 ≡ own
-  pub replica : (m : Metric) → replicaOf own m t ≡ append (replicaOf own m s) op
+  pub replica : (m : Metric) → replicaIn own m t ≡ append (replicaIn own m s) op
   pub count : t .count ≡ s .count + 1
   pub fits : lentFits t ≡ true
 
@@ -44,7 +44,7 @@ append-epoch r op = refl
 
 module _ (b : List ℕ) (own : ℕ) (s : Store) (op : Op) (x : Edit b op) (f : lentFits s ≡ true) (room : s .count < 1024) where
   abbrev r : Metric → ShardReplica
-  r m = replicaOf own m s
+  r m = replicaIn own m s
 
   -- with space the definition appends
   pub there : (m : Metric) → appendLent b own s m ≡ gives (A.Appended (record { 0 = s .count + 1 })) (append (r m) op)
@@ -59,10 +59,10 @@ module _ (b : List ℕ) (own : ℕ) (s : Store) (op : Op) (x : Edit b op) (f : l
       ∙ ap (λ (k : ℕ). gives {S = ShardReplica} (A.Appended (record { 0 = k })) n) l
 
   module _ (t : Store) (d : Done) (c : Appends b own s t d) where
-    told : (m : Metric) → gives (d .answer) (replicaOf (d .epoch .0) m t) ≡ gives (A.Appended (record { 0 = s .count + 1 })) (append (r m) op)
+    told : (m : Metric) → gives (d .answer) (replicaIn (d .epoch .0) m t) ≡ gives (A.Appended (record { 0 = s .count + 1 })) (append (r m) op)
     told m = c .same m ∙ there m
 
-    left : (m : Metric) → replicaOf (d .epoch .0) m t ≡ append (r m) op
+    left : (m : Metric) → replicaIn (d .epoch .0) m t ≡ append (r m) op
     left m = ap (λ (z : After). z .after) (told m)
 
     same-epoch : d .epoch .0 ≡ own
@@ -74,7 +74,7 @@ module _ (b : List ℕ) (own : ℕ) (s : Store) (op : Op) (x : Edit b op) (f : l
     appended = record {
       answer = ap (λ (z : After). z .answer) (told Euclidean);
       epoch = same-epoch;
-      replica = λ m. sym (ap (λ (e : ℕ). replicaOf e m t) same-epoch) ∙ left m;
+      replica = λ m. sym (ap (λ (e : ℕ). replicaIn e m t) same-epoch) ∙ left m;
       count =
           sym (last-is (d .epoch .0) Euclidean t) ∙ ap lastOffset (left Euclidean) ∙ longer (r Euclidean) op
           ∙ ap (λ (k : ℕ). k + 1) (last-is own Euclidean s);

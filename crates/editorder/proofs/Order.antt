@@ -10,7 +10,7 @@ use Rattle.model.specs.declared.Metric.{Metric}
 use Rattle.model.specs.declared.Metric.the-variants.{Euclidean}
 use Rattle.model.proofs.Log.Play.{InStep}
 use Rattle.model.proofs.Log.Edits.{opId, swap-appends, later-append, appends-differ}
-use Rattle.shard.specs.Store.{Store, storeLog, replicaOf}
+use Rattle.shard.specs.Store.{Store, storeLog, replicaIn}
 use Rattle.shard.proofs.Facts.{facts, store-in-step}
 use Rattle.replica.specs.Fits.{lentFits}
 use Rattle.replica.specs.declared.Answer.the-variants as A
@@ -24,7 +24,7 @@ use Rattle.editorder.proofs.OfSearches.{searched-alike}
 pub record BothAppended (own : ℕ) (s u : Store) (a b : Op) (first second : Done) : Type 0 where
   pub one : first .answer ≡ A.Appended (record { 0 = s .count + 1 })
   pub two : second .answer ≡ A.Appended (record { 0 = s .count + 2 })
-  pub replica : (m : Metric) → replicaOf own m u ≡ append (append (replicaOf own m s) a) b
+  pub replica : (m : Metric) → replicaIn own m u ≡ append (append (replicaIn own m s) a) b
   pub fits : lentFits u ≡ true
 
 module _ (own : ℕ) (s : Store) (f : lentFits s ≡ true) (room : s .count ≤ 1022) where
@@ -44,19 +44,19 @@ module _ (own : ℕ) (s : Store) (f : lentFits s ≡ true) (room : s .count ≤ 
         fits = j .fits;
       }
 
-  in-step : (m : Metric) → InStep (replicaOf own m s)
+  in-step : (m : Metric) → InStep (replicaIn own m s)
   in-step m = store-in-step s (facts s (fits-well s f)) own m
 
-  vectors-of : (u : Store) → replicaOf own Euclidean u .vectors ≡ readVectors u
-  unfolding replicaOf
+  vectors-of : (u : Store) → replicaIn own Euclidean u .vectors ≡ readVectors u
+  unfolding replicaIn
   vectors-of u = refl
 
-  log-of : (u : Store) → replicaOf own Euclidean u .log ≡ storeLog u
-  unfolding replicaOf
+  log-of : (u : Store) → replicaIn own Euclidean u .log ≡ storeLog u
+  unfolding replicaIn
   log-of u = refl
 
   abbrev r : ShardReplica
-  r = replicaOf own Euclidean s
+  r = replicaIn own Euclidean s
 
   module _ (x y : List ℕ) (a b : Op) (p : Edit x a) (q : Edit y b) (u v : Store) where
     -- different ids, in either order

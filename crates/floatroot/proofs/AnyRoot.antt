@@ -14,12 +14,12 @@ use lib.Ieee.Exact.{HasValue, odd-sign}
 use lib.Ieee.Fits.{down-pos}
 use Rattle.model.specs.Nearest.Root.{sqrt, rootable}
 use Rattle.model.proofs.Nearest.Patterns.{ofBits-is, plus-pattern}
-use Rattle.model.proofs.Nearest.Tests.{holds}
+use Rattle.model.proofs.Nearest.Tests.{holds-T}
 
 -- ---- a NaN
 pub nan-root : (x : Float) → ne x x ≡ true → x ≡ sqrt binary32 x
 unfolding sqrt
-nan-root x h = subst (λ (y : Float). y ≡ sqrt binary32 y) (sym (differs-from-itself x (holds h))) refl
+nan-root x h = subst (λ (y : Float). y ≡ sqrt binary32 y) (sym (differs-from-itself x (holds-T h))) refl
 
 pub number : (x : Float) → ne x x ≡ false → T (not (isNan x))
 unfolding isNan
@@ -29,7 +29,7 @@ number (fin s m e) h = tt
 
 -- ---- a float by its pattern
 module _ (x : Float) (held : T (fits binary32 x)) where
-  -- what holds of the pattern's float holds of x
+  -- what holds-T of the pattern's float holds-T of x
   pub by-pattern : (P : Float → Type 0) → P (ofBits binary32 (toBits binary32 x)) → P x
   by-pattern P p = subst P (ofBits-toBits binary32 x held) p
 

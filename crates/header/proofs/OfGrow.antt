@@ -14,7 +14,7 @@ use Rattle.model.specs.Limits.{maxHeld}
 use Rattle.model.specs.Keys.{Key, keyBelow, sameKey}
 use Rattle.model.specs.Log.{Log, Vectors}
 use Rattle.model.specs.Node.Held as held
-use Rattle.model.specs.Node.Shards.{heldBelow, ofKey, shardOf, withHeld}
+use Rattle.model.specs.Node.Shards.{heldBelow, ofKey, heldShard, withHeld}
 use Rattle.model.proofs.Lists.{not-both, none-some, and-true, and-left, and-right}
 use Rattle.model.proofs.Map.Orders.{keys, key-same}
 use Rattle.node.specs.declared.Held.{Held}
@@ -220,7 +220,7 @@ module _ (n : Node) (le : n .count ≤ length (n .held)) (x : Kept) (at : ℕ) (
     place = is ∙ sym (map-lead (viewKept s) (λ y. heldBelow y (viewKept s x)) (used n))
 
     -- the shard at that place stands above: it is not below, and not the same
-    above : shardOf (viewNode s n) (viewKey (x .key)) ≡ none → at < n .count → heldBelow (viewKept s x) (viewKept s (getD (n .held) at noKept)) ≡ true
+    above : heldShard (viewNode s n) (viewKey (x .key)) ≡ none → at < n .count → heldBelow (viewKept s x) (viewKept s (getD (n .held) at noKept)) ≡ true
     above e h =
         let y = getD (n .held) at noKept in
         by-case (keyBelow (viewKey (x .key)) (viewKey (y .key)))
@@ -228,13 +228,13 @@ module _ (n : Node) (le : n .count ≤ length (n .held)) (x : Kept) (at : ℕ) (
         (λ q.
         let same = keys .level (viewKey (x .key)) (viewKey (y .key)) q (stop-at (belowKey (viewKey (x .key))) noKept (n .held) (n .count) at le is h) in
         let size = used-size (viewKept s) (n .held) (n .count) le in
-        let f : find (ofKey (viewKey (x .key))) (map (viewKept s) (used n)) ≡ none = (unfold shardOf in e) in
+        let f : find (ofKey (viewKey (x .key))) (map (viewKept s) (used n)) ≡ none = (unfold heldShard in e) in
         let free = none-at (ofKey (viewKey (x .key))) (viewKept s noKept) (map (viewKept s) (used n)) at f (omega arith) in
         not-both (sameKey (viewKey (y .key)) (viewKey (x .key)))
         (subst (λ (k : Key). sameKey k (viewKey (x .key)) ≡ true) same (key-same (viewKey (x .key))))
         (subst (λ (z : held.Held). ofKey (viewKey (x .key)) z ≡ false) (used-row (viewKept s) (n .held) (n .count) le at noKept h) free))
 
-    pub put-in : (out : List Kept) → take (n .count + 1) out ≡ insertAt (used n) at x → shardOf (viewNode s n) (viewKey (x .key)) ≡ none
+    pub put-in : (out : List Kept) → take (n .count + 1) out ≡ insertAt (used n) at x → heldShard (viewNode s n) (viewKey (x .key)) ≡ none
         → map (viewKept s) (take (n .count + 1) out) ≡ put heldBelow (viewKept s x) (map (viewKept s) (used n))
     put-in out e a =
         ap (map (viewKept s)) e

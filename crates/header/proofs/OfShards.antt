@@ -10,7 +10,7 @@ use Rattle.model.specs.Keys.{Key}
 use Rattle.model.specs.Log.{Log, delete}
 use Rattle.model.specs.Map.Apply.{update}
 use Rattle.model.specs.Node.Held as held
-use Rattle.model.specs.Node.Shards.{Result, gives, ofKey, shardOf, withHeld, atShard}
+use Rattle.model.specs.Node.Shards.{Result, gives, ofKey, heldShard, withHeld, atShard}
 use Rattle.model.proofs.Node.Shards.{at-absent, at-held}
 use Rattle.node.specs.declared.Held.{Held}
 use Rattle.state.proofs.Tables.{found, missed, changed-row}
@@ -27,12 +27,12 @@ module _ (s : Stores) (n : Node) (k : Key) (le : n .count ≤ length (n .held)) 
   place : at ≡ lead (λ x. not (ofKey k x)) (map (viewKept s) (used n))
   place = is ∙ sym (map-lead (viewKept s) (λ x. not (ofKey k x)) (used n))
 
-  pub shard-none : n .count ≤ at → shardOf (viewNode s n) k ≡ none
-  unfolding shardOf
+  pub shard-none : n .count ≤ at → heldShard (viewNode s n) k ≡ none
+  unfolding heldShard
   shard-none h = missed (viewKept s) (n .held) (n .count) le (ofKey k) at place h
 
-  pub shard-some : at < n .count → shardOf (viewNode s n) k ≡ some (viewKept s (getD (n .held) at noKept))
-  unfolding shardOf
+  pub shard-some : at < n .count → heldShard (viewNode s n) k ≡ some (viewKept s (getD (n .held) at noKept))
+  unfolding heldShard
   shard-some h = found (viewKept s) (n .held) (n .count) le (ofKey k) at place noKept h
 
   module _ {A : Type 0} (absent : A) (f : held.Held → Result A held.Held) where

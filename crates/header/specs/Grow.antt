@@ -8,7 +8,7 @@ use lib.Dec.{eqb}
 use Rattle.model.specs.Lists.{any, lead, put}
 use Rattle.model.specs.Limits.{maxHeld}
 use Rattle.model.specs.Keys.{Key, keyBelow}
-use Rattle.model.specs.Node.Shards.{heldBelow, shardOf, withHeld}
+use Rattle.model.specs.Node.Shards.{heldBelow, heldShard, withHeld}
 use Rattle.node.specs.declared.Held.{Held}
 use Rattle.node.specs.View.{viewHeld, insertAt}
 use Rattle.state.specs.declared.ShardKey.{ShardKey}
@@ -40,6 +40,6 @@ belowKey k x = keyBelow (viewKey (x .key)) k
 pub record Inserts (n : Node) (key : ShardKey) (h : Held) (r : Node) : Type 0 where
   pub count : r .count ≡ n .count + 1
   pub slots : slotsFit (used n) ≡ true → slotsFit (used r) ≡ true
-  pub same : (s : Stores) → h .last ≡ 0 → shardOf (viewNode s n) (viewKey key) ≡ none
+  pub same : (s : Stores) → h .last ≡ 0 → heldShard (viewNode s n) (viewKey key) ≡ none
       → viewNode s r ≡ withHeld (viewNode s n) (put heldBelow (viewHeld (viewKey key) [] [] h) (map (viewKept s) (used n)))
   pub seats : slotsOf r ≡ insertAt (slotsOf n) (lead (belowKey (viewKey key)) (used n)) (lowestFree (used n))

@@ -14,7 +14,7 @@ use Rattle.serve.specs.declared.Expiry.the-variants.{Never, At}
 use Rattle.node.specs.declared.Held.{Held}
 use Rattle.header.specs.declared.Kept.{Kept}
 use Rattle.image.specs.Shape.{Shape, Value, rep, _▸_, u32, u64, value, encode}
-use Rattle.image.specs.Parts.{keyF, keyOf, keyValue, replicaF, replicaOf, replicaValue}
+use Rattle.image.specs.Parts.{keyF, keyOf, keyValue, replicaF, replicaRead, replicaValue}
 use Rattle.image.specs.Codes.{idOf, epochOf, flagOf, flagCode}
 
 abbrev pub offsetOf : ℕ → Offset
@@ -83,7 +83,7 @@ heldOf (((((((((epoch, last), holders), count), metric), own), unused), role), r
   last = last;
   role = roleOf role;
   own = flagOf own;
-  replicas = map replicaOf replicas;
+  replicas = map replicaRead replicas;
   holders = holders;
   peers = map peerOf peers;
   count = count;

@@ -31,7 +31,7 @@ use Rattle.state.specs.declared.Outcome.{Outcome}
 use Rattle.state.specs.declared.Outcome.the-variants.{Applied, Rejected}
 use Rattle.state.specs.declared.Primary.{Primary}
 use Rattle.state.specs.declared.Primary.the-variants.{Nobody, At}
-use Rattle.image.specs.Parts.{replicaOf, replicaValue, idValue}
+use Rattle.image.specs.Parts.{replicaRead, replicaValue, idValue}
 use Rattle.image.specs.Codes.{idOf, flagOf, flagCode, primaryOf, primaryCode, primaryNode, coded, rejectionOf, outcomeOf, rejectionCoded, outcomeCoded}
 
 pub angular : (n : ℕ) → (n ≡ 0 → ⊥) → Angular ≡ metricOf n
@@ -125,7 +125,7 @@ outcome-small (Rejected r) = rejection-small r
 
 -- ---- copies of a shard, and ids, as values and back
 
-pub replicas-back : (l : List Replica) → map replicaOf (map replicaValue l) ≡ l
+pub replicas-back : (l : List Replica) → map replicaRead (map replicaValue l) ≡ l
 replicas-back [] = refl
 replicas-back (x ∷ l) = ap (λ (k : List Replica). x ∷ k) (replicas-back l)
 

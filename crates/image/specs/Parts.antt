@@ -46,8 +46,8 @@ keyValue k = (nameValue (k .collection), k .shard)
 abbrev pub replicaF : Shape
 replicaF = u64 ▸ u64
 
-abbrev pub replicaOf : Value replicaF → Replica
-replicaOf v = record { node = idOf (v .0); incarnation = v .1 }
+abbrev pub replicaRead : Value replicaF → Replica
+replicaRead v = record { node = idOf (v .0); incarnation = v .1 }
 
 abbrev pub replicaValue : Replica → Value replicaF
 replicaValue r = (r .node .0, r .incarnation)
@@ -79,7 +79,7 @@ unfoldable pub keyBytes : ShardKey → List ℕ
 keyBytes k = encode keyF (keyValue k)
 
 unfoldable pub replicaAt : List ℕ → ℕ → Replica
-replicaAt s at = replicaOf (value replicaF s at)
+replicaAt s at = replicaRead (value replicaF s at)
 
 unfoldable pub replicaBytes : Replica → List ℕ
 replicaBytes r = encode replicaF (replicaValue r)
@@ -88,7 +88,7 @@ abbrev pub idBytes : DataNodeId → List ℕ
 idBytes n = bytesOf 8 (n .0)
 
 unfoldable pub replicasAt : List ℕ → ℕ → List Replica
-replicasAt s at = map replicaOf (value (rep 8 replicaF) s at)
+replicasAt s at = map replicaRead (value (rep 8 replicaF) s at)
 
 unfoldable pub replicasBytes : List Replica → List ℕ
 replicasBytes rs = encode (rep 8 replicaF) (map replicaValue rs)

@@ -4,7 +4,7 @@ ghost use mathlib.Core.Path.{_≡_};
 ghost use Prim.Native.Nat.{_+_, _*_, _≤_};
 ghost use lib.ListN.{length};
 ghost use Rattle.model.specs.Lists.{every};
-ghost use Rattle.model.specs.Node.Wire.{vectorInDomain, opInDomain, entryInDomain};
+ghost use Rattle.model.specs.Node.Wire.{patternsInDomain, opInDomain, entryInDomain};
 ghost use Rattle.inmessage.specs.Parts.{bitsIn, opIn, entriesIn, OpThere, EntriesThere};
 use ieee::order::bits_in_domain;
 use rpc::OpPart;
@@ -15,7 +15,7 @@ use rpc::parts::entry_at;
 // Whether every component lies in the domain: no early exit, so that several are tested at a time.
 fn vector_in_domain(s: &[u8], v: Part) -> bool
     requires { ⌜ v .at + v .len * 4 ≤ length (now s) ⌝ }
-    ensures { λ r. ⌜ r ≡ vectorInDomain (bitsIn (now (s .entry)) v) ⌝ }
+    ensures { λ r. ⌜ r ≡ patternsInDomain (bitsIn (now (s .entry)) v) ⌝ }
 {
     let n = v.len;
     let mut ok = true;

@@ -16,7 +16,7 @@ use Rattle.model.specs.Layout.Format.{All}
 use Rattle.model.specs.Map.Tables.{Map, ShardInfo}
 use Rattle.model.specs.Map.WellFormed.{wellFormedMap}
 use Rattle.model.specs.Node.Held.{Held, Node}
-use Rattle.model.specs.Node.Shards.{Result, ofKey, shardOf, begun}
+use Rattle.model.specs.Node.Shards.{Result, ofKey, heldShard, begun}
 use Rattle.model.specs.Node.Shown.{Showing, ShownAnswer, isPrimary, promotes, promotedTo, keptAs, showHeld, showListed, listedAs, collectionMetric, showShard, orNot, showings, heldOf, tooMany, takeMap, deadAs, onMap}
 use Rattle.model.specs.Node.Calls.{shownWith}
 use Rattle.model.specs.Node.WellFormed.{wellFormedHeld, logOf}
@@ -50,15 +50,15 @@ show-key me i m h =
 -- of the node v: the shard of its key with its log and vectors, or none
 abbrev pub From : Node → Held → Type 0
 From v g =
-    ((h : Held) × (shardOf v (g .key) ≡ some h) × SameLog (h .replica) (g .replica)) ⊎ ((g .replica .log ≡ []) × (g .replica .vectors ≡ []))
+    ((h : Held) × (heldShard v (g .key) ≡ some h) × SameLog (h .replica) (g .replica)) ⊎ ((g .replica .log ≡ []) × (g .replica .vectors ≡ []))
 
 module _ (v : Node) where
   -- a shard found by a key has it
-  own-key : (k : Key) (h : Held) → shardOf v k ≡ some h → shardOf v (h .key) ≡ some h
-  unfolding shardOf
+  own-key : (k : Key) (h : Held) → heldShard v k ≡ some h → heldShard v (h .key) ≡ some h
+  unfolding heldShard
   own-key k h e = ap (λ (j : Key). find (ofKey j) (v .held)) (same-key (h .key) k (find-true (ofKey k) (v .held) h e)) ∙ e
 
-  listed-from : (i : ShardInfo) (c : Option Metric) (o : Option Held) → shardOf v (i .key) ≡ o → (s : Showing) → showListed (v .id) i c o ≡ some s
+  listed-from : (i : ShardInfo) (c : Option Metric) (o : Option Held) → heldShard v (i .key) ≡ o → (s : Showing) → showListed (v .id) i c o ≡ some s
       → From v (s .held)
   unfolding showListed
   listed-from i none none q s e = none-some e
@@ -70,13 +70,13 @@ module _ (v : Node) where
       subst (λ (t : Showing). From v (t .held)) (some-same e) (inr (l .log, l .vectors))
   listed-from i (some m) (some h) q s e =
       subst (λ (t : Showing). From v (t .held)) (some-same e)
-      (inl (h, ap (shardOf v) (show-key (v .id) i m h) ∙ own-key (i .key) h q, show-log (v .id) i m h))
+      (inl (h, ap (heldShard v) (show-key (v .id) i m h) ∙ own-key (i .key) h q, show-log (v .id) i m h))
 
   shard-from : (m : Map) (i : ShardInfo) (s : Showing) → showShard v m i ≡ some s → From v (s .held)
   unfolding showShard
   shard-from m i s =
       by-test (λ (o : Option Showing). o ≡ some s → From v (s .held)) (any (listedAs (v .id) (v .incarnation)) (i .replicas))
-      (λ q. listed-from i (collectionMetric m (i .key .collection)) (shardOf v (i .key)) refl s)
+      (λ q. listed-from i (collectionMetric m (i .key .collection)) (heldShard v (i .key)) refl s)
       (λ q e. none-some e)
 
   -- ---- the whole map

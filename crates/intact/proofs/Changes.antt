@@ -13,7 +13,7 @@ use Rattle.model.specs.Log.{ShardReplica}
 use Rattle.model.specs.Layout.Message.{Write, decodeWrite, Replicated, decodeReplicate, NewEpoch, decodeNewEpoch, Copied, decodeCopyShard, Reply, decodeReply}
 use Rattle.model.specs.Map.Apply.{update}
 use Rattle.model.specs.Node.Held.{Held, Node}
-use Rattle.model.specs.Node.Shards.{Result, ofKey, shardOf, atShard}
+use Rattle.model.specs.Node.Shards.{Result, ofKey, heldShard, atShard}
 use Rattle.model.specs.Node.Wire.{opInDomain, entryInDomain, storedOp, storedEntry}
 use Rattle.model.specs.Node.Lease.{GrantAnswer, grant}
 use Rattle.model.specs.Node.Client.{WriteAnswer, onWrite, WaitAnswer, onWait}
@@ -102,15 +102,15 @@ module _ (v : Node) (lent : Key → Bool) (k : Key) where
   new-epoch-at w none h e = none-some e
   new-epoch-at w (some x) h e = at-changes v (w .key) _ _ (new-epoch-key (w .epoch) (w .end) (w .table))
 
-  new-epoch-of : (h : Held) → shardOf v k ≡ some h → (o : Option NewEpoch) → ((w : NewEpoch) → o ≡ some w → k ≡ w .key)
+  new-epoch-of : (h : Held) → heldShard v k ≡ some h → (o : Option NewEpoch) → ((w : NewEpoch) → o ≡ some w → k ≡ w .key)
       → ChangesAt v k (newEpochOf lent v o .after)
   unfolding onNewEpoch
   new-epoch-of h e none names = unchanged v k
   new-epoch-of h e (some w) names =
       by-test (λ (r : Result BackupAnswer Node). ChangesAt v k (r .after)) (not (lent (w .key))) (λ q. unchanged v k)
-      (λ q. named (w .key) (names w refl) (new-epoch-at w (shardOf v (w .key)) h (ap (shardOf v) (sym (names w refl)) ∙ e)))
+      (λ q. named (w .key) (names w refl) (new-epoch-at w (heldShard v (w .key)) h (ap (heldShard v) (sym (names w refl)) ∙ e)))
 
-  pub new-epoch-changes : (h : Held) → shardOf v k ≡ some h → (m : List ℕ) → ((w : NewEpoch) → decodeNewEpoch m ≡ some w → k ≡ w .key)
+  pub new-epoch-changes : (h : Held) → heldShard v k ≡ some h → (m : List ℕ) → ((w : NewEpoch) → decodeNewEpoch m ≡ some w → k ≡ w .key)
       → ChangesAt v k (newEpochWith lent v m .after)
   unfolding newEpochWith
   new-epoch-changes h e m names = new-epoch-of h e (decodeNewEpoch m) names

@@ -24,7 +24,7 @@ use Rattle.header.proofs.OfLists.{by-case}
 use Rattle.header.proofs.OfFormed.{header-few, header-fit, formed-lent}
 use Rattle.lend.specs.Lend.{placeOf, lentFor}
 use Rattle.headerimage.specs.Image.{headerLent, nodeAt}
-use Rattle.lentimage.specs.Lent.{storesSize, holds, keptOf, lotIn, lendsState}
+use Rattle.lentimage.specs.Lent.{storesSize, holdsKey, keptOf, lotIn, lendsState}
 use Rattle.lentimage.specs.State.{storesIn, stateAt, keptImage}
 use Rattle.lentimage.proofs.OfLent.{rows-eight}
 use Rattle.lentimage.proofs.OfState.{imagesLent, images-test}
@@ -54,7 +54,7 @@ module _ (h s : List ℕ) (i : Intact h s) where
   pub rows-inside : n .count ≤ length (n .held)
   rows-inside = omega (arith, rows-eight h, header-few n (i .formed))
 
-  kept-passes : (k : Key) → holds n k ≡ true → keptImage s (keptOf n k) ≡ true
+  kept-passes : (k : Key) → holdsKey n k ≡ true → keptImage s (keptOf n k) ≡ true
   kept-passes k e =
       let under = ltb-true (placeOf n k) (n .count) e in
       subst (λ (x : Kept). keptImage s x ≡ true) (getD-take (n .count) (n .held) (placeOf n k) noKept under)
@@ -65,7 +65,7 @@ module _ (h s : List ℕ) (i : Intact h s) where
       and-true (headerLent h) _ (i .lent)
       (and-true (leb storesSize (length s)) _ (le-leb storesSize (length s) (i .size))
       (and-true (lentNode z n) _ (lent-node z)
-      (by-case (holds n k)
+      (by-case (holdsKey n k)
       (λ e. ap (λ (b : Bool). cond b (keptImage s (keptOf n k)) true) e ∙ kept-passes k e)
       (λ e. ap (λ (b : Bool). cond b (keptImage s (keptOf n k)) true) e))))
 

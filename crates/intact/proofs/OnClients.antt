@@ -14,7 +14,7 @@ use Rattle.model.specs.Keys.{Key}
 use Rattle.model.specs.Layout.Format.{Bytes}
 use Rattle.model.specs.Layout.Message as message
 use Rattle.model.specs.Node.Calls.{lateTime, writeWith}
-use Rattle.model.specs.Node.Wire.{opInDomain, vectorInDomain}
+use Rattle.model.specs.Node.Wire.{opInDomain, patternsInDomain}
 use Rattle.model.proofs.Lists.{by-test, not-both, some-same, and-true}
 use Rattle.model.proofs.Node.KeptCalls.{write-with-kept}
 use Rattle.header.specs.declared.Node.{Node}
@@ -162,4 +162,4 @@ module _ (h s : List ℕ) (i : Intact h s) (m : List ℕ) (clock : ℕ) (count :
         go e none d u = refused 21 (λ y. refl) (w .ends .undecoded d) u
         go e (some v) d u =
             let x = w .ends .query e v d in
-            by-case (vectorInDomain (v .bits)) (λ f. searched v d (x .lent f (counted (v .key) u))) (λ f. refused 22 (λ y. refl) (x .outside f) u)
+            by-case (patternsInDomain (v .bits)) (λ f. searched v d (x .lent f (counted (v .key) u))) (λ f. refused 22 (λ y. refl) (x .outside f) u)

@@ -16,7 +16,7 @@ use Rattle.model.specs.Layout.Format.{All}
 use Rattle.model.specs.Map.WellFormed.{wellFormedMap}
 use Rattle.model.specs.Node.Held as held
 use Rattle.model.specs.Node.Held.{Held}
-use Rattle.model.specs.Node.Shards.{shardOf}
+use Rattle.model.specs.Node.Shards.{heldShard}
 use Rattle.model.specs.Node.Shown as show
 use Rattle.model.proofs.Lists.{by-test, not-both, and-true, and-left, and-right}
 use Rattle.model.proofs.Node.Formed.{FormedNode, formed-header}
@@ -66,7 +66,7 @@ module _ (h s : List ℕ) (i : Intact h s) where
   from-seat : (g : Held) → From v g → Seats (StoreFits s) (slotBefore (keysOf v) (slotsOf n) (g .key)) g
   from-seat g (inl (o, e, l)) u keeps =
       let t = slotBefore (keysOf v) (slotsOf n) (g .key) in
-      let f = pairs-found (storesIn s) (StoreFits s) (g .key) o (used n) (header-apart n (i .formed)) (unfold shardOf in e) (state-pairs h s i) in
+      let f = pairs-found (storesIn s) (StoreFits s) (g .key) o (used n) (header-apart n (i .formed)) (unfold heldShard in e) (state-pairs h s i) in
       ap (λ (j : ℕ). wellFormedImage s (j * 174080) (length (g .replica .log)) (length (g .replica .vectors))) (keeps (f .1))
       ∙ ap (λ (d : Log). wellFormedImage s (t * 174080) (length d) (length (g .replica .vectors))) (l .log)
       ∙ ap (λ (d : Vectors). wellFormedImage s (t * 174080) (length (o .replica .log)) (length d)) (l .vectors)

@@ -29,7 +29,7 @@ use Rattle.header.proofs.OfLists.{by-case}
 use Rattle.header.proofs.OfShards.{shard-none, shard-some}
 use Rattle.headerimage.specs.Image.{nodeAt}
 use Rattle.lend.specs.Lend.{Lot, placeOf, slotOf, lentFor}
-use Rattle.lentimage.specs.Lent.{holds, lotIn}
+use Rattle.lentimage.specs.Lent.{holdsKey, lotIn}
 use Rattle.lentimage.specs.State.{storesIn, stateAt, StateAfter}
 use Rattle.lentimage.proofs.OfFamily.{lentIn, lent-changes}
 use Rattle.peers.specs.declared.PeerReply.{PeerReply}
@@ -166,9 +166,9 @@ module _ (h s : List ℕ) (i : Intact h s) (h′ s′ m q q′ : List ℕ) (r : 
               (λ z. new-epoch-fine (viewNode z n) (lentFor z n (lotIn s n k)) m (λ w d. ap (lentFor z n (lotIn s n k)) (sym (named w d)) ∙ lent-for h s i z k)),
           λ d x.
               let formed = new-epoch-with-kept before (state-formed h s i) (lentFor (storesIn s) n (lotIn s n k)) m bytes in
-              let seats : slotsOf (a .node) ≡ cond (holds n k) (slotsOf n) (slotsWith n k) =
-              c .seats k named ∙ ap (λ (b : Bool). cond b (slotsOf n) (cond (holds n k) (slotsOf n) (slotsWith n k))) d in
-              by-case (holds n k)
+              let seats : slotsOf (a .node) ≡ cond (holdsKey n k) (slotsOf n) (slotsWith n k) =
+              c .seats k named ∙ ap (λ (b : Bool). cond b (slotsOf n) (cond (holdsKey n k) (slotsOf n) (slotsWith n k))) d in
+              by-case (holdsKey n k)
               (λ p.
               same-after (announces m) h s h′ s′ k (slotsOf (a .node)) i x formed
               (seats ∙ ap (λ (b : Bool). cond b (slotsOf n) (slotsWith n k)) p)

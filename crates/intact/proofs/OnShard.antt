@@ -14,7 +14,7 @@ use Rattle.model.specs.Lists.{find, lead, put}
 use Rattle.model.specs.Keys.{Key, sameKey}
 use Rattle.model.specs.Log.{Log, Vectors}
 use Rattle.model.specs.Node.Held as held
-use Rattle.model.specs.Node.Shards.{Result, ofKey, shardOf, heldBelow}
+use Rattle.model.specs.Node.Shards.{Result, ofKey, heldShard, heldBelow}
 use Rattle.model.specs.Node.WellFormed.{wellFormedHeader}
 use Rattle.model.proofs.Map.Rows.{find-true, find-update}
 use Rattle.model.proofs.Node.Shards.{update-none}
@@ -35,7 +35,7 @@ use Rattle.lend.specs.Lend.{placeOf, lentFor}
 use Rattle.headerimage.specs.Image.{nodeAt}
 use Rattle.storeimage.specs.Image.{wellFormedImage}
 use Rattle.storeimage.specs.Write.{rowsPut}
-use Rattle.lentimage.specs.Lent.{storesSize, beginOf, holds, keptOf, lotIn}
+use Rattle.lentimage.specs.Lent.{storesSize, beginOf, holdsKey, keptOf, lotIn}
 use Rattle.lentimage.specs.State.{storesIn, stateAt, storeWith, StoreAfter, StateAfter}
 use Rattle.lentimage.proofs.OfBack.{entries-length}
 use Rattle.intact.specs.Intact.{Intact}
@@ -75,7 +75,7 @@ module _ {A : Type 0} (does : (Key → Bool) → held.Node → Result A held.Nod
 
     -- ---- the shard is held
 
-    module _ (e : holds n k ≡ true) (c : ChangesAt before k after) where
+    module _ (e : holdsKey n k ≡ true) (c : ChangesAt before k after) where
       under : placeOf n k < n .count
       under = ltb-true (placeOf n k) (n .count) e
 
@@ -85,8 +85,8 @@ module _ {A : Type 0} (does : (Key → Bool) → held.Node → Result A held.Nod
       row : x ≡ keptOf n k
       row = getD-take (n .count) (n .held) (placeOf n k) noKept under
 
-      found : shardOf (stateAt h′ s′) k ≡ some (c .change (viewKept (storesIn s) x))
-      unfolding shardOf
+      found : heldShard (stateAt h′ s′) k ≡ some (c .change (viewKept (storesIn s) x))
+      unfolding heldShard
       found =
           let g = viewKept (storesIn s) x in
           let at : find (ofKey k) (before .held) ≡ some g =
@@ -112,11 +112,11 @@ module _ {A : Type 0} (does : (Key → Bool) → held.Node → Result A held.Nod
 
     -- ---- the shard is not held: no store is written
 
-    module _ (e : holds n k ≡ false) where
+    module _ (e : holdsKey n k ≡ false) where
       gone : n .count ≤ placeOf n k
       gone = ltb-false (placeOf n k) (n .count) e
 
-      absent : shardOf before k ≡ none
+      absent : heldShard before k ≡ none
       absent = shard-none (storesIn s) n k (rows-inside h s i) (placeOf n k) refl gone
 
       unwritten-after : Pairs (StoreFits s) seats (after .held) → Intact h′ s′
@@ -125,7 +125,7 @@ module _ {A : Type 0} (does : (Key → Bool) → held.Node → Result A held.Nod
           (subst (λ (t : List ℕ). Pairs (StoreFits t) seats (after .held)) (sym (a .none e)) p)
 
       absent-after : seats ≡ slotsOf n → ChangesAt before k after → Intact h′ s′
-      unfolding shardOf
+      unfolding heldShard
       absent-after same c =
           unwritten-after
           (subst (λ (is : List ℕ). Pairs (StoreFits s) is (after .held)) (sym same)
@@ -133,7 +133,7 @@ module _ {A : Type 0} (does : (Key → Bool) → held.Node → Result A held.Nod
 
     -- a call that begins no shard
     pub same-after : seats ≡ slotsOf n → ChangesAt before k after → Intact h′ s′
-    same-after same c = by-case (holds n k) (λ e. held-after e c same) (λ e. absent-after e same c)
+    same-after same c = by-case (holdsKey n k) (λ e. held-after e c same) (λ e. absent-after e same c)
 
     -- ---- a shard begins, in a slot of its own
 
@@ -153,7 +153,7 @@ module _ {A : Type 0} (does : (Key → Bool) → held.Node → Result A held.Nod
         ∙ ap length (a .seats ∙ begins)
         ∙ slots-more
 
-    pub begun-after : holds n k ≡ false → seats ≡ insertAt (slotsOf n) (lead (belowKey k) (used n)) (lowestFree (used n)) → PutIn before k after
+    pub begun-after : holdsKey n k ≡ false → seats ≡ insertAt (slotsOf n) (lead (belowKey k) (used n)) (lowestFree (used n)) → PutIn before k after
         → Intact h′ s′
     begun-after e begins c =
         let l = used n in

@@ -32,8 +32,8 @@ use Rattle.model.specs.Layout.Message.{
 use Rattle.model.specs.Map.Tables.{Map}
 use Rattle.model.specs.Nearest.Search.{hits}
 use Rattle.model.specs.Node.Held.{Held, Node}
-use Rattle.model.specs.Node.Shards.{Result, leadsAt, ofNode, shardOf, begun}
-use Rattle.model.specs.Node.Wire.{opInDomain, vectorInDomain, entryInDomain, storedOp, storedEntry, floatsOf}
+use Rattle.model.specs.Node.Shards.{Result, leadsAt, ofNode, heldShard, begun}
+use Rattle.model.specs.Node.Wire.{opInDomain, patternsInDomain, entryInDomain, storedOp, storedEntry, floatsOf}
 use Rattle.model.specs.Node.Lease.{GrantAnswer}
 use Rattle.model.specs.Node.Client.{WriteAnswer, ackCount, overfull, writeHeld, onWrite, SearchAnswer, searchHeld, onSearch, WaitAnswer, hasAcked, waitHeld, onWait}
 use Rattle.model.specs.Node.Backup.{BackupAnswer, replied, leadsFrom, isEmpty, replyOf, replicateHeld, onReplicate, newEpochHeld, newEpochAt, onNewEpoch, copyHeld, onCopy}
@@ -283,7 +283,7 @@ module _ (v : Node) (lent : Key → Bool) where
   unfolding onNewEpoch
   new-epoch-of none e = refl
   new-epoch-of (some w) e =
-      tested-call (λ a. peerNumber (word a)) (lent (w .key)) (e w refl) _ _ (new-epoch-at w (shardOf v (w .key)))
+      tested-call (λ a. peerNumber (word a)) (lent (w .key)) (e w refl) _ _ (new-epoch-at w (heldShard v (w .key)))
 
   pub new-epoch-fine : (m : List ℕ) → ((w : NewEpoch) → decodeNewEpoch m ≡ some w → lent (w .key) ≡ true) → PeerFine (newEpochWith lent v m)
   unfolding newEpochWith
@@ -323,7 +323,7 @@ module _ (v : Node) (lent : Key → Bool) where
   search-of now room none e = refl
   search-of now room (some w) e =
       let Q : Result SearchAnswer Node → Type 0 = λ r. Fine (searchNumber (searches.word (r .answer))) in
-      by-test Q (not (vectorInDomain (w .bits))) (λ p. refl)
+      by-test Q (not (patternsInDomain (w .bits))) (λ p. refl)
       (λ p. tested-call (λ a. searchNumber (searches.word a)) (lent (w .key)) (e w refl) _ _
       (at-cases v (w .key) _ _ Q (λ q. refl) (λ h q. search-held _ room (w .epoch) (w .k) (floatsOf (w .bits)) h)))
 

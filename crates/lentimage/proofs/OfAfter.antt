@@ -16,7 +16,7 @@ use Rattle.model.specs.Lists.{_and_, nth, lead}
 use Rattle.model.specs.Keys.{Key, keyBelow}
 use Rattle.model.specs.Layout.Format.{Bytes}
 use Rattle.model.specs.Node.Held as held
-use Rattle.model.specs.Node.Shards.{Result, shardOf, withHeld}
+use Rattle.model.specs.Node.Shards.{Result, heldShard, withHeld}
 use Rattle.model.proofs.Lists.{not-both, and-left, and-right}
 use Rattle.retained.specs.Retained.{CarriesAll}
 use Rattle.retained.proofs.OfBegin.{Fresh, PutIn, put-at}
@@ -35,7 +35,7 @@ use Rattle.header.proofs.OfFormed.{formed-lent}
 use Rattle.header.proofs.OfShards.{shard-none, shard-some}
 use Rattle.lend.specs.Lend.{Lot, storeOf, keptStore, placeOf, slotOf, lentAt, lentFor, Changes}
 use Rattle.storeimage.specs.Read.{allReadable}
-use Rattle.lentimage.specs.Lent.{beginOf, keptReadable, lotAt, holds, keptOf, readable, lotIn, storesPut, Puttable, StoreFits}
+use Rattle.lentimage.specs.Lent.{beginOf, keptReadable, lotAt, holdsKey, keptOf, readable, lotIn, storesPut, Puttable, StoreFits}
 use Rattle.lentimage.specs.State.{storesIn, StoreAfter}
 use Rattle.lentimage.proofs.OfFamily.{vectorsIn, lentIn, lent-changes}
 use Rattle.lentimage.proofs.OfCounted.{counted, counted-before, afterwards, counted-after}
@@ -48,7 +48,7 @@ pub record Lent (s : List ℕ) (n : Node) (k : Key) : Type 0 where
   pub inside : n .count ≤ length (n .held)
   pub fine : readable s n k ≡ true
   pub formed : (z : Stores) → lentFor z n (lotIn s n k) k ≡ true
-  pub bytes : holds n k ≡ true → Bytes s
+  pub bytes : holdsKey n k ≡ true → Bytes s
 
 -- the test of a lent state looks at no other store
 pub lent-any : (z t : Stores) (n : Node) (a : Lot) → lentFor z n a ≡ lentFor t n a
@@ -106,8 +106,8 @@ module _ {A : Type 0} (call : (Key → Bool) → held.Node → Result A held.Nod
   pub record Becomes : Type 0 where
     pub state : viewNode (storesIn (storesPut s n p b (placeOf n k))) p ≡ left
     pub counts : viewNode (afterwards s (slotOf n k) b) p ≡ left
-    pub store : holds n k ≡ true → (g : held.Held) → shardOf left k ≡ some g → StoreAfter s (storesPut s n p b (placeOf n k)) (keptOf n k) g
-    pub none : holds n k ≡ false → storesPut s n p b (placeOf n k) ≡ s
+    pub store : holdsKey n k ≡ true → (g : held.Held) → heldShard left k ≡ some g → StoreAfter s (storesPut s n p b (placeOf n k)) (keptOf n k) g
+    pub none : holdsKey n k ≡ false → storesPut s n p b (placeOf n k) ≡ s
 
   said : viewNode after p ≡ call (lentFor before n a) (viewNode before n) .after
   said = same before after (lent-changes (storesIn s) (slotOf n k) a b)
@@ -115,8 +115,8 @@ module _ {A : Type 0} (call : (Key → Bool) → held.Node → Result A held.Nod
   becomes : viewNode (storesIn (storesPut s n p b (placeOf n k))) p ≡ viewNode after p → viewNode before n ≡ viewNode (storesIn s) n
       → ((i : ℕ) → i < length (used p) → let u = getD (used p) i noKept in
       eqb (u .slot) (slotOf n k) ≡ true → length (vectorsIn b (u .held .last) (u .stored)) ≡ u .stored)
-      → (holds n k ≡ true → (g : held.Held) → shardOf (viewNode after p) k ≡ some g → StoreAfter s (storesPut s n p b (placeOf n k)) (keptOf n k) g)
-      → (holds n k ≡ false → storesPut s n p b (placeOf n k) ≡ s) → Becomes
+      → (holdsKey n k ≡ true → (g : held.Held) → heldShard (viewNode after p) k ≡ some g → StoreAfter s (storesPut s n p b (placeOf n k)) (keptOf n k) g)
+      → (holdsKey n k ≡ false → storesPut s n p b (placeOf n k) ≡ s) → Becomes
   becomes exit entry few store unwritten =
       let c = counted (storesIn s) in
       let slot = slotOf n k in
@@ -126,7 +126,7 @@ module _ {A : Type 0} (call : (Key → Bool) → held.Node → Result A held.Nod
       ∙ ap (λ (v : held.Node). call (lentFor (storesIn s) n a) v .after) entry in
       record {
         state = exit ∙ tells;
-        store = λ e g q. store e g (ap (λ (v : held.Node). shardOf v k) tells ∙ q);
+        store = λ e g q. store e g (ap (λ (v : held.Node). heldShard v k) tells ∙ q);
         none = unwritten;
         counts =
             counted-after s slot b p few
@@ -138,7 +138,7 @@ module _ {A : Type 0} (call : (Key → Bool) → held.Node → Result A held.Nod
   -- the shard is held, or none of the key begins
   pub same-after : SameSlots n p → slotsFit (used p) ≡ true → Puttable s n p b (placeOf n k)
       → (ltb (placeOf n k) (n .count) ≡ true → StoreFits (getD (p .held) (placeOf n k) noKept) b)
-      → ((f : Key → Bool) (v : held.Node) (h : held.Held) → shardOf v k ≡ some h → CarriesAll v (call f v .after)) → Becomes
+      → ((f : Key → Bool) (v : held.Node) (h : held.Held) → heldShard v k ≡ some h → CarriesAll v (call f v .after)) → Becomes
   same-after seats fit w f carries =
       let formed = is-formed s n k l in
       by-case (ltb (placeOf n k) (n .count))
@@ -154,17 +154,17 @@ module _ {A : Type 0} (call : (Key → Bool) → held.Node → Result A held.Nod
       (entry-view s n k formed (l .inside) under fine well)
       (exit-few s n k formed (l .inside) under fine well p b seats fit carried (l .room) (l .bytes e) (w .shard e) (f e))
       (λ z. exit-store s n k formed (l .inside) under fine well p b seats fit carried (l .room) (l .bytes e) (w .shard e) (f e))
-      (λ z. not-both (holds n k) e z))
+      (λ z. not-both (holdsKey n k) e z))
       (λ e.
       let gone = ltb-false (placeOf n k) (n .count) e in
       becomes (exit-absent s n k formed (l .inside) gone p b seats) (entry-absent s n k formed (l .inside) gone a)
       (absent-few s n k formed (l .inside) gone p b seats)
-      (λ z. not-both (holds n k) z e) (λ z. unwritten s n k formed (l .inside) gone p b))
+      (λ z. not-both (holdsKey n k) z e) (λ z. unwritten s n k formed (l .inside) gone p b))
 
   -- the shard of the key begins
   pub begun-after : n .count ≤ placeOf n k → slotsOf p ≡ insertAt (slotsOf n) (lead (belowKey k) (used n)) (lowestFree (used n))
       → slotsFit (used p) ≡ true → 0 < length (b .keys) → 0 < length (b .places)
-      → ((f : Key → Bool) (v : held.Node) → shardOf v k ≡ none → PutIn v k (call f v .after)) → Becomes
+      → ((f : Key → Bool) (v : held.Node) → heldShard v k ≡ none → PutIn v k (call f v .after)) → Becomes
   begun-after gone seats fit keys places begins =
       let formed = is-formed s n k l in
       let j = lead (belowKey k) (used n) in
@@ -184,5 +184,5 @@ module _ {A : Type 0} (call : (Key → Bool) → held.Node → Result A held.Nod
       ap (λ (m : held.Node). nth (m .held) j) (said ∙ e .2) ∙ ap (nth _) (sym place) ∙ put-at g (v .held) in
       becomes (exit-begun s n k formed (l .inside) gone p b seats fit g (e .1) stands keys places) (entry-absent s n k formed (l .inside) gone a)
       (begun-few s n k formed (l .inside) gone p b seats fit g (e .1) stands keys places)
-      (λ z. not-both (holds n k) z (le-ltb (placeOf n k) (n .count) gone)) (λ z. unwritten s n k formed (l .inside) gone p b))
+      (λ z. not-both (holdsKey n k) z (le-ltb (placeOf n k) (n .count) gone)) (λ z. unwritten s n k formed (l .inside) gone p b))
       (begins (lentFor before n a) v (shard-none before n k (l .inside) (placeOf n k) refl gone))

@@ -16,7 +16,7 @@ use Rattle.model.specs.Keys.{Key}
 use Rattle.model.specs.Log.{Log, Vectors}
 use Rattle.model.specs.Layout.Format.{Bytes}
 use Rattle.model.specs.Node.Held as held
-use Rattle.model.specs.Node.Shards.{shardOf}
+use Rattle.model.specs.Node.Shards.{heldShard}
 use Rattle.model.proofs.Lists.{and-left, and-right, nth-same}
 use Rattle.retained.specs.Retained.{Retains, Carries, CarriesAll}
 use Rattle.retained.proofs.OfPlaces.{others, found-carried}
@@ -41,7 +41,7 @@ use Rattle.storeimage.specs.Read.{allReadable}
 use Rattle.storeimage.specs.Write.{logPut, rowsPut}
 use Rattle.storeimage.proofs.OfRead.{image-log}
 use Rattle.storeimage.proofs.OfImage.{table-same}
-use Rattle.lentimage.specs.Lent.{noLot, beginOf, lotAt, holds, keptOf, lotIn, storePut, storesPut, Writable, StoreFits}
+use Rattle.lentimage.specs.Lent.{noLot, beginOf, lotAt, holdsKey, keptOf, lotIn, storePut, storesPut, Writable, StoreFits}
 use Rattle.lentimage.specs.State.{storesIn, storeWith, StoreAfter}
 use Rattle.lentimage.proofs.OfPick.{floats-whole}
 use Rattle.lentimage.proofs.OfSlots.{slots-one, slot-at, kept-agree, nodes-agree, view-nth}
@@ -232,7 +232,7 @@ module _ (s : List ℕ) (n : Node) (k : Key) (formed : formedNode n ≡ true) (i
 
       -- ---- the bytes of the store
 
-      found : (g : held.Held) → shardOf (viewNode (after b) p) k ≡ some g → g ≡ viewKept (after b) y
+      found : (g : held.Held) → heldShard (viewNode (after b) p) k ≡ some g → g ≡ viewKept (after b) y
       found g e =
           let m = many in
           let o = many-after in
@@ -243,7 +243,7 @@ module _ (s : List ℕ) (n : Node) (k : Key) (formed : formedNode n ≡ true) (i
           (found-carried k (viewNode before n) (viewNode (after b) p) g carried (omega (arith, place)) e))
           (view-nth (after b) p at (omega arith) ∙ ap (λ (q : Kept). some (viewKept (after b) q)) row-after)
 
-      pub exit-store : (g : held.Held) → shardOf (viewNode (after b) p) k ≡ some g → StoreAfter s (storesPut s n p b at) x g
+      pub exit-store : (g : held.Held) → heldShard (viewNode (after b) p) k ≡ some g → StoreAfter s (storesPut s n p b at) x g
       unfolding storePut storeWith
       exit-store g e =
           let l = logOf (b .columns) (y .held .last) in

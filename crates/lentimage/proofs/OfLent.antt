@@ -13,7 +13,7 @@ use Rattle.model.specs.Lists.{_and_, every, lead}
 use Rattle.model.specs.Keys.{Key}
 use Rattle.model.specs.Layout.Format.{Bytes, numberAt}
 use Rattle.model.specs.Node.Held as held
-use Rattle.model.specs.Node.Shards.{Result, shardOf}
+use Rattle.model.specs.Node.Shards.{Result, heldShard}
 use Rattle.model.specs.Node.WellFormed.{wellFormedHeader}
 use Rattle.model.proofs.Lists.{and-left, and-right}
 use Rattle.retained.specs.Retained.{CarriesAll}
@@ -33,7 +33,7 @@ use Rattle.headerrows.specs.Rows.{keptAt}
 use Rattle.headerimage.specs.Image.{noKept, headerLent, nodeAt}
 use Rattle.headerimage.specs.Becomes.{tableFits, headerImage}
 use Rattle.headerimage.proofs.OfCounts.{formed-written}
-use Rattle.lentimage.specs.Lent.{holds, keptOf, readable, lotIn, lendsState, Puttable, Puts}
+use Rattle.lentimage.specs.Lent.{holdsKey, keptOf, readable, lotIn, lendsState, Puttable, Puts}
 use Rattle.lentimage.specs.State.{storesIn, stateAt, StoreAfter, StateAfter}
 use Rattle.lentimage.proofs.OfFamily.{lentIn, lent-changes}
 use Rattle.lentimage.proofs.OfCounted.{counted, counted-all, tables-fit, afterwards}
@@ -51,7 +51,7 @@ rows-eight h =
 
 -- the state is lent
 pub is-lent : (h s : List ℕ) (k : Key) → lendsState h s k ≡ true → ((z : Stores) → lentFor z (nodeAt h) (lotIn s (nodeAt h) k) k ≡ true)
-    → (holds (nodeAt h) k ≡ true → Bytes s) → Lent s (nodeAt h) k
+    → (holdsKey (nodeAt h) k ≡ true → Bytes s) → Lent s (nodeAt h) k
 unfolding lendsState
 is-lent h s k e formed bytes =
     let n = nodeAt h in
@@ -69,7 +69,7 @@ is-lent h s k e formed bytes =
 -- ---- the state at exit: p and b the header and the columns that a call left, which was not refused
 
 module _ {A : Type 0} (does : (Key → Bool) → held.Node → Result A held.Node) (h s h′ s′ : List ℕ) (k : Key) (p : Node) (b : Lot)
-    (lends : lendsState h s k ≡ true) (bytes : holds (nodeAt h) k ≡ true → Bytes s)
+    (lends : lendsState h s k ≡ true) (bytes : holdsKey (nodeAt h) k ≡ true → Bytes s)
     (same : (z t : Stores) → Changes z t (slotOf (nodeAt h) k) (lotIn s (nodeAt h) k) b
     → viewNode t p ≡ does (lentFor z (nodeAt h) (lotIn s (nodeAt h) k)) (viewNode z (nodeAt h)) .after)
     (unlent : (z t : Stores) → Changes z t (slotOf (nodeAt h) k) (lotIn s (nodeAt h) k) b → lentFor z (nodeAt h) (lotIn s (nodeAt h) k) k ≡ false → ⊥)
@@ -105,7 +105,7 @@ module _ {A : Type 0} (does : (Key → Bool) → held.Node → Result A held.Nod
             c .bytes (afterwards s (slotOf n k) b) (counted-all (lentIn (counted (storesIn s)) (slotOf n k) b))
             ∙ ap (λ (v : held.Node). sets h 0 (headerImage v (slotsOf p))) (e .counts ∙ sym is);
         store = λ q g f.
-            subst (λ (u : List ℕ). StoreAfter s u (keptOf n k) g) (sym (puts .stores)) (e .store q g (sym (ap (λ (v : held.Node). shardOf v k) is) ∙ f));
+            subst (λ (u : List ℕ). StoreAfter s u (keptOf n k) g) (sym (puts .stores)) (e .store q g (sym (ap (λ (v : held.Node). heldShard v k) is) ∙ f));
         none = λ q. puts .stores ∙ e .none q;
         formed = λ w.
             formed-written (afterwards s (slotOf n k) b) (counted-all (lentIn (counted (storesIn s)) (slotOf n k) b)) h h′ p c fit
@@ -114,10 +114,10 @@ module _ {A : Type 0} (does : (Key → Bool) → held.Node → Result A held.Nod
       }
 
   pub same-state : SameSlots n p → Puttable s n p b (placeOf n k)
-      → ((f : Key → Bool) (v : held.Node) (g : held.Held) → shardOf v k ≡ some g → CarriesAll v (does f v .after)) → StateAfter A does h s h′ s′ k (slotsOf p)
+      → ((f : Key → Bool) (v : held.Node) (g : held.Held) → heldShard v k ≡ some g → CarriesAll v (does f v .after)) → StateAfter A does h s h′ s′ k (slotsOf p)
   same-state seats w carries = reads (same-after does s n k lent p b same seats fit w (puts .fits) carries)
 
   pub begun-state : n .count ≤ placeOf n k → slotsOf p ≡ insertAt (slotsOf n) (lead (belowKey k) (used n)) (lowestFree (used n))
       → 0 < length (b .keys) → 0 < length (b .places)
-      → ((f : Key → Bool) (v : held.Node) → shardOf v k ≡ none → PutIn v k (does f v .after)) → StateAfter A does h s h′ s′ k (slotsOf p)
+      → ((f : Key → Bool) (v : held.Node) → heldShard v k ≡ none → PutIn v k (does f v .after)) → StateAfter A does h s h′ s′ k (slotsOf p)
   begun-state gone seats keys places begins = reads (begun-after does s n k lent p b same gone seats fit keys places begins)

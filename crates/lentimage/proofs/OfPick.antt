@@ -24,7 +24,7 @@ use Rattle.headerimage.specs.Image.{headerLent, nodeAt, noNode, lentHeader}
 use Rattle.storeimage.specs.Read.{sizesFit, roomFor, allReadable, Reads}
 use Rattle.storeimage.proofs.Sizes.{on, off, known}
 use Rattle.lentimage.specs.declared.Picked.{Picked}
-use Rattle.lentimage.specs.Lent.{noLot, beginOf, keptReadable, lotAt, holds, keptOf, readable, lotIn, lendsState, notLent, Picks, KeptRead}
+use Rattle.lentimage.specs.Lent.{noLot, beginOf, keptReadable, lotAt, holdsKey, keptOf, readable, lotIn, lendsState, notLent, Picks, KeptRead}
 
 -- ---- one store
 
@@ -137,7 +137,7 @@ module _ (h s : List ℕ) (k : Key) where
           lent (few-too few) (le-leb 1392640 (length s) there)
 
       picks-held : (b : Lot) (at : ℕ) (r : Bool) → r ≡ readable s n k → at ≡ placeOf n k → (r ≡ true → b ≡ lotIn s n k)
-          → (r ≡ true → holds n k ≡ true → Bytes s) → Picks h s k b (record { found = r; at = at; node = n })
+          → (r ≡ true → holdsKey n k ≡ true → Bytes s) → Picks h s k b (record { found = r; at = at; node = n })
       picks-held b at r found e read bytes =
           let f = found ∙ lends-is in
           record {
@@ -145,23 +145,23 @@ module _ (h s : List ℕ) (k : Key) where
             read = λ t. is;
             at = λ t. e ∙ ap (λ (m : Node). placeOf m k) is;
             lot = λ t. read (f ∙ t) ∙ ap (λ (m : Node). lotIn s m k) is;
-            bytes = λ t q. bytes (f ∙ t) (ap (λ (m : Node). holds m k) is ∙ q);
+            bytes = λ t q. bytes (f ∙ t) (ap (λ (m : Node). holdsKey m k) is ∙ q);
           }
 
       -- the shard is not held: the columns stay fresh
       pub picks-absent : (b : Lot) (at : ℕ) → b ≡ noLot → at ≡ placeOf n k → n .count ≤ at
           → Picks h s k b (record { found = true; at = at; node = n })
       picks-absent b at fresh e gone =
-          let t : holds n k ≡ false = le-ltb (placeOf n k) (n .count) (omega arith) in
+          let t : holdsKey n k ≡ false = le-ltb (placeOf n k) (n .count) (omega arith) in
           picks-held b at true (sym (ap (λ (c : Bool). cond c (keptReadable s (keptOf n k)) true) t)) e
           (λ q. fresh ∙ sym (ap (λ (c : Bool). cond c (lotAt s (keptOf n k)) noLot) t))
-          (λ q z. not-both (holds n k) z t)
+          (λ q z. not-both (holdsKey n k) z t)
 
       -- it is held, and its own store was read
       pub picks-kept : (b : Lot) (at : ℕ) (r : Bool) → at ≡ placeOf n k → at < n .count → KeptRead s (getD (n .held) at noKept) b r
           → Picks h s k b (record { found = r; at = at; node = n })
       picks-kept b at r e under q =
-          let t : holds n k ≡ true = lt-ltb (placeOf n k) (n .count) (omega arith) in
+          let t : holdsKey n k ≡ true = lt-ltb (placeOf n k) (n .count) (omega arith) in
           let p = subst (λ (i : ℕ). KeptRead s (getD (n .held) i noKept) b r) e q in
           picks-held b at r (p .answer ∙ sym (ap (λ (c : Bool). cond c (keptReadable s (keptOf n k)) true) t)) e
           (λ z. p .lot z ∙ sym (ap (λ (c : Bool). cond c (lotAt s (keptOf n k)) noLot) t))

@@ -29,12 +29,12 @@ use Rattle.storeimage.proofs.OfTest.{image-test}
 use Rattle.lentimage.specs.State.{keptImage}
 use Rattle.lentimage.proofs.OfPick.{floats-whole}
 use Rattle.lentimage.proofs.OfSlots.{slots-below}
-use Rattle.lentimage.specs.Lent.{storesSize, noLot, beginOf, keptReadable, lotAt, holds, keptOf, readable, lotIn, lendsState}
+use Rattle.lentimage.specs.Lent.{storesSize, noLot, beginOf, keptReadable, lotAt, holdsKey, keptOf, readable, lotIn, lendsState}
 
 -- 'Who is turned down', 24, of the images, for a call that names the key
 abbrev pub imagesLent : Stores → (header stores : List ℕ) → Key → Bool
 imagesLent z h s k =
-    headerLent h and (leb storesSize (length s) and (lentNode z (nodeAt h) and cond (holds (nodeAt h) k) (keptImage s (keptOf (nodeAt h) k)) true))
+    headerLent h and (leb storesSize (length s) and (lentNode z (nodeAt h) and cond (holdsKey (nodeAt h) k) (keptImage s (keptOf (nodeAt h) k)) true))
 
 -- ---- the header is one
 
@@ -97,11 +97,11 @@ module _ (z : Stores) (h s : List ℕ) (k : Key) where
   abbrev x : Kept
   x = keptOf n k
 
-  lent-kept : holds n k ≡ true → lentAt n (lotIn s n k) (placeOf n k) ≡ keptStore (lotAt s x) x
+  lent-kept : holdsKey n k ≡ true → lentAt n (lotIn s n k) (placeOf n k) ≡ keptStore (lotAt s x) x
   unfolding lentAt
   lent-kept q = rw q refl
 
-  lent-absent : holds n k ≡ false → lentAt n (lotIn s n k) (placeOf n k) ≡ true
+  lent-absent : holdsKey n k ≡ false → lentAt n (lotIn s n k) (placeOf n k) ≡ true
   unfolding lentAt
   lent-absent q = rw q (le-leb 32768 (length (noLot .columns .floats)) (omega (arith, floats-whole)))
 
@@ -116,7 +116,7 @@ module _ (z : Stores) (h s : List ℕ) (k : Key) where
       and-true (headerLent h) _ (and-left (headerLent h) _ d)
       (and-true (leb 1392640 (length s)) _ size
       (and-true (lentNode z n) _ node
-      (by-case (holds n k)
+      (by-case (holdsKey n k)
       (λ q.
       let under = ltb-true (placeOf n k) (n .count) q in
       let r = sym (ap (λ (c : Bool). cond c (keptReadable s x) true) q) ∙ and-right (leb 1392640 (length s)) (readable s n k) t in
@@ -133,7 +133,7 @@ module _ (z : Stores) (h s : List ℕ) (k : Key) where
       let u = and-right (leb 1392640 (length s)) _ t in
       let node = and-left (lentNode z n) _ u in
       let both : (readable s n k ≡ true) × (lentAt n (lotIn s n k) (placeOf n k) ≡ true) =
-      by-case (holds n k)
+      by-case (holdsKey n k)
       (λ q.
       let under = ltb-true (placeOf n k) (n .count) q in
       let i = sym (ap (λ (c : Bool). cond c (keptImage s x) true) q) ∙ and-right (lentNode z n) _ u in

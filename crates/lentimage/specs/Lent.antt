@@ -56,8 +56,8 @@ lotAt s x = record {
 
 -- ---- that of a key
 
-abbrev pub holds : Node → Key → Bool
-holds n k = ltb (placeOf n k) (n .count)
+abbrev pub holdsKey : Node → Key → Bool
+holdsKey n k = ltb (placeOf n k) (n .count)
 
 abbrev pub keptOf : Node → Key → Kept
 keptOf n k = getD (n .held) (placeOf n k) noKept
@@ -67,10 +67,10 @@ baseOf n k = beginOf (keptOf n k)
 
 -- of a shard that is not held no store is read
 abbrev pub readable : List ℕ → Node → Key → Bool
-readable s n k = cond (holds n k) (keptReadable s (keptOf n k)) true
+readable s n k = cond (holdsKey n k) (keptReadable s (keptOf n k)) true
 
 abbrev pub lotIn : List ℕ → Node → Key → Lot
-lotIn s n k = cond (holds n k) (lotAt s (keptOf n k)) noLot
+lotIn s n k = cond (holdsKey n k) (lotAt s (keptOf n k)) noLot
 
 -- 24 of the two buffers, before `lend`'s test of what they are read as
 unfoldable pub lendsState : (header stores : List ℕ) → Key → Bool
@@ -87,7 +87,7 @@ pub record Picks (h s : List ℕ) (k : Key) (b : Lot) (r : Picked) : Type 0 wher
   pub at : lendsState h s k ≡ true → r .at ≡ placeOf (nodeAt h) k
   pub lot : lendsState h s k ≡ true → b ≡ lotIn s (nodeAt h) k
   -- where a store was read, what is read are bytes
-  pub bytes : lendsState h s k ≡ true → holds (nodeAt h) k ≡ true → Bytes s
+  pub bytes : lendsState h s k ≡ true → holdsKey (nodeAt h) k ≡ true → Bytes s
 
 -- of one store
 pub record KeptRead (s : List ℕ) (x : Kept) (b : Lot) (r : Bool) : Type 0 where

@@ -10,7 +10,7 @@ use lib.Seq.{sets}
 use Rattle.model.specs.Keys.{Key}
 use Rattle.model.specs.Log.{Log}
 use Rattle.model.specs.Node.Held as held
-use Rattle.model.specs.Node.Shards.{Result, shardOf}
+use Rattle.model.specs.Node.Shards.{Result, heldShard}
 use Rattle.model.specs.Node.WellFormed.{wellFormedHeader}
 use Rattle.shard.specs.View.{firsts}
 use Rattle.shard.specs.Table.{zipped, rowsOf, playRows, vectorsOf}
@@ -24,7 +24,7 @@ use Rattle.headerimage.specs.Image.{headerLent, nodeAt}
 use Rattle.headerimage.specs.Becomes.{headerImage}
 use Rattle.storeimage.specs.Image.{storeSize, entryAt, logAt, rowsAt, wellFormedImage}
 use Rattle.storeimage.specs.Write.{logPut, rowsPut}
-use Rattle.lentimage.specs.Lent.{beginOf, holds, keptOf, lotIn}
+use Rattle.lentimage.specs.Lent.{beginOf, holdsKey, keptOf, lotIn}
 
 -- what the bytes of eight stores hold, by slot: the log of so many entries, and the vectors that so many rows of the table name
 unfoldable pub storesIn : List ℕ → Stores
@@ -63,6 +63,6 @@ pub record StateAfter (A : Type 0) (does : (Key → Bool) → held.Node → Resu
   pub lent : headerLent h′ ≡ true
   pub seats : slotsOf (nodeAt h′) ≡ slots
   pub bytes : h′ ≡ sets h 0 (headerImage (stateAt h′ s′) slots)
-  pub store : holds (nodeAt h) key ≡ true → (g : held.Held) → shardOf (stateAt h′ s′) key ≡ some g → StoreAfter s s′ (keptOf (nodeAt h) key) g
-  pub none : holds (nodeAt h) key ≡ false → s′ ≡ s
+  pub store : holdsKey (nodeAt h) key ≡ true → (g : held.Held) → heldShard (stateAt h′ s′) key ≡ some g → StoreAfter s s′ (keptOf (nodeAt h) key) g
+  pub none : holdsKey (nodeAt h) key ≡ false → s′ ≡ s
   pub formed : wellFormedHeader (stateAt h′ s′) ≡ true → formedNode (nodeAt h′) ≡ true

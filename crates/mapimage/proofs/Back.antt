@@ -25,7 +25,7 @@ use Rattle.image.specs.Shape.{Shape, Value, _▸_, u64, Good, value}
 use Rattle.image.proofs.Back.{length-encode, value-encode, length-rows, Holds, holds-stored, holds-kept}
 use Rattle.image.proofs.OfCodes.{flag-back, flag-small, primary-back, primary-small, outcome-back, outcome-small, replicas-back, ids-back}
 use Rattle.mapforms.specs.Canon.{imageNode, imageCollection, imageShard, imageSession}
-use Rattle.maprows.specs.Rows.{nodeF, nodeOf, nodeValue, nodeAt, nodeBytes, collectionF, collectionOf, collectionValue, collectionAt, collectionBytes, shardF, shardOf, shardValue, shardAt, shardBytes, sessionF, sessionOf, sessionValue, sessionAt, sessionBytes}
+use Rattle.maprows.specs.Rows.{nodeF, nodeOf, nodeValue, nodeAt, nodeBytes, collectionF, collectionOf, collectionValue, collectionAt, collectionBytes, shardF, shardRowOf, shardValue, shardAt, shardBytes, sessionF, sessionOf, sessionValue, sessionAt, sessionBytes}
 use Rattle.mapimage.specs.Image.{noNode, noCollection, noShard, noSession, codesListed, mapLent, mapAt, headImage, mapStored, imageMap, MapBecomes}
 use Rattle.mapimage.proofs.Canon.{view-map}
 use Rattle.mapimage.proofs.Tables.{Few, table-held, table-listed}
@@ -80,7 +80,7 @@ module _ (s : List ℕ) where
   shard-back : (r : ShardRow) (at : ℕ) (t : List ℕ) → ShardFits r → drop at s ≡ shardBytes r ++ t → shardAt s at ≡ r
   unfolding shardAt
   shard-back r at t g e =
-      ap shardOf (shard-value r at t g e) ∙ (rw (primary-back (r .primary), replicas-back (r .replicas .items), ids-back (r .insync .items)))
+      ap shardRowOf (shard-value r at t g e) ∙ (rw (primary-back (r .primary), replicas-back (r .replicas .items), ids-back (r .insync .items)))
 
   shard-code : (r : ShardRow) (at : ℕ) (t : List ℕ) → ShardFits r → drop at s ≡ shardBytes r ++ t → numberAt 4 s (at + 44) < 2
   shard-code r at t g e =

@@ -11,7 +11,7 @@ use Rattle.state.specs.declared.InSync.{InSync}
 use Rattle.state.specs.declared.ShardRow.{ShardRow}
 use Rattle.state.specs.declared.SessionRow.{SessionRow}
 use Rattle.image.specs.Shape.{Shape, Value, rep, _▸_, u32, u64, value, encode}
-use Rattle.image.specs.Parts.{nameF, nameOf, nameValue, addressF, addressOf, addressValue, keyF, keyOf, keyValue, replicaF, replicaOf, replicaValue, idValue, replicasAt, idsAt}
+use Rattle.image.specs.Parts.{nameF, nameOf, nameValue, addressF, addressOf, addressValue, keyF, keyOf, keyValue, replicaF, replicaRead, replicaValue, idValue, replicasAt, idsAt}
 use Rattle.image.specs.Codes.{idOf, epochOf, flagOf, flagCode, primaryOf, primaryCode, primaryNode, coded, outcomeOf, outcomeCoded}
 
 -- ---- rows
@@ -43,10 +43,10 @@ collectionValue c =
 abbrev pub shardF : Shape
 shardF = keyF ▸ u32 ▸ u64 ▸ u64 ▸ u64 ▸ u64 ▸ rep 8 replicaF ▸ rep 8 u64
 
-abbrev pub shardOf : Value shardF → ShardRow
-shardOf (((((((key, code), node), epoch), holders), synced), replicas), insync) = record {
+abbrev pub shardRowOf : Value shardF → ShardRow
+shardRowOf (((((((key, code), node), epoch), holders), synced), replicas), insync) = record {
   key = keyOf key;
-  replicas = record { items = map replicaOf replicas; count = holders };
+  replicas = record { items = map replicaRead replicas; count = holders };
   primary = primaryOf code node;
   insync = record { items = map idOf insync; count = synced };
   epoch = epochOf epoch;
@@ -94,7 +94,7 @@ unfoldable pub collectionBytes : CollectionRow → List ℕ
 collectionBytes c = encode collectionF (collectionValue c)
 
 unfoldable pub shardAt : List ℕ → ℕ → ShardRow
-shardAt s at = shardOf (value shardF s at)
+shardAt s at = shardRowOf (value shardF s at)
 
 unfoldable pub shardBytes : ShardRow → List ℕ
 shardBytes r = encode shardF (shardValue r)

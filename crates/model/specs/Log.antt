@@ -40,8 +40,8 @@ abbrev pub Vectors : Type 0
 Vectors = List Vector
 
 -- 'The log': the order of stored vectors, by id
-abbrev pub idBelow : Vector → Vector → Bool
-idBelow v w = ltb (v .id) (w .id)
+abbrev pub vectorBelow : Vector → Vector → Bool
+vectorBelow v w = ltb (v .id) (w .id)
 
 -- 'The log': a vector of another id stays
 abbrev pub otherId : ℕ → Vector → Bool
@@ -49,7 +49,7 @@ otherId id v = cond (eqb (v .id) id) false true
 
 -- 'The log': a Delete removes its id, the other operation sets its id's vector
 unfoldable pub applyOp : Vectors → Op → Vectors
-applyOp vs (upsert id xs) = put idBelow (record { id = id; components = xs }) vs
+applyOp vs (upsert id xs) = put vectorBelow (record { id = id; components = xs }) vs
 applyOp vs (delete id) = filter (otherId id) vs
 
 -- 'The log': operations played in order

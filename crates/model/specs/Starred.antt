@@ -1,4 +1,4 @@
--- Paper 01, 'Starred cases': the twelve cases as rows of one table, and a test of a row. That every row holds is computed in
+-- Paper 01, 'Starred cases': the twelve cases as rows of one table, and a test of a row. That every row rowHolds is computed in
 -- proofs/Cases/Starred.antt. Definitions only.
 use Prim.Native.Nat.{ℕ, zero, suc}
 use mathlib.Core.Bool.{Bool, true, false}
@@ -80,13 +80,13 @@ unfoldable pub numbered : (id : ℕ) → List (List ℕ) → List Vector
 numbered id [] = []
 numbered id (v ∷ vs) = record { id = id; components = floats v } ∷ numbered (suc id) vs
 
--- 'Starred cases': whether a row holds of the definitions
-unfoldable pub holds : Row → Bool
-holds (newEpoch own epochs epoch end table r) = repliesWith r (newEpochHeld epoch end table (backupAt own epochs) .answer)
-holds (replicate own epochs epoch offset r) = repliesWith r (replicateHeld epoch offset (delete 0) (backupAt own epochs) .answer)
-holds (distant metric q v bits) = eqb (toBits binary32 (distance metric (floats q) (floats v))) bits
-holds (nearest metric q vs k count) = eqb (length (hits metric (floats q) (numbered 1 vs) k)) count
-holds (shard id shards number) = eqb (shardOf id shards) number
+-- 'Starred cases': whether a row rowHolds of the definitions
+unfoldable pub rowHolds : Row → Bool
+rowHolds (newEpoch own epochs epoch end table r) = repliesWith r (newEpochHeld epoch end table (backupAt own epochs) .answer)
+rowHolds (replicate own epochs epoch offset r) = repliesWith r (replicateHeld epoch offset (delete 0) (backupAt own epochs) .answer)
+rowHolds (distant metric q v bits) = eqb (toBits binary32 (distance metric (floats q) (floats v))) bits
+rowHolds (nearest metric q vs k count) = eqb (length (hits metric (floats q) (numbered 1 vs) k)) count
+rowHolds (shard id shards number) = eqb (shardOf id shards) number
 
 -- 'Starred cases', in the paper's order. 3F800000 is 1, 40400000 is 3, 40800000 is 4, 40A00000 is 5
 unfoldable pub starred : List Row

@@ -8,7 +8,7 @@ use lib.ListN.{length}
 use Rattle.model.specs.Keys.{Key}
 use Rattle.model.specs.Layout.Message as message
 use Rattle.model.specs.Node.Held as held
-use Rattle.model.specs.Node.Shards.{shardOf}
+use Rattle.model.specs.Node.Shards.{heldShard}
 use Rattle.model.specs.Node.Backup.{newEpochHeld, beginEpoch, newEpochAt, onNewEpoch}
 use Rattle.model.specs.Node.Calls as calls
 use Rattle.node.specs.declared.Held.{Held}
@@ -71,7 +71,7 @@ module _ (n : Node) (m : List ℕ) where
 
     -- a shard that is not held begins as the definition says
     begins-as : (k : Key) → k ≡ keyIn m (p .key) → (b : PeerAnswer) → BeginsAt n k (p .epoch .0) (p .metric) b
-        → n .count ≤ length (n .held) → (s : Stores) → shardOf (viewNode s n) (keyIn m (p .key)) ≡ none
+        → n .count ≤ length (n .held) → (s : Stores) → heldShard (viewNode s n) (keyIn m (p .key)) ≡ none
         → viewPeer s b ≡ told word (onNewEpoch (viewNode s n) (keyIn m (p .key)) (r .epoch) (r .end) (r .table) (r .metric))
     unfolding onNewEpoch
     begins-as k named b d le s o =

@@ -11,7 +11,7 @@ use Rattle.model.specs.Lists.{lead}
 use Rattle.model.specs.Keys.{Key}
 use Rattle.model.specs.Log.{End}
 use Rattle.model.specs.Layout.Message.{NewEpoch, decodeNewEpoch}
-use Rattle.model.specs.Node.Shards.{shardOf}
+use Rattle.model.specs.Node.Shards.{heldShard}
 use Rattle.model.specs.Node.Backup.{beginEpoch}
 use Rattle.model.specs.Node.Calls as calls
 use Rattle.model.specs.declared.Metric.{Metric}
@@ -50,7 +50,7 @@ AnnouncesAt n a b m r = Serves (λ lent v. calls.newEpochWith lent v m) (NewEpoc
 
 -- internal: a shard that is not held, past the checks; no store is read or changed
 pub record BeginsAt (n : Node) (key : Key) (epoch : ℕ) (metric : Metric) (r : PeerAnswer) : Type 0 where
-  pub same : n .count ≤ length (n .held) → (s : Stores) → shardOf (viewNode s n) key ≡ none → (end : ℕ) (table : List End)
+  pub same : n .count ≤ length (n .held) → (s : Stores) → heldShard (viewNode s n) key ≡ none → (end : ℕ) (table : List End)
       → viewPeer s r ≡ told word (beginEpoch (viewNode s n) key epoch end table metric)
   pub seats : slotsOf (r .node) ≡ cond (turnedDown (r .answer)) (slotsOf n) (slotsWith n key)
   pub slots : slotsFit (used n) ≡ true → slotsFit (used (r .node)) ≡ true

@@ -10,7 +10,7 @@ use Rattle.model.specs.Refusals.{undecodable, malformed}
 use Rattle.model.specs.Layout.Message.{Reply}
 use Rattle.model.specs.Map.Apply.{update}
 use Rattle.model.specs.Node.Held.{Held, Node}
-use Rattle.model.specs.Node.Shards.{Result, gives, ofKey, shardOf, withHeld}
+use Rattle.model.specs.Node.Shards.{Result, gives, ofKey, heldShard, withHeld}
 use Rattle.model.specs.Node.Client.{WaitAnswer, waitRefused, waitHeld, onWait}
 use Rattle.model.specs.Node.Ack.{AckAnswer, ackRefused, Sent, badReply, ackHeld, onAck, OutcomeAnswer, outcomeRefused, outcomeHeld, outcomeAt, Proposal, leaves, onOutcome}
 use Rattle.model.specs.Node.Calls.{lateTime, waitWith, ackOf, outcomeWith}
@@ -18,14 +18,14 @@ use Rattle.model.proofs.Node.Shards.{at-held, update-same}
 use Rattle.node.specs.Answers.{waitCall, outcomeCall}
 use Rattle.node.specs.Acks.{ackCall}
 
-module _ (n : Node) (k : Key) (h : Held) (e : shardOf n k ≡ some h) where
+module _ (n : Node) (k : Key) (h : Held) (e : heldShard n k ≡ some h) where
   -- a call on the shard, put back into the node
   abbrev pub lifted : {A : Type 0} → (Held → Result A Held) → Result A Node
   lifted f = gives (f h .answer) (withHeld n (update (ofKey k) (λ x. f x .after) (n .held)))
 
   -- where it leaves the shard as it is, so it leaves the node
   refused-is : {A : Type 0} (a : A) → gives a n ≡ lifted (λ x. gives a x)
-  refused-is a = ap (gives a) (sym (ap (withHeld n) (update-same (ofKey k) (λ x. x) (n .held) h (unfold shardOf in e) refl)))
+  refused-is a = ap (gives a) (sym (ap (withHeld n) (update-same (ofKey k) (λ x. x) (n .held) h (unfold heldShard in e) refl)))
 
   pub wait-is : (lent : Bool) (now timeout epoch offset : ℕ)
       → waitWith lent n now timeout k epoch offset ≡ lifted (waitCall lent now timeout epoch offset)

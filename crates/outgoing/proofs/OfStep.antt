@@ -11,7 +11,7 @@ use Rattle.model.specs.Limits.{maxBatch}
 use Rattle.model.specs.Keys.{Key}
 use Rattle.model.specs.Log.{Entry, Log, entriesFrom, epochEnds}
 use Rattle.model.specs.Node.Held as held
-use Rattle.model.specs.Node.Shards.{shardOf, leadsAt, ofNode, onNode}
+use Rattle.model.specs.Node.Shards.{heldShard, leadsAt, ofNode, onNode}
 use Rattle.model.specs.Node.Worker.{Step, stop, wait, align, send, sendOf, stepRow, stepHeld, onStep, Form, Message, newEpochMessage, copies, copyOf, loneOf, endOffset, alignment, sending, requestHeld, onRequest}
 use Rattle.model.specs.Node.Calls.{requestOf}
 use Rattle.model.specs.declared.Metric.{Metric}
@@ -26,7 +26,7 @@ abbrev pub Word : Type 0
 Word = words.Step
 
 -- of a node that holds the shard, the request is the shard's
-pub request-of : (n : held.Node) (k : Key) (h : held.Held) (epoch peer : ℕ) (metric : Metric) (form : Form) → shardOf n k ≡ some h
+pub request-of : (n : held.Node) (k : Key) (h : held.Held) (epoch peer : ℕ) (metric : Metric) (form : Form) → heldShard n k ≡ some h
     → requestOf n k epoch peer metric form ≡ requestOn form epoch peer metric h
 unfolding requestOf onRequest onStep requestOn
 request-of n k h epoch peer metric form e = rw e

@@ -12,7 +12,7 @@ use Rattle.header.specs.declared.Node.{Node}
 use Rattle.header.specs.Seats.{slotsOf}
 use Rattle.headerimage.specs.Image.{nodeAt}
 use Rattle.lend.specs.Lend.{Lot, placeOf, Whole}
-use Rattle.lentimage.specs.Lent.{lendsState, holds, lotIn, Puts}
+use Rattle.lentimage.specs.Lent.{lendsState, holdsKey, lotIn, Puts}
 use Rattle.lentimage.specs.State.{StateAfter}
 use Rattle.peers.specs.declared.PeerAnswer.{PeerAnswer}
 use Rattle.peers.specs.Peers.{turnedDown}
@@ -21,7 +21,7 @@ use Rattle.peercalls.specs.declared.kind.Kind.the-variants.{Replicate, N
 use Rattle.peercalls.specs.Kinds.{NamesOf, CallOf, deedOf}
 use Rattle.peercalls.proofs.OfStates.{replicate-state, new-epoch-state, copy-state}
 
--- what holds of a kind that is known to be the other
+-- what holdsKey of a kind that is known to be the other
 pub called-as : (q w : Kind) (n : Node) (x y : Lot) (m : List ℕ) (a : PeerAnswer) → q ≡ w → CallOf w n x y m a → CallOf q n x y m a
 called-as q w n x y m a e d = subst (λ (z : Kind). CallOf z n x y m a) (sym e) d
 
@@ -31,7 +31,7 @@ whole-of Replicate m k n x y a names d stands = d .whole stands k names
 whole-of NewEpoch m k n x y a names d stands = d .whole stands k names
 whole-of CopyShard m k n x y a names d stands = d .whole stands k names
 
-module _ (m h s h′ s′ : List ℕ) (k : Key) (y : Lot) (a : PeerAnswer) (lends : lendsState h s k ≡ true) (bytes : holds (nodeAt h) k ≡ true → Bytes s)
+module _ (m h s h′ s′ : List ℕ) (k : Key) (y : Lot) (a : PeerAnswer) (lends : lendsState h s k ≡ true) (bytes : holdsKey (nodeAt h) k ≡ true → Bytes s)
     (stands : turnedDown (a .answer) ≡ false) (puts : Puts h h′ s s′ (nodeAt h) (a .node) y (placeOf (nodeAt h) k)) (keys : 0 < length (y .keys))
     (places : 0 < length (y .places)) where
   pub state-of : (q : Kind) → NamesOf q m k → CallOf q (nodeAt h) (lotIn s (nodeAt h) k) y m a

@@ -13,7 +13,7 @@ use Rattle.header.specs.Seats.{slotsOf}
 use Rattle.headerimage.specs.Image.{nodeAt}
 use Rattle.lend.specs.Lend.{Lot, placeOf, Whole}
 use Rattle.lentimage.specs.declared.Picked.{Picked}
-use Rattle.lentimage.specs.Lent.{lendsState, holds, lotIn, Picks, Puttable, Puts}
+use Rattle.lentimage.specs.Lent.{lendsState, holdsKey, lotIn, Picks, Puttable, Puts}
 use Rattle.lentimage.specs.State.{StateAfter}
 use Rattle.lentimage.proofs.OfPut.{puttable}
 use Rattle.peers.specs.declared.PeerAnswer.{PeerAnswer}
@@ -48,7 +48,7 @@ module _ (Call : Node → (a b : Lot) → List ℕ → PeerAnswer → Type 0) (d
 
     -- what the call's own promises say of the images that it left
     abbrev pub StateLaw : Buffers → Type 0
-    StateLaw c = lendsState h s k ≡ true → (holds (nodeAt h) k ≡ true → Bytes s) → turnedDown (a .answer) ≡ false
+    StateLaw c = lendsState h s k ≡ true → (holdsKey (nodeAt h) k ≡ true → Bytes s) → turnedDown (a .answer) ≡ false
         → Call (nodeAt h) (lotIn s (nodeAt h) k) y m a → Puts h (c .header) s (c .stores) (nodeAt h) (a .node) y (placeOf (nodeAt h) k)
         → StateAfter BackupAnswer (does m) h s (c .header) (c .stores) k (slotsOf (a .node))
 

@@ -12,7 +12,7 @@ use Rattle.model.specs.Keys.{Key}
 use Rattle.model.specs.Layout.Format.{Bytes}
 use Rattle.model.specs.Layout.Message.{Replicated, NewEpoch, Copied}
 use Rattle.model.specs.Node.Held as held
-use Rattle.model.specs.Node.Shards.{Result, shardOf}
+use Rattle.model.specs.Node.Shards.{Result, heldShard}
 use Rattle.model.specs.Node.Backup.{BackupAnswer, backupRefused}
 use Rattle.model.proofs.Lists.{not-both}
 use Rattle.retained.proofs.OfCalls.{replicate-retains, copy-retains, new-epoch-retains}
@@ -25,7 +25,7 @@ use Rattle.header.specs.Answers.{Told}
 use Rattle.header.proofs.OfLists.{by-case}
 use Rattle.headerimage.specs.Image.{nodeAt}
 use Rattle.lend.specs.Lend.{Lot, placeOf, slotOf, lentFor, Changes, Whole}
-use Rattle.lentimage.specs.Lent.{lendsState, holds, lotIn, Puttable, Puts}
+use Rattle.lentimage.specs.Lent.{lendsState, holdsKey, lotIn, Puttable, Puts}
 use Rattle.lentimage.specs.State.{StateAfter}
 use Rattle.lentimage.proofs.OfPut.{puttable}
 use Rattle.lentimage.proofs.OfLent.{same-state, begun-state}
@@ -35,7 +35,7 @@ use Rattle.peers.specs.Peers.{word, turnedDown, Serves, ReplicateNames, Replica
 use Rattle.newepoch.specs.Announces.{NewEpochNames, NewEpochSlot, slotsWith, slotsThen, AnnouncesAt}
 use Rattle.peercalls.specs.PeerCalls.{replicates, announces, copies}
 
-module _ (m h s h′ s′ : List ℕ) (k : Key) (y : Lot) (a : PeerAnswer) (lends : lendsState h s k ≡ true) (bytes : holds (nodeAt h) k ≡ true → Bytes s)
+module _ (m h s h′ s′ : List ℕ) (k : Key) (y : Lot) (a : PeerAnswer) (lends : lendsState h s k ≡ true) (bytes : holdsKey (nodeAt h) k ≡ true → Bytes s)
     (stands : turnedDown (a .answer) ≡ false) (puts : Puts h h′ s s′ (nodeAt h) (a .node) y (placeOf (nodeAt h) k)) where
   abbrev n : Node
   n = nodeAt h
@@ -99,7 +99,7 @@ module _ (m h s h′ s′ : List ℕ) (k : Key) (y : Lot) (a : PeerAnswer) (lend
       (λ e.
       same-state (announces m) h s h′ s′ k (a .node) y lends bytes said₁ lent (d .slots) puts
       (seats ∙ ap (λ (b : Bool). cond b (slotsOf n) (slotsWith n k)) e) (may (d .whole stands k names))
-      (λ f v g q. new-epoch-retains v f m (λ w i. (g, subst (λ (j : Key). shardOf v j ≡ some g) (names w i) q))))
+      (λ f v g q. new-epoch-retains v f m (λ w i. (g, subst (λ (j : Key). heldShard v j ≡ some g) (names w i) q))))
       (λ e.
       begun-state (announces m) h s h′ s′ k (a .node) y lends bytes said₁ lent (d .slots) puts
       (ltb-false (placeOf n k) (n .count) e) (seats ∙ ap (λ (b : Bool). cond b (slotsOf n) (slotsWith n k)) e) keys places

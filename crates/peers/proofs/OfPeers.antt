@@ -11,7 +11,7 @@ use Rattle.model.specs.Refusals.{outsideDomain, malformed}
 use Rattle.model.specs.Layout.Message as message
 use Rattle.model.specs.Layout.Parts.{WireOp, WireEntry}
 use Rattle.model.specs.Node.Held as held
-use Rattle.model.specs.Node.Shards.{Result, gives, shardOf, atShard}
+use Rattle.model.specs.Node.Shards.{Result, gives, heldShard, atShard}
 use Rattle.model.specs.Node.Wire.{opInDomain, entryInDomain, storedOp, storedEntry}
 use Rattle.model.specs.Node.Backup.{BackupAnswer, backupRefused, unheld, replicateHeld, onReplicate, copyHeld, onCopy}
 use Rattle.model.specs.Node.Calls as calls
@@ -81,7 +81,7 @@ pub record Reading (call : (Key → Bool) → held.Node → Result BackupAnswer 
     (seated : PeerReply → Node → Type 0) (n : Node) (key : Key) (fine : Bool) (rest : held.Node → Result BackupAnswer held.Node)
     (does : held.Held → Result BackupAnswer held.Held) : Type 0 where
   pub shape : (lent : Key → Bool) (v : held.Node) → call lent v ≡ atOf lent v key fine (rest v)
-  pub there : (v : held.Node) (h : held.Held) → shardOf v key ≡ some h → rest v ≡ atShard v key unheld does
+  pub there : (v : held.Node) (h : held.Held) → heldShard v key ≡ some h → rest v ≡ atShard v key unheld does
   pub slot : (i : ℕ) → lends i → i ≡ slotOf n key
   pub named : (k : Key) → names k → k ≡ key
   -- turned down, or at a held shard, the slots stay
@@ -113,7 +113,7 @@ module _ (call : (Key → Bool) → held.Node → Result BackupAnswer held.Node)
 
     -- a shard that is not held: no store changes
     pub absent : f ≡ L.Absent → (w : PeerReply) (p : Node)
-        → (n .count ≤ length (n .held) → (s : Stores) → shardOf (viewNode s n) key ≡ none
+        → (n .count ≤ length (n .held) → (s : Stores) → heldShard (viewNode s n) key ≡ none
         → record { answer = w; node = viewNode s p } ≡ told word (rest (viewNode s n)))
         → (slotsFit (used n) ≡ true → slotsFit (used p) ≡ true) → seated w p → (turnedDown w ≡ true → p ≡ n)
         → Serves call lends names seated n a a (record { answer = w; node = p })

@@ -159,6 +159,6 @@ module _ (p : Position) (w : within p ≡ true) where
   in-domain = rw (int-in (arcseconds (p .ra)) (ra-seconds p w), int-in (leftOver (p .ra)) (ra-left p w)) (rw (int-in (arcseconds (p .dec)) (dec-seconds p w), int-in (leftOver (p .dec)) (dec-left p w)) refl)
 
   -- as a message brings it: a Write of these floats is not refused with 22
-  pub wire-in-domain : wire.vectorInDomain (map wire.bitsOf (floatsOf p)) ≡ true
-  unfolding wire.vectorInDomain every floatsOf
+  pub wire-in-domain : wire.patternsInDomain (map wire.bitsOf (floatsOf p)) ≡ true
+  unfolding wire.patternsInDomain every floatsOf
   wire-in-domain = rw (bits-in (arcseconds (p .ra)) (ra-seconds p w), bits-in (leftOver (p .ra)) (ra-left p w)) (rw (bits-in (arcseconds (p .dec)) (dec-seconds p w), bits-in (leftOver (p .dec)) (dec-left p w)) refl)

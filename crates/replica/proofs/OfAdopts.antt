@@ -17,7 +17,7 @@ use Rattle.rpc.specs.Shown.{messageOf, newEpochPart}
 use Rattle.rpc.specs.declared.NewEpochPart.{NewEpochPart}
 use Rattle.rpc.specs.declared.Message.the-variants.{NewEpoch}
 use Rattle.rpc.proofs.Decoded.{new-epoch-decoded, new-epoch-answered}
-use Rattle.shard.specs.Store.{Store, replicaOf}
+use Rattle.shard.specs.Store.{Store, replicaIn}
 use Rattle.shard.specs.Align.{Aligned}
 use Rattle.shard.specs.declared.replica.Adoption.{Adoption}
 use Rattle.arrivals.specs.Parts.{tableIn}
@@ -32,12 +32,12 @@ use Rattle.replica.proofs.OfCalls.{none-of, tested-none, tested-malform
 
 -- the definition by the two epochs
 adopt-by : (own : ℕ) (m : Metric) (s : Store) (epoch end : ℕ) (t : List End) (b : Bool) → ltb epoch own ≡ b
-    → adoptTo (replicaOf own m s) epoch end t ≡ cond b (gives (A.StaleEpoch (record { 0 = own })) (replicaOf own m s))
-    (gives (A.Adopted (record { 0 = lastOffset (adopted (replicaOf own m s) epoch end t) })) (adopted (replicaOf own m s) epoch end t))
-unfolding adoptTo replicaOf
+    → adoptTo (replicaIn own m s) epoch end t ≡ cond b (gives (A.StaleEpoch (record { 0 = own })) (replicaIn own m s))
+    (gives (A.Adopted (record { 0 = lastOffset (adopted (replicaIn own m s) epoch end t) })) (adopted (replicaIn own m s) epoch end t))
+unfolding adoptTo replicaIn
 adopt-by own m s epoch end t b e =
-    ap (λ (x : Bool). cond x (gives (A.StaleEpoch (record { 0 = own })) (replicaOf own m s))
-    (gives (A.Adopted (record { 0 = lastOffset (adopted (replicaOf own m s) epoch end t) })) (adopted (replicaOf own m s) epoch end t))) e
+    ap (λ (x : Bool). cond x (gives (A.StaleEpoch (record { 0 = own })) (replicaIn own m s))
+    (gives (A.Adopted (record { 0 = lastOffset (adopted (replicaIn own m s) epoch end t) })) (adopted (replicaIn own m s) epoch end t))) e
 
 module _ (b : List ℕ) (own : Epoch) (s : Store) (count stored : ℕ) where
   pub adopts-unread : ((p : NewEpochPart) → messageOf b ≡ NewEpoch p → ⊥)
@@ -61,12 +61,12 @@ module _ (b : List ℕ) (own : Epoch) (s : Store) (count stored : ℕ) where
         calls-refused (adoptLent b (own .0) s) own s malformed count stored (λ m. tested-malformed _ _ _ _ _ w read refl f)
 
     there : lentFits s ≡ true → (m : Metric)
-        → adoptLent b (own .0) s m ≡ adoptTo (replicaOf (own .0) m s) (p .epoch .0) (p .end .0) (tableIn b (p .table))
+        → adoptLent b (own .0) s m ≡ adoptTo (replicaIn (own .0) m s) (p .epoch .0) (p .end .0) (tableIn b (p .table))
     unfolding adoptLent
     there f m =
         tested-there _ _ _ _ _ w read refl f
-        ∙ ap (λ (x : List End). adoptTo (replicaOf (own .0) m s) (w .epoch) (w .end) x) (sym (new-epoch-table b p i w read))
-        ∙ ap (λ (z : NewEpochPart). adoptTo (replicaOf (own .0) m s) (z .epoch .0) (z .end .0) (tableIn b (p .table))) (sym (new-epoch-part b p i w read))
+        ∙ ap (λ (x : List End). adoptTo (replicaIn (own .0) m s) (w .epoch) (w .end) x) (sym (new-epoch-table b p i w read))
+        ∙ ap (λ (z : NewEpochPart). adoptTo (replicaIn (own .0) m s) (z .epoch .0) (z .end .0) (tableIn b (p .table))) (sym (new-epoch-part b p i w read))
 
     pub adopts-older : lentFits s ≡ true → p .epoch .0 < own .0
         → Calls (adoptLent b (own .0) s) (own .0) s s (record { answer = A.StaleEpoch own; epoch = own; count = count; stored = stored })
@@ -82,12 +82,12 @@ module _ (b : List ℕ) (own : Epoch) (s : Store) (count stored : ℕ) where
         → Calls (adoptLent b (own .0) s) (own .0) s t (record { answer = A.Adopted (record { 0 = t .count }); epoch = p .epoch; count = count; stored = stored })
     adopts-taken t a f l d = record {
       same = λ m.
-          let r = replicaOf (own .0) m s in
+          let r = replicaIn (own .0) m s in
           let n = adopted r (p .epoch .0) (p .end .0) (tableIn b (p .table)) in
           let o : ltb (p .epoch .0) (own .0) ≡ false = le-ltb _ _ l in
-          let q : replicaOf (p .epoch .0) m t ≡ n =
-          ap (λ (x : Bool). replicaOf (cond x (own .0) (p .epoch .0)) m t) (sym o) ∙ d .replica m ∙ ap (λ (x : Bool). cond x r n) o in
-          ap (λ (k : ℕ). gives {S = ShardReplica} (A.Adopted (record { 0 = k })) (replicaOf (p .epoch .0) m t)) (sym (last-is (p .epoch .0) m t))
+          let q : replicaIn (p .epoch .0) m t ≡ n =
+          ap (λ (x : Bool). replicaIn (cond x (own .0) (p .epoch .0)) m t) (sym o) ∙ d .replica m ∙ ap (λ (x : Bool). cond x r n) o in
+          ap (λ (k : ℕ). gives {S = ShardReplica} (A.Adopted (record { 0 = k })) (replicaIn (p .epoch .0) m t)) (sym (last-is (p .epoch .0) m t))
           ∙ ap (λ (x : ShardReplica). gives {S = ShardReplica} (A.Adopted (record { 0 = lastOffset x })) x) q
           ∙ sym (there f m ∙ adopt-by (own .0) m s (p .epoch .0) (p .end .0) (tableIn b (p .table)) false o);
       kept = λ k. not-both false k refl;

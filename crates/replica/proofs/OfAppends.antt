@@ -22,7 +22,7 @@ use Rattle.rpc.specs.Shown.{messageOf, writePart}
 use Rattle.rpc.specs.declared.WritePart.{WritePart}
 use Rattle.rpc.specs.declared.Message.the-variants.{Write}
 use Rattle.rpc.proofs.Decoded.{write-decoded, write-answered}
-use Rattle.shard.specs.Store.{Store, Pushed, replicaOf}
+use Rattle.shard.specs.Store.{Store, Pushed, replicaIn}
 use Rattle.arrivals.specs.Parts.{opIn}
 use Rattle.arrivals.proofs.OfMessages.{write-op}
 use Rattle.arrivals.proofs.OfStores.{last-is}
@@ -33,38 +33,38 @@ use Rattle.replica.proofs.OfFits.{fits-from}
 use Rattle.replica.proofs.OfCalls.{none-of, tested-none, tested-outside, tested-malformed, tested-there, calls-refused}
 
 -- an append makes the log one longer
-longer : (own : ℕ) (m : Metric) (s : Store) (op : Op) → lastOffset (append (replicaOf own m s) op) ≡ s .count + 1
+longer : (own : ℕ) (m : Metric) (s : Store) (op : Op) → lastOffset (append (replicaIn own m s) op) ≡ s .count + 1
 unfolding append
 longer own m s op =
-    push-length (replicaOf own m s) (record { epoch = replicaOf own m s .epoch; offset = lastOffset (replicaOf own m s) + 1; op = op })
+    push-length (replicaIn own m s) (record { epoch = replicaIn own m s .epoch; offset = lastOffset (replicaIn own m s) + 1; op = op })
     ∙ ap (λ (n : ℕ). n + 1) (last-is own m s)
 
 -- 23 at 1,024 entries
-append-full : (own : ℕ) (m : Metric) (s : Store) (op : Op) → s .count ≡ 1024 → appendTo (replicaOf own m s) op ≡ refused noRoom (replicaOf own m s)
+append-full : (own : ℕ) (m : Metric) (s : Store) (op : Op) → s .count ≡ 1024 → appendTo (replicaIn own m s) op ≡ refused noRoom (replicaIn own m s)
 unfolding appendTo
 append-full own m s op e =
     let l = longer own m s op in
-    let o : overfull (append (replicaOf own m s) op) ≡ true = lt-ltb 1024 (lastOffset (append (replicaOf own m s) op)) (omega arith) in
-    ap (λ (b : Bool). cond b (refused noRoom (replicaOf own m s)) (gives (A.Appended (record { 0 = lastOffset (append (replicaOf own m s) op) })) (append (replicaOf own m s) op))) o
+    let o : overfull (append (replicaIn own m s) op) ≡ true = lt-ltb 1024 (lastOffset (append (replicaIn own m s) op)) (omega arith) in
+    ap (λ (b : Bool). cond b (refused noRoom (replicaIn own m s)) (gives (A.Appended (record { 0 = lastOffset (append (replicaIn own m s) op) })) (append (replicaIn own m s) op))) o
 
 -- the entry pushed at the next offset under the own epoch is the append
 module _ (own : ℕ) (m : Metric) (s t : Store) (op : Op) (room : s .count < 1024)
     (p : Pushed s t (record { epoch = own; offset = s .count + 1; op = op })) where
-  pushed-is : replicaOf own m t ≡ append (replicaOf own m s) op
-  unfolding replicaOf append
+  pushed-is : replicaIn own m t ≡ append (replicaIn own m s) op
+  unfolding replicaIn append
   pushed-is =
       p .replica own m
-      ∙ ap (λ (n : ℕ). push (replicaOf own m s) (record { epoch = own; offset = n + 1; op = op })) (sym (last-is own m s))
+      ∙ ap (λ (n : ℕ). push (replicaIn own m s) (record { epoch = own; offset = n + 1; op = op })) (sym (last-is own m s))
 
-  append-there : gives (A.Appended (record { 0 = s .count + 1 })) (replicaOf own m t) ≡ appendTo (replicaOf own m s) op
+  append-there : gives (A.Appended (record { 0 = s .count + 1 })) (replicaIn own m t) ≡ appendTo (replicaIn own m s) op
   unfolding appendTo
   append-there =
       let l = longer own m s op in
-      let n = append (replicaOf own m s) op in
+      let n = append (replicaIn own m s) op in
       let o : overfull n ≡ false = le-ltb 1024 (lastOffset n) (omega arith) in
-      ap (λ (x : ℕ). gives {S = ShardReplica} (A.Appended (record { 0 = x })) (replicaOf own m t)) (sym l)
+      ap (λ (x : ℕ). gives {S = ShardReplica} (A.Appended (record { 0 = x })) (replicaIn own m t)) (sym l)
       ∙ ap (λ (r : ShardReplica). gives {S = ShardReplica} (A.Appended (record { 0 = lastOffset n })) r) pushed-is
-      ∙ sym (ap (λ (b : Bool). cond b (refused noRoom (replicaOf own m s)) (gives (A.Appended (record { 0 = lastOffset n })) n)) o)
+      ∙ sym (ap (λ (b : Bool). cond b (refused noRoom (replicaIn own m s)) (gives (A.Appended (record { 0 = lastOffset n })) n)) o)
 
 -- ---- by the message
 
@@ -102,11 +102,11 @@ module _ (b : List ℕ) (own : Epoch) (s : Store) (count stored : ℕ) where
           calls-refused (appendLent b (own .0) s) own s malformed count stored
           (λ m. tested-malformed _ _ _ _ _ w read (sym (ap opInDomain op-is) ∙ o) f)
 
-      there : lentFits s ≡ true → (m : Metric) → appendLent b (own .0) s m ≡ appendTo (replicaOf (own .0) m s) (storedOp (opIn b (p .op)))
+      there : lentFits s ≡ true → (m : Metric) → appendLent b (own .0) s m ≡ appendTo (replicaIn (own .0) m s) (storedOp (opIn b (p .op)))
       unfolding appendLent
       there f m =
           tested-there _ _ _ _ _ w read (sym (ap opInDomain op-is) ∙ o) f
-          ∙ ap (λ (x : WireOp). appendTo (replicaOf (own .0) m s) (storedOp x)) (sym op-is)
+          ∙ ap (λ (x : WireOp). appendTo (replicaIn (own .0) m s) (storedOp x)) (sym op-is)
 
       pub appends-full : lentFits s ≡ true → s .count ≡ 1024
           → Calls (appendLent b (own .0) s) (own .0) s s (record { answer = A.Refused 23; epoch = own; count = count; stored = stored })
@@ -118,7 +118,7 @@ module _ (b : List ℕ) (own : Epoch) (s : Store) (count stored : ℕ) where
           → Pushed s t (record { epoch = own .0; offset = s .count + 1; op = op })
           → Calls (appendLent b (own .0) s) (own .0) s t (record { answer = A.Appended (record { 0 = s .count + 1 }); epoch = own; count = count; stored = stored })
       appends-pushed t op f l q d = record {
-        same = λ m. append-there (own .0) m s t op l d ∙ ap (appendTo (replicaOf (own .0) m s)) q ∙ sym (there f m);
+        same = λ m. append-there (own .0) m s t op l d ∙ ap (appendTo (replicaIn (own .0) m s)) q ∙ sym (there f m);
         kept = λ k. not-both false k refl;
         fits = λ _. fits-from t (d .sized) (d .well);
         spares = d .spares;

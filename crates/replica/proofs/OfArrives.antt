@@ -18,7 +18,7 @@ use Rattle.rpc.specs.Shown.{messageOf, replicatePart}
 use Rattle.rpc.specs.declared.ReplicatePart.{ReplicatePart}
 use Rattle.rpc.specs.declared.Message.the-variants.{Replicate}
 use Rattle.rpc.proofs.Decoded.{replicate-decoded, replicate-answered}
-use Rattle.shard.specs.Store.{Store, answerOf, replicaOf}
+use Rattle.shard.specs.Store.{Store, answerOf, replicaIn}
 use Rattle.shard.specs.declared.replica.Outcome.{Outcome}
 use Rattle.shard.specs.declared.replica.Outcome.the-variants.{Through, Gap, Stale, Full}
 use Rattle.arrivals.specs.Parts.{opIn}
@@ -91,15 +91,15 @@ module _ (b : List ℕ) (own : Epoch) (s : Store) (count stored : ℕ) where
       abbrev sent : Entry
       sent = record { epoch = p .epoch .0; offset = p .offset .0; op = storedOp (opIn b (p .op)) }
 
-      there : lentFits s ≡ true → (m : Metric) → storeLent b (own .0) s m ≡ storeTo (replicaOf (own .0) m s) (p .epoch .0) sent
+      there : lentFits s ≡ true → (m : Metric) → storeLent b (own .0) s m ≡ storeTo (replicaIn (own .0) m s) (p .epoch .0) sent
       unfolding storeLent
       there f m =
           tested-there _ _ _ _ _ w read (sym (ap opInDomain op-is) ∙ o) f
-          ∙ ap (λ (x : WireOp). storeTo (replicaOf (own .0) m s) (w .epoch) (record { epoch = w .epoch; offset = w .offset; op = storedOp x })) (sym op-is)
-          ∙ ap (λ (z : ReplicatePart). storeTo (replicaOf (own .0) m s) (z .epoch .0) (record { epoch = z .epoch .0; offset = z .offset .0; op = storedOp (opIn b (p .op)) })) (sym part-is)
+          ∙ ap (λ (x : WireOp). storeTo (replicaIn (own .0) m s) (w .epoch) (record { epoch = w .epoch; offset = w .offset; op = storedOp x })) (sym op-is)
+          ∙ ap (λ (z : ReplicatePart). storeTo (replicaIn (own .0) m s) (z .epoch .0) (record { epoch = z .epoch .0; offset = z .offset .0; op = storedOp (opIn b (p .op)) })) (sym part-is)
 
       abbrev taken : Metric → StoreResult
-      taken m = store (replicaOf (own .0) m s) (p .epoch .0) sent
+      taken m = store (replicaIn (own .0) m s) (p .epoch .0) sent
 
       pub stores-taken : (t : Store) (a : Outcome) (r : Answer) → lentFits s ≡ true → r ≡ outcomeAs a
           → Arrives (own .0) (p .epoch .0) sent s t a
@@ -107,9 +107,9 @@ module _ (b : List ℕ) (own : Epoch) (s : Store) (count stored : ℕ) where
       unfolding storeTo
       stores-taken t a r f e d = record {
         same = λ m.
-            ap (λ (x : Answer). gives {S = ShardReplica} x (replicaOf (own .0) m t)) e
+            ap (λ (x : Answer). gives {S = ShardReplica} x (replicaIn (own .0) m t)) e
             ∙ ap (λ (x : ShardReplica). gives {S = ShardReplica} (outcomeAs a) x) (d .arrived .replica m)
-            ∙ outcome-as a (overfull (taken m .replica)) (taken m .answer) (replicaOf (own .0) m s) (taken m .replica) (d .arrived .answer m) ∙ sym (there f m);
+            ∙ outcome-as a (overfull (taken m .replica)) (taken m .answer) (replicaIn (own .0) m s) (taken m .replica) (d .arrived .answer m) ∙ sym (there f m);
         kept = λ k. (d .kept (down-as a (sym (ap turnedDown e) ∙ k)), refl);
         fits = λ _. fits-from t (d .arrived .sized) (d .arrived .well);
         spares = d .arrived .spares;

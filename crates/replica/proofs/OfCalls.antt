@@ -7,7 +7,7 @@ use Rattle.model.specs.Refusals.{Refusal, numberOf, undecodable, outsideDomain,
 use Rattle.model.specs.Log.{ShardReplica}
 use Rattle.model.specs.declared.Metric.{Metric}
 use Rattle.model.specs.declared.Epoch.{Epoch}
-use Rattle.shard.specs.Store.{Store, replicaOf}
+use Rattle.shard.specs.Store.{Store, replicaIn}
 use Rattle.shard.proofs.Spared.{spares-none}
 use Rattle.replica.specs.Fits.{lentFits}
 use Rattle.replica.specs.Calls.{After, refused, tested, Calls}
@@ -38,6 +38,6 @@ module _ {M : Type 0} (o : Option M) (inside : M → Bool) (s : Store) (r : Shar
 
 -- a refused call leaves the store as it was
 pub calls-refused : (call : Metric → After) (own : Epoch) (s : Store) (x : Refusal) (count stored : ℕ)
-    → ((m : Metric) → call m ≡ refused x (replicaOf (own .0) m s))
+    → ((m : Metric) → call m ≡ refused x (replicaIn (own .0) m s))
     → Calls call (own .0) s s (record { answer = A.Refused (numberOf x); epoch = own; count = count; stored = stored })
 calls-refused call own s x count stored e = record { same = λ m. sym (e m); kept = λ k. (refl, refl); fits = λ w. w; spares = spares-none s }

@@ -23,7 +23,7 @@ use Rattle.rpc.specs.Shown.{messageOf, copyPart}
 use Rattle.rpc.specs.declared.CopyPart.{CopyPart}
 use Rattle.rpc.specs.declared.Message.the-variants.{CopyShard}
 use Rattle.rpc.proofs.Decoded.{copy-decoded, copy-answered}
-use Rattle.shard.specs.Store.{Store, replicaOf}
+use Rattle.shard.specs.Store.{Store, replicaIn}
 use Rattle.shard.specs.declared.replica.Outcome.{Outcome}
 use Rattle.shard.specs.declared.replica.Outcome.the-variants.{Through, Gap, Stale, Full}
 use Rattle.arrivals.specs.Parts.{entriesIn}
@@ -115,21 +115,21 @@ module _ (b : List ℕ) (own : Epoch) (s : Store) (count stored : ℕ) where
       abbrev batch : List Entry
       batch = map storedEntry (entriesIn b (p .entries))
 
-      there : lentFits s ≡ true → (m : Metric) → copyLent b (own .0) s m ≡ copyTo (replicaOf (own .0) m s) (p .epoch .0) batch
+      there : lentFits s ≡ true → (m : Metric) → copyLent b (own .0) s m ≡ copyTo (replicaIn (own .0) m s) (p .epoch .0) batch
       unfolding copyLent
       there f m =
           tested-there _ _ _ _ _ w read (sym (ap (every entryInDomain) entries-is) ∙ o) f
-          ∙ ap (λ (x : List WireEntry). copyTo (replicaOf (own .0) m s) (w .epoch) (map storedEntry x)) (sym entries-is)
-          ∙ ap (λ (z : CopyPart). copyTo (replicaOf (own .0) m s) (z .epoch .0) batch) (sym part-is)
+          ∙ ap (λ (x : List WireEntry). copyTo (replicaIn (own .0) m s) (w .epoch) (map storedEntry x)) (sym entries-is)
+          ∙ ap (λ (z : CopyPart). copyTo (replicaIn (own .0) m s) (z .epoch .0) batch) (sym part-is)
 
       pub copies-taken : (t : Store) (a : Outcome) (r : Answer) → lentFits s ≡ true → r ≡ outcomeAs a
           → Copies (own .0) (p .epoch .0) batch s t a
           → Calls (copyLent b (own .0) s) (own .0) s t (record { answer = r; epoch = own; count = count; stored = stored })
       copies-taken t a r f e d = record {
         same = λ m.
-            ap (λ (x : Answer). gives {S = ShardReplica} x (replicaOf (own .0) m t)) (e ∙ back-outcome a)
-            ∙ ap back (d .same m (held (replicaOf (own .0) m s)) refl)
-            ∙ copy-is (replicaOf (own .0) m s) (p .epoch .0) batch ∙ sym (there f m);
+            ap (λ (x : Answer). gives {S = ShardReplica} x (replicaIn (own .0) m t)) (e ∙ back-outcome a)
+            ∙ ap back (d .same m (held (replicaIn (own .0) m s)) refl)
+            ∙ copy-is (replicaIn (own .0) m s) (p .epoch .0) batch ∙ sym (there f m);
         kept = λ k. (d .kept (down-as a (sym (ap turnedDown e) ∙ k)), refl);
         fits = λ _. fits-from t (d .sized) (d .well);
         spares = d .spares;

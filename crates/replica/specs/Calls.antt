@@ -15,7 +15,7 @@ use Rattle.model.specs.Node.Shards.{Result, gives}
 use Rattle.model.specs.Node.Client.{overfull}
 use Rattle.model.specs.Node.Backup.{isEmpty}
 use Rattle.model.specs.declared.Metric.{Metric}
-use Rattle.shard.specs.Store.{Store, Spares, replicaOf}
+use Rattle.shard.specs.Store.{Store, Spares, replicaIn}
 use Rattle.shard.specs.declared.replica.Outcome.{Outcome}
 use Rattle.shard.specs.declared.replica.Outcome.the-variants.{Through, Gap, Stale, Full}
 use Rattle.replica.specs.Fits.{lentFits}
@@ -45,7 +45,7 @@ appendTo r op =
 -- 23 on the wire: a Write's operation; neither its key nor its epoch is looked at
 unfoldable pub appendLent : List ℕ → (own : ℕ) → Store → Metric → After
 appendLent b own s m =
-    tested (message.decodeWrite b) (λ w. opInDomain (w .op)) s (replicaOf own m s) (λ w. appendTo (replicaOf own m s) (storedOp (w .op)))
+    tested (message.decodeWrite b) (λ w. opInDomain (w .op)) s (replicaIn own m s) (λ w. appendTo (replicaIn own m s) (storedOp (w .op)))
 
 -- shard.rs, Stored: 30, 31 or 32 on the wire
 abbrev pub storedAs : Stored → Answer
@@ -62,8 +62,8 @@ storeTo r epoch e =
 -- 20 on the wire: one entry, stored under the message's epoch
 unfoldable pub storeLent : List ℕ → (own : ℕ) → Store → Metric → After
 storeLent b own s m =
-    tested (message.decodeReplicate b) (λ w. opInDomain (w .op)) s (replicaOf own m s)
-    (λ w. storeTo (replicaOf own m s) (w .epoch) (record { epoch = w .epoch; offset = w .offset; op = storedOp (w .op) }))
+    tested (message.decodeReplicate b) (λ w. opInDomain (w .op)) s (replicaIn own m s)
+    (λ w. storeTo (replicaIn own m s) (w .epoch) (record { epoch = w .epoch; offset = w .offset; op = storedOp (w .op) }))
 
 -- node.rs, on_copy: entries one after the other; an empty batch is Stored at any epoch, and 23 stores nothing
 unfoldable pub copyTo : ShardReplica → (epoch : ℕ) → List Entry → After
@@ -76,8 +76,8 @@ copyTo r epoch es =
 -- 22 on the wire: entries under their own epochs
 unfoldable pub copyLent : List ℕ → (own : ℕ) → Store → Metric → After
 copyLent b own s m =
-    tested (message.decodeCopyShard b) (λ w. every entryInDomain (w .entries)) s (replicaOf own m s)
-    (λ w. copyTo (replicaOf own m s) (w .epoch) (map storedEntry (w .entries)))
+    tested (message.decodeCopyShard b) (λ w. every entryInDomain (w .entries)) s (replicaIn own m s)
+    (λ w. copyTo (replicaIn own m s) (w .epoch) (map storedEntry (w .entries)))
 
 -- shard.rs, adopt: an older epoch is StaleEpoch own; else the log is aligned, under the new epoch
 unfoldable pub adoptTo : ShardReplica → (epoch end : ℕ) → List End → After
@@ -88,7 +88,7 @@ adoptTo r epoch end t =
 -- 21 on the wire: it has no vector
 unfoldable pub adoptLent : List ℕ → (own : ℕ) → Store → Metric → After
 adoptLent b own s m =
-    tested (message.decodeNewEpoch b) (λ w. true) s (replicaOf own m s) (λ w. adoptTo (replicaOf own m s) (w .epoch) (w .end) (w .table))
+    tested (message.decodeNewEpoch b) (λ w. true) s (replicaIn own m s) (λ w. adoptTo (replicaIn own m s) (w .epoch) (w .end) (w .table))
 
 -- what became of entries, as an answer; Full is 23
 abbrev pub outcomeAs : Outcome → Answer
@@ -110,7 +110,7 @@ turnedDown (A.Refused n) = true
 -- every place of the lent columns and both counts are as they were, the free places too; so they are after a Gap, a repeated Stored and an
 -- Adopted that cuts nothing. Else new entries are all that the log's columns differ by (`Spares`)
 pub record Calls (call : Metric → After) (own : ℕ) (s t : Store) (d : Done) : Type 0 where
-  pub same : (m : Metric) → gives (d .answer) (replicaOf (d .epoch .0) m t) ≡ call m
+  pub same : (m : Metric) → gives (d .answer) (replicaIn (d .epoch .0) m t) ≡ call m
   pub kept : turnedDown (d .answer) ≡ true → (t ≡ s) × (d .epoch .0 ≡ own)
   pub fits : lentFits s ≡ true → lentFits t ≡ true
   pub spares : Spares s t

@@ -50,19 +50,19 @@ namedOf c name shard = record { command = c; name = name; shard = shard; address
 abbrev pub plainOf : Command → Operands
 plainOf c = namedOf c nowhere 0
 
-abbrev pub shardOf : Change → Epoch → KeyPart → Operands
-shardOf c e k = namedOf (OfShard c e) (k .name) (k .shard)
+abbrev pub shardOperands : Change → Epoch → KeyPart → Operands
+shardOperands c e k = namedOf (OfShard c e) (k .name) (k .shard)
 
 abbrev pub operandsOf : CommandPart → Operands
 operandsOf (part.Create c) = createdOf c
 operandsOf (part.Drop p) = namedOf Drop p 0
 operandsOf (part.Register c) = registeredOf c
 operandsOf (part.MarkNodeDead c) = plainOf (MarkNodeDead (c .node) (c .incarnation))
-operandsOf (part.AddReplica c) = shardOf (Add (c .node) (c .incarnation)) (c .epoch) (c .key)
-operandsOf (part.Remove c) = shardOf (Remove (c .node)) (c .epoch) (c .key)
-operandsOf (part.Promote c) = shardOf (Promote (c .node)) (c .epoch) (c .key)
-operandsOf (part.Shrink c) = shardOf (Shrink (c .node)) (c .epoch) (c .key)
-operandsOf (part.Expand c) = shardOf (Expand (c .node)) (c .epoch) (c .key)
+operandsOf (part.AddReplica c) = shardOperands (Add (c .node) (c .incarnation)) (c .epoch) (c .key)
+operandsOf (part.Remove c) = shardOperands (Remove (c .node)) (c .epoch) (c .key)
+operandsOf (part.Promote c) = shardOperands (Promote (c .node)) (c .epoch) (c .key)
+operandsOf (part.Shrink c) = shardOperands (Shrink (c .node)) (c .epoch) (c .key)
+operandsOf (part.Expand c) = shardOperands (Expand (c .node)) (c .epoch) (c .key)
 operandsOf (part.Bench p) = plainOf Bench
 
 -- ---- what stands there

@@ -1,7 +1,7 @@
 // Internal: a command as crate `state` has it, and where its operands stand in the message. Operands that a command
 // does not have are empty parts.
 ghost use mathlib.Core.Path.{_≡_};
-ghost use Rattle.requests.specs.Parts.{operandsOf, createdOf, registeredOf, plainOf, namedOf, shardOf};
+ghost use Rattle.requests.specs.Parts.{operandsOf, createdOf, registeredOf, plainOf, namedOf, shardOperands};
 use crate::Operands;
 use model::Epoch;
 use rpc::AddPart;
@@ -69,7 +69,7 @@ fn named(command: Command, name: Part) -> Operands
 }
 
 fn of_shard(change: Change, epoch: Epoch, key: KeyPart) -> Operands
-    ensures { λ r. ⌜ r ≡ shardOf change epoch key ⌝ }
+    ensures { λ r. ⌜ r ≡ shardOperands change epoch key ⌝ }
 {
     let name = key.name;
     Operands {
@@ -89,7 +89,7 @@ fn dead(c: DeadPart) -> Operands
 }
 
 fn added(c: AddPart) -> Operands
-    ensures { λ r. ⌜ r ≡ shardOf (Change.Add (c .node) (c .incarnation)) (c .epoch) (c .key) ⌝ }
+    ensures { λ r. ⌜ r ≡ shardOperands (Change.Add (c .node) (c .incarnation)) (c .epoch) (c .key) ⌝ }
 {
     let node = c.node;
     let epoch = c.epoch;
@@ -98,7 +98,7 @@ fn added(c: AddPart) -> Operands
 }
 
 fn changed(change: Change, c: ChangePart) -> Operands
-    ensures { λ r. ⌜ r ≡ shardOf change (c .epoch) (c .key) ⌝ }
+    ensures { λ r. ⌜ r ≡ shardOperands change (c .epoch) (c .key) ⌝ }
 {
     let epoch = c.epoch;
     let key = c.key;

@@ -13,7 +13,7 @@ use Rattle.model.specs.Keys.{Key, keyBelow}
 use Rattle.model.specs.Log.{End, keep, adopted}
 use Rattle.model.specs.Layout.Message.{NewEpoch, decodeNewEpoch}
 use Rattle.model.specs.Node.Held.{Held, Node}
-use Rattle.model.specs.Node.Shards.{Result, gives, shardOf, withHeld, heldBelow, begun}
+use Rattle.model.specs.Node.Shards.{Result, gives, heldShard, withHeld, heldBelow, begun}
 use Rattle.model.specs.Node.Backup.{BackupAnswer, newEpochHeld, beginEpoch, newEpochAt, onNewEpoch}
 use Rattle.model.specs.Node.Calls.{newEpochOf, newEpochWith}
 use Rattle.model.specs.declared.Metric.{Metric}
@@ -43,7 +43,7 @@ module _ (n : Node) (lent : Key → Bool) where
       by-test (λ (v : Result BackupAnswer Node). PutIn n (w .key) (v .after)) (leb maxHeld (length (n .held)))
       (λ p. inl refl) (λ p. inr (_, fresh-epoch (w .key) (w .metric) (w .epoch) (w .end) (w .table), refl))
 
-  begins-of : (k : Key) (m : Option NewEpoch) → ((w : NewEpoch) → m ≡ some w → k ≡ w .key) → shardOf n k ≡ none → PutIn n k (newEpochOf lent n m .after)
+  begins-of : (k : Key) (m : Option NewEpoch) → ((w : NewEpoch) → m ≡ some w → k ≡ w .key) → heldShard n k ≡ none → PutIn n k (newEpochOf lent n m .after)
   unfolding onNewEpoch
   begins-of k none names e = inl refl
   begins-of k (some w) names e =
@@ -51,9 +51,9 @@ module _ (n : Node) (lent : Key → Bool) where
       subst (λ (j : Key). PutIn n j (newEpochOf lent n (some w) .after)) (sym q)
       (by-test (λ (v : Result BackupAnswer Node). PutIn n (w .key) (v .after)) (not (lent (w .key))) (λ p. inl refl)
       (λ p. subst (λ (o : Option Held). PutIn n (w .key) (newEpochAt n (w .key) (w .epoch) (w .end) (w .table) (w .metric) o .after))
-      (sym (ap (shardOf n) (sym q) ∙ e)) (begins w)))
+      (sym (ap (heldShard n) (sym q) ∙ e)) (begins w)))
 
-  pub new-epoch-begins : (k : Key) (s : List ℕ) → ((w : NewEpoch) → decodeNewEpoch s ≡ some w → k ≡ w .key) → shardOf n k ≡ none
+  pub new-epoch-begins : (k : Key) (s : List ℕ) → ((w : NewEpoch) → decodeNewEpoch s ≡ some w → k ≡ w .key) → heldShard n k ≡ none
       → PutIn n k (newEpochWith lent n s .after)
   unfolding newEpochWith
   new-epoch-begins k s names e = begins-of k (decodeNewEpoch s) names e

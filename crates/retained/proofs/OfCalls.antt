@@ -11,7 +11,7 @@ use Rattle.model.specs.Log.{Op, Entry, End, append, store, storeAll}
 use Rattle.model.specs.Layout.Message.{Write, decodeWrite, Replicated, decodeReplicate, NewEpoch, decodeNewEpoch, Copied, decodeCopyShard}
 use Rattle.model.specs.Map.Apply.{update}
 use Rattle.model.specs.Node.Held.{Held, Node}
-use Rattle.model.specs.Node.Shards.{Result, ofKey, shardOf, withHeld, atShard}
+use Rattle.model.specs.Node.Shards.{Result, ofKey, heldShard, withHeld, atShard}
 use Rattle.model.specs.Node.Wire.{opInDomain, entryInDomain, storedOp, storedEntry}
 use Rattle.model.specs.Node.Client.{WriteAnswer, writeHeld, onWrite}
 use Rattle.model.specs.Node.Backup.{BackupAnswer, replicateHeld, newEpochHeld, copyHeld, onReplicate, onCopy, newEpochAt, onNewEpoch}
@@ -120,15 +120,15 @@ module _ (n : Node) (lent : Key → Bool) where
   new-epoch-at k w none h e = none-some e
   new-epoch-at k w (some x) h e = at-carries n k _ _ (new-epoch-carries (w .epoch) (w .end) (w .table))
 
-  new-epoch-of : (m : Option NewEpoch) → ((w : NewEpoch) → m ≡ some w → (h : Held) × (shardOf n (w .key) ≡ some h))
+  new-epoch-of : (m : Option NewEpoch) → ((w : NewEpoch) → m ≡ some w → (h : Held) × (heldShard n (w .key) ≡ some h))
       → CarriesAll n (newEpochOf lent n m .after)
   unfolding onNewEpoch
   new-epoch-of none held = all-same n
   new-epoch-of (some w) held =
       by-test (λ (v : Result BackupAnswer Node). CarriesAll n (v .after)) (not (lent (w .key))) (λ q. all-same n)
-      (λ q. let x = held w refl in new-epoch-at (w .key) w (shardOf n (w .key)) (x .0) (x .1))
+      (λ q. let x = held w refl in new-epoch-at (w .key) w (heldShard n (w .key)) (x .0) (x .1))
 
-  pub new-epoch-retains : (s : List ℕ) → ((w : NewEpoch) → decodeNewEpoch s ≡ some w → (h : Held) × (shardOf n (w .key) ≡ some h))
+  pub new-epoch-retains : (s : List ℕ) → ((w : NewEpoch) → decodeNewEpoch s ≡ some w → (h : Held) × (heldShard n (w .key) ≡ some h))
       → CarriesAll n (newEpochWith lent n s .after)
   unfolding newEpochWith
   new-epoch-retains s held = new-epoch-of (decodeNewEpoch s) held

@@ -9,7 +9,7 @@ use lib.ListN.{length}
 use Rattle.model.specs.Lists.{nth, lead, find}
 use Rattle.model.specs.Keys.{Key, sameKey}
 use Rattle.model.specs.Node.Held.{Held, Node}
-use Rattle.model.specs.Node.Shards.{ofKey, shardOf}
+use Rattle.model.specs.Node.Shards.{ofKey, heldShard}
 use Rattle.model.proofs.Lists.{none-some, some-same, nth-nil}
 use Rattle.retained.specs.Retained.{Carries, CarriesAll}
 
@@ -45,8 +45,8 @@ lead-carried k (x ∷ xs) (y ∷ ys) f h =
     go false h more = ap suc (more (omega arith))
 
 -- the shard of a key that was held
-pub found-carried : (k : Key) (n m : Node) (g : Held) → CarriesAll n m → lead (others k) (n .held) < length (n .held) → shardOf m k ≡ some g
+pub found-carried : (k : Key) (n m : Node) (g : Held) → CarriesAll n m → lead (others k) (n .held) < length (n .held) → heldShard m k ≡ some g
     → nth (m .held) (lead (others k) (n .held)) ≡ some g
-unfolding shardOf
+unfolding heldShard
 found-carried k n m g f h e =
     subst (λ (i : ℕ). nth (m .held) i ≡ some g) (lead-carried k (n .held) (m .held) f h) (find-lead k (m .held) g e)

@@ -11,7 +11,7 @@ use Rattle.model.specs.Log.{Log, entryAt, play}
 use Rattle.model.specs.Map.Tables.{ShardInfo}
 use Rattle.model.specs.Map.Apply.{shardAt}
 use Rattle.model.specs.Node.Held.{Held}
-use Rattle.model.specs.Node.Shards.{shardOf}
+use Rattle.model.specs.Node.Shards.{heldShard}
 use Rattle.model.proofs.Lists.{not-both}
 use Rattle.model.proofs.Map.Orders.{same-key}
 use Rattle.run.specs.State.{State}
@@ -46,7 +46,7 @@ module _ (w : World) (s : State) (a : proto.State) (k : Sim w s a) where
 
   -- what such a node holds is what the protocol's node holds
   holds-one : (n : ℕ) → In n (a .map .insync)
-      → (h : Held) × (s .nodes n .held ≡ h ∷ []) × HeldSim w (a .map .epoch) n h (a .nodes n) × (shardOf (s .nodes n) (w .key) ≡ some h)
+      → (h : Held) × (s .nodes n .held ≡ h ∷ []) × HeldSim w (a .map .epoch) n h (a .nodes n) × (heldShard (s .nodes n) (w .key) ≡ some h)
   holds-one n i =
       let r = k .nodes n .here (sync-holds w (s .map) (a .map) (k .table) n i) in
       (r .0, r .1, r .2, shard-found w (a .map .epoch) n (s .nodes n) (a .nodes n) (k .nodes n) (r .0) (r .1) (r .2))
@@ -62,7 +62,7 @@ module _ (w : World) (s : State) (a : proto.State) (k : Sim w s a) where
         let q = in-sync (v .key) n e in
         let r = holds-one n (q .1) in
         let log : a .nodes n .replica .log ≡ logOf (s .nodes n) (v .key) =
-        ap (λ z. z .log) (sym (r .2 .replica)) ∙ ap logIn (sym (r .3)) ∙ ap (λ (j : Key). logIn (shardOf (s .nodes n) j)) (sym own) in
+        ap (λ z. z .log) (sym (r .2 .replica)) ∙ ap logIn (sym (r .3)) ∙ ap (λ (j : Key). logIn (heldShard (s .nodes n) j)) (sym own) in
         record {
           entry = record { epoch = v .epoch; offset = v .offset; op = v .op };
           found =
@@ -77,7 +77,7 @@ module _ (w : World) (s : State) (a : proto.State) (k : Sim w s a) where
         let q = in-sync key n e in
         let r = holds-one n (q .1) in
         let f = log-facts w (a .map .epoch) n (s .nodes n) (a .nodes n) (k .nodes n) (r .0) (r .1) .played in
-        let one : shardOf (s .nodes n) key ≡ some (r .0) = ap (shardOf (s .nodes n)) (q .0) ∙ r .3 in
+        let one : heldShard (s .nodes n) key ≡ some (r .0) = ap (heldShard (s .nodes n)) (q .0) ∙ r .3 in
         ap vectorsIn one ∙ f ∙ ap (λ (o : Option Held). play (logIn o)) (sym one);
   }
 

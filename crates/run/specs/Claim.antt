@@ -11,7 +11,7 @@ use Rattle.model.specs.Map.Tables.{Map, ShardInfo}
 use Rattle.model.specs.Map.Change.{inSync}
 use Rattle.model.specs.Map.Apply.{shardAt}
 use Rattle.model.specs.Node.Held.{Held, Node}
-use Rattle.model.specs.Node.Shards.{shardOf}
+use Rattle.model.specs.Node.Shards.{heldShard}
 use Rattle.run.specs.State.{State, Write}
 
 -- the in-sync set of a shard that the map may lack
@@ -30,7 +30,7 @@ logIn (some h) = h .replica .log
 
 -- a node's log of a shard
 unfoldable pub logOf : Node → Key → Log
-logOf n k = logIn (shardOf n k)
+logOf n k = logIn (heldShard n k)
 
 -- the vectors of a shard that may not be held
 abbrev pub vectorsIn : Option Held → Vectors
@@ -39,7 +39,7 @@ vectorsIn (some h) = h .replica .vectors
 
 -- a node's vectors of a shard
 unfoldable pub vectorsOf : Node → Key → Vectors
-vectorsOf n k = vectorsIn (shardOf n k)
+vectorsOf n k = vectorsIn (heldShard n k)
 
 -- an acknowledged write stands in a log, with its offset and its operation
 pub record Stands (w : Write) (l : Log) : Type 0 where

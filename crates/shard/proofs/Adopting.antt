@@ -21,7 +21,7 @@ use Rattle.model.proofs.Log.Numbered.{Numbered, numbered-within}
 use Rattle.model.proofs.Log.Keep.{keep-lead}
 use Rattle.shard.specs.View.{Columns, firsts, entryOf, logOf, writtenAll}
 use Rattle.shard.specs.Table.{Row, Tabled, rowsOf, playRows, rowsPlayed, vectorsOf}
-use Rattle.shard.specs.Store.{Store, lent, storeLog, storeRows, replicaOf, wellFormedStore, Sized, Spares}
+use Rattle.shard.specs.Store.{Store, lent, storeLog, storeRows, replicaIn, wellFormedStore, Sized, Spares}
 use Rattle.shard.specs.Align.{KeptOf, Aligned, adoptionOf}
 use Rattle.shard.specs.declared.replica.Adoption.{Adoption}
 use Rattle.shard.specs.declared.replica.Adoption.the-variants.{Older, Kept}
@@ -77,11 +77,11 @@ module _ (s : Store) (z : Sized s) (w : wellFormedStore s ≡ true) where
   module _ (own epoch end : ℕ) (t : List End) where
     pub aligned-older : (e : Epoch) → e .0 ≡ own → epoch < own → Aligned own epoch end t s s (Older e)
     aligned-older e q h = record {
-      answer = λ m. ap replyStale q ∙ sym (ap (λ (b : Bool). cond b (replyStale own) (replyAdopted (lastOffset (adopted (replicaOf own m s) epoch end t)))) (lt-ltb epoch own h));
+      answer = λ m. ap replyStale q ∙ sym (ap (λ (b : Bool). cond b (replyStale own) (replyAdopted (lastOffset (adopted (replicaIn own m s) epoch end t)))) (lt-ltb epoch own h));
       replica =
           λ m.
-          ap (λ (b : Bool). replicaOf (cond b own epoch) m s) (lt-ltb epoch own h)
-          ∙ sym (ap (λ (b : Bool). cond b (replicaOf own m s) (adopted (replicaOf own m s) epoch end t)) (lt-ltb epoch own h));
+          ap (λ (b : Bool). replicaIn (cond b own epoch) m s) (lt-ltb epoch own h)
+          ∙ sym (ap (λ (b : Bool). cond b (replicaIn own m s) (adopted (replicaIn own m s) epoch end t)) (lt-ltb epoch own h));
       well = w;
       sized = z;
       spares = spares-none s;
@@ -99,20 +99,20 @@ module _ (s : Store) (z : Sized s) (w : wellFormedStore s ≡ true) where
 
       -- the replica that is left, given its log and its vectors
       aligned-by : (s′ : Store) (o : Offset) → o .0 ≡ k → storeLog s′ ≡ keep end t (storeLog s)
-          → ((m : Metric) → replicaOf epoch m s′ .vectors ≡ adopted (replicaOf own m s) epoch end t .vectors)
+          → ((m : Metric) → replicaIn epoch m s′ .vectors ≡ adopted (replicaIn own m s) epoch end t .vectors)
           → wellFormedStore s′ ≡ true → Sized s′ → Spares s s′ → Aligned own epoch end t s s′ (Kept o)
-      unfolding replicaOf adopted
+      unfolding replicaIn adopted
       aligned-by s′ o q l v w′ z′ sp = record {
         answer =
             λ m.
             ap replyAdopted (q ∙ sym kept-length)
-            ∙ sym (ap (λ (b : Bool). cond b (replyStale own) (replyAdopted (lastOffset (adopted (replicaOf own m s) epoch end t)))) (le-ltb epoch own newer));
+            ∙ sym (ap (λ (b : Bool). cond b (replyStale own) (replyAdopted (lastOffset (adopted (replicaIn own m s) epoch end t)))) (le-ltb epoch own newer));
         replica =
             λ m.
-            ap (λ (b : Bool). replicaOf (cond b own epoch) m s′) (le-ltb epoch own newer)
-            ∙ ap (λ (x : Log). record { epoch = epoch; metric = m; log = x; vectors = replicaOf epoch m s′ .vectors }) l
+            ap (λ (b : Bool). replicaIn (cond b own epoch) m s′) (le-ltb epoch own newer)
+            ∙ ap (λ (x : Log). record { epoch = epoch; metric = m; log = x; vectors = replicaIn epoch m s′ .vectors }) l
             ∙ ap (λ (x : Vectors). record { epoch = epoch; metric = m; log = keep end t (storeLog s); vectors = x }) (v m)
-            ∙ sym (ap (λ (b : Bool). cond b (replicaOf own m s) (adopted (replicaOf own m s) epoch end t)) (le-ltb epoch own newer));
+            ∙ sym (ap (λ (b : Bool). cond b (replicaIn own m s) (adopted (replicaIn own m s) epoch end t)) (le-ltb epoch own newer));
         well = w′;
         sized = z′;
         spares = sp;
@@ -121,7 +121,7 @@ module _ (s : Store) (z : Sized s) (w : wellFormedStore s ≡ true) where
       pub aligned-cut : (ks ps : List ℕ) (r : ℕ) (o : Offset) → o .0 ≡ k → k < s .count
           → Tabled k (s .keys) (s .places) ks ps r (rowsPlayed (s .columns .offsets) (s .columns .ids) (s .columns .codes) k)
           → Aligned own epoch end t s (lent (s .columns) ks ps k r) (Kept o)
-      unfolding adopted replicaOf writtenAll
+      unfolding adopted replicaIn writtenAll
       aligned-cut ks ps r o q h u =
           let lk : length ks ≡ 1024 = u .keys ∙ z .keys in
           let lp : length ps ≡ 1024 = u .places ∙ z .places in
@@ -130,7 +130,7 @@ module _ (s : Store) (z : Sized s) (w : wellFormedStore s ≡ true) where
           (λ m.
           store-in-step (lent (s .columns) ks ps k r) fc epoch m
           ∙ ap play (sym keep-is)
-          ∙ sym (ap (λ (b : Bool). cond b (play (keep end t (storeLog s))) (replicaOf own m s .vectors))
+          ∙ sym (ap (λ (b : Bool). cond b (play (keep end t (storeLog s))) (replicaIn own m s .vectors))
           (lt-ltb (length (keep end t (storeLog s))) (length (storeLog s)) (omega (arith, kept-length, log-length (s .columns) (s .count))))))
           (well-formed (lent (s .columns) ks ps k r) fc) (cut-sized ks ps k r lk lp)
           (record {
@@ -143,11 +143,11 @@ module _ (s : Store) (z : Sized s) (w : wellFormedStore s ≡ true) where
           })
 
       pub aligned-whole : (o : Offset) → o .0 ≡ s .count → s .count ≤ k → Aligned own epoch end t s s (Kept o)
-      unfolding adopted replicaOf
+      unfolding adopted replicaIn
       aligned-whole o q h =
           let same : k ≡ s .count = (let m = k-most in omega arith) in
           aligned-by s o (q ∙ sym same) (ap (logOf (s .columns)) (sym same) ∙ sym keep-is)
           (λ m.
-          sym (ap (λ (b : Bool). cond b (play (keep end t (storeLog s))) (replicaOf own m s .vectors))
+          sym (ap (λ (b : Bool). cond b (play (keep end t (storeLog s))) (replicaIn own m s .vectors))
           (le-ltb (length (keep end t (storeLog s))) (length (storeLog s)) (omega (arith, kept-length, log-length (s .columns) (s .count))))))
           w z (spares-none s)

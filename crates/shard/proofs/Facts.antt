@@ -19,7 +19,7 @@ use Rattle.model.proofs.Log.Numbered.{Numbered, test-numbered, numbered-test}
 use Rattle.model.proofs.Log.Play.{InStep}
 use Rattle.shard.specs.View.{Columns, logOf, Room}
 use Rattle.shard.specs.Table.{Row, rowsOf, rowBelow, playRows, vectorsOf}
-use Rattle.shard.specs.Store.{Store, storeLog, storeRows, replicaOf, everyBelow, codeFits, sameRows, wellFormedStore, Sized}
+use Rattle.shard.specs.Store.{Store, storeLog, storeRows, replicaIn, everyBelow, codeFits, sameRows, wellFormedStore, Sized}
 use Rattle.shard.proofs.Columns.{log-length}
 use Rattle.shard.proofs.Rows.{rows-length}
 use Rattle.shard.proofs.PlayRows.{rows-vectors, rows-rise, rows-most}
@@ -146,8 +146,8 @@ module _ (s : Store) (f : Facts s) where
   rows-rising = ap (rising rowBelow) (f .rows) ∙ rows-rise (storeLog s)
 
   -- the vectors of a well-formed store are its log played
-  pub store-in-step : (e : ℕ) (m : Metric) → InStep (replicaOf e m s)
-  unfolding replicaOf
+  pub store-in-step : (e : ℕ) (m : Metric) → InStep (replicaIn e m s)
+  unfolding replicaIn
   store-in-step e m = ap (vectorsOf (storeLog s)) (f .rows) ∙ rows-vectors (storeLog s) (f .numbered)
 
   -- a table has no more rows than the log has entries

@@ -11,7 +11,7 @@ use lib.Ieee.{Float}
 use lib.ListN.{length, length-append}
 use Rattle.model.specs.Lists.{nth, filter, put, rising}
 use Rattle.model.specs.Nearest.Search.{Vector}
-use Rattle.model.specs.Log.{Op, upsert, delete, Entry, Log, Vectors, entryAt, components, componentsAt, lookup, idBelow, otherId, applyOp, playFrom, play}
+use Rattle.model.specs.Log.{Op, upsert, delete, Entry, Log, Vectors, entryAt, components, componentsAt, lookup, vectorBelow, otherId, applyOp, playFrom, play}
 use Rattle.model.proofs.Lists.{by-test}
 use Rattle.model.proofs.Rising.{put-rising, filter-rising}
 use Rattle.model.proofs.Log.Numbered.{Numbered, own-offset}
@@ -41,8 +41,8 @@ op-rows-at : (l : Log) (rs : List Row) (o : ℕ) (op : Op) → lookup l o ≡ co
     → vectorsOf l (rowOp rs op o) ≡ applyOp (vectorsOf l rs) op
 unfolding vectorsOf rowOp applyOp vectorOf
 op-rows-at l rs o (upsert id xs) h =
-    map-put (vectorOf l) rowBelow idBelow (λ a b. refl) (record { id = id; offset = o }) rs
-    ∙ ap (λ (ys : List Float). put idBelow (record { id = id; components = ys }) (map (vectorOf l) rs)) h
+    map-put (vectorOf l) rowBelow vectorBelow (λ a b. refl) (record { id = id; offset = o }) rs
+    ∙ ap (λ (ys : List Float). put vectorBelow (record { id = id; components = ys }) (map (vectorOf l) rs)) h
 op-rows-at l rs o (delete id) h = map-filter (vectorOf l) (otherRow id) (otherId id) (λ a. refl) rs
 
 -- one entry of a log: its row's vector is the one that its operation sets

@@ -24,7 +24,7 @@ use Rattle.model.proofs.Log.Numbered.{Numbered, numbered-snoc}
 use Rattle.model.proofs.Log.Play.{play-snoc}
 use Rattle.shard.specs.View.{Columns, Room, logOf, opFrom, written, writtenAll}
 use Rattle.shard.specs.Table.{Row, Tabled, rowsOf, rowBelow, otherRow, rowOp, playRows, vectorsOf}
-use Rattle.shard.specs.Store.{Store, lent, storeLog, storeRows, replicaOf, codeFits, wellFormedStore, Sized, Storable, Spares, Pushed}
+use Rattle.shard.specs.Store.{Store, lent, storeLog, storeRows, replicaIn, codeFits, wellFormedStore, Sized, Storable, Spares, Pushed}
 use Rattle.shard.proofs.Columns.{log-length}
 use Rattle.shard.proofs.PlayRows.{rows-snoc}
 use Rattle.shard.proofs.Written.{written-log, written-room, written-floats}
@@ -144,18 +144,18 @@ module _ (s : Store) (z : Sized s) (w : wellFormedStore s ≡ true) (free : s .c
           subst (λ (m : ℕ). 32768 ≤ m) (sym (written-floats (s .columns) n epoch code id bits room free (st .short))) (f .floats);
     }
 
-    vectors-after : (e : ℕ) (m : Metric) → replicaOf e m after .vectors ≡ applyOp (replicaOf e m s .vectors) (opFrom code id bits)
-    unfolding replicaOf
+    vectors-after : (e : ℕ) (m : Metric) → replicaIn e m after .vectors ≡ applyOp (replicaIn e m s .vectors) (opFrom code id bits)
+    unfolding replicaIn
     vectors-after e m =
         store-in-step after after-facts e m
         ∙ ap play new-log
         ∙ play-snoc (storeLog s) entry
         ∙ ap (λ (vs : Vectors). applyOp vs (opFrom code id bits)) (sym (store-in-step s f e m))
 
-    replica-after : (e : ℕ) (m : Metric) → replicaOf e m after ≡ push (replicaOf e m s) entry
-    unfolding replicaOf push
+    replica-after : (e : ℕ) (m : Metric) → replicaIn e m after ≡ push (replicaIn e m s) entry
+    unfolding replicaIn push
     replica-after e m =
-        ap (λ (l : Log). record { epoch = e; metric = m; log = l; vectors = replicaOf e m after .vectors }) new-log
+        ap (λ (l : Log). record { epoch = e; metric = m; log = l; vectors = replicaIn e m after .vectors }) new-log
         ∙ ap (λ (vs : Vectors). record { epoch = e; metric = m; log = storeLog s ++ (entry ∷ []); vectors = vs }) (vectors-after e m)
 
     sized-after : Sized after

@@ -12,7 +12,7 @@ use Rattle.model.specs.Log.{Op, Entry, End, ShardReplica, lastOffset, agrees, e
 use Rattle.model.specs.Layout.Message.{Reply, replyStale, replyAdopted}
 use Rattle.model.specs.declared.Metric.{Metric}
 use Rattle.shard.specs.View.{columns, logOf}
-use Rattle.shard.specs.Store.{Store, replicaOf, wellFormedStore, Sized, Spares}
+use Rattle.shard.specs.Store.{Store, replicaIn, wellFormedStore, Sized, Spares}
 use Rattle.shard.specs.declared.replica.Adoption.{Adoption}
 use Rattle.shard.specs.declared.replica.Adoption.the-variants.{Older, Kept}
 
@@ -47,9 +47,9 @@ adoptionOf (Kept o) = replyAdopted (o .0)
 -- a store after a new epoch was announced: `model`'s answer and replica
 pub record Aligned (own epoch end : ℕ) (t : List End) (s s′ : Store) (a : Adoption) : Type 0 where
   pub answer : (m : Metric) →
-      adoptionOf a ≡ cond (ltb epoch own) (replyStale own) (replyAdopted (lastOffset (adopted (replicaOf own m s) epoch end t)))
+      adoptionOf a ≡ cond (ltb epoch own) (replyStale own) (replyAdopted (lastOffset (adopted (replicaIn own m s) epoch end t)))
   pub replica : (m : Metric) →
-      replicaOf (cond (ltb epoch own) own epoch) m s′ ≡ cond (ltb epoch own) (replicaOf own m s) (adopted (replicaOf own m s) epoch end t)
+      replicaIn (cond (ltb epoch own) own epoch) m s′ ≡ cond (ltb epoch own) (replicaIn own m s) (adopted (replicaIn own m s) epoch end t)
   pub well : wellFormedStore s′ ≡ true
   pub sized : Sized s′
   pub spares : Spares s s′

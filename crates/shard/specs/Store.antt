@@ -36,8 +36,8 @@ abbrev pub storeRows : Store → List Row
 storeRows s = rowsOf (s .keys) (s .places) (s .stored)
 
 -- shard.rs, ShardReplica: the vectors are those of the entries that the rows name
-unfoldable pub replicaOf : (epoch : ℕ) → Metric → Store → ShardReplica
-replicaOf e m s = record { epoch = e; metric = m; log = storeLog s; vectors = vectorsOf (storeLog s) (storeRows s) }
+unfoldable pub replicaIn : (epoch : ℕ) → Metric → Store → ShardReplica
+replicaIn e m s = record { epoch = e; metric = m; log = storeLog s; vectors = vectorsOf (storeLog s) (storeRows s) }
 
 -- ---- 'Who is turned down', 24, of a store
 
@@ -98,7 +98,7 @@ pub record Spares (s t : Store) : Type 0 where
 -- a store after one entry more: `model`'s replica with that entry pushed, well formed still
 pub record Pushed (s t : Store) (e : Entry) : Type 0 where
   pub count : t .count ≡ s .count + 1
-  pub replica : (epoch : ℕ) (m : Metric) → replicaOf epoch m t ≡ push (replicaOf epoch m s) e
+  pub replica : (epoch : ℕ) (m : Metric) → replicaIn epoch m t ≡ push (replicaIn epoch m s) e
   pub well : wellFormedStore t ≡ true
   pub sized : Sized t
   pub spares : Spares s t
@@ -112,10 +112,10 @@ answerOf Full = none
 
 -- a store after an entry arrived: `model`'s answer and replica, or 23 with nothing stored if the log would be overfull
 pub record Arrived (own epoch : ℕ) (e : Entry) (s t : Store) (a : Outcome) : Type 0 where
-  pub answer : (m : Metric) → let q = store (replicaOf own m s) epoch e in
+  pub answer : (m : Metric) → let q = store (replicaIn own m s) epoch e in
       answerOf a ≡ cond (overfull (q .replica)) none (some (q .answer))
-  pub replica : (m : Metric) → let q = store (replicaOf own m s) epoch e in
-      replicaOf own m t ≡ cond (overfull (q .replica)) (replicaOf own m s) (q .replica)
+  pub replica : (m : Metric) → let q = store (replicaIn own m s) epoch e in
+      replicaIn own m t ≡ cond (overfull (q .replica)) (replicaIn own m s) (q .replica)
   pub well : wellFormedStore t ≡ true
   pub sized : Sized t
   pub spares : Spares s t

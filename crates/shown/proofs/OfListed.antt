@@ -12,7 +12,7 @@ use Rattle.model.specs.Limits.{maxHeld, maxWorkers}
 use Rattle.model.specs.Keys.{Name, Key}
 use Rattle.model.specs.Map.Tables as tables
 use Rattle.model.specs.Node.Held as held
-use Rattle.model.specs.Node.Shards.{shardOf, withPeers}
+use Rattle.model.specs.Node.Shards.{heldShard, withPeers}
 use Rattle.model.specs.Node.Shown as show
 use Rattle.model.proofs.Lists.{not-both}
 use Rattle.model.proofs.Map.Orders.{same-key}
@@ -114,7 +114,7 @@ module _ (n : Node) (t : Collections) (row : ShardRow) where
       unfolding show.showListed
       listed-skip h x = record {
         skips = λ q s m e.
-            ap (λ (o : Option Metric). show.showListed (n .id .0) (viewShard row) o (shardOf (viewNode s n) (viewKey (row .key)))) (lacks m e)
+            ap (λ (o : Option Metric). show.showListed (n .id .0) (viewShard row) o (heldShard (viewNode s n) (viewKey (row .key)))) (lacks m e)
             ∙ ap (show.showListed (n .id .0) (viewShard row) none) (shard-none s n (viewKey (row .key)) le at is h);
         over = λ q. not-both true refl q;
         takes = λ q. not-both true refl q;
@@ -136,7 +136,7 @@ module _ (n : Node) (t : Collections) (row : ShardRow) where
             ∙ ap (λ (z : held.Held). record { held = z; start = viewTaken s (takenOf (row .key) (kept .slot) (kept .stored) g Euclidean free) .start }) (as-refreshed s row kept (key-at h) g f)
             ∙ ap (λ (i : ℕ). record { held = show.refreshed (viewShard row) (viewKept s kept); start = map (workerAt (viewKey (row .key)) (recordEpoch (g .role)) Euclidean) (take i (free .items)) }) empty in
             record {
-              is = ap (λ (o : Option Metric). show.showListed (n .id .0) (viewShard row) o (shardOf (viewNode s n) (viewKey (row .key)))) (lacks m e)
+              is = ap (λ (o : Option Metric). show.showListed (n .id .0) (viewShard row) o (heldShard (viewNode s n) (viewKey (row .key)))) (lacks m e)
                   ∙ ap (show.showListed (n .id .0) (viewShard row) none) (shard-some s n (viewKey (row .key)) le at is h)
                   ∙ ap some (sym v);
               fits = ap show.overworked v
@@ -153,7 +153,7 @@ module _ (n : Node) (t : Collections) (row : ShardRow) where
       abbrev after : Stores → show.Showing
       after s = show.showHeld (n .id .0) (viewShard row) metric (viewKept s (asKept row slot stored h))
 
-      shows : ((s : Stores) → show.showListed (n .id .0) (viewShard row) (some metric) (shardOf (viewNode s n) (viewKey (row .key))) ≡ some (after s))
+      shows : ((s : Stores) → show.showListed (n .id .0) (viewShard row) (some metric) (heldShard (viewNode s n) (viewKey (row .key))) ≡ some (after s))
           → SlotFrom n (r .taken .kept) → ShowsListed n t row r
       shows f from = record {
         skips = λ q. not-both (r .skip) q (a .takes);
@@ -168,7 +168,7 @@ module _ (n : Node) (t : Collections) (row : ShardRow) where
         where
           said : (s : Stores) (m : tables.Map) → m .collections ≡ viewCollections t → listedShown s n m row ≡ some (after s)
           said s m e =
-              ap (λ (o : Option Metric). show.showListed (n .id .0) (viewShard row) o (shardOf (viewNode s n) (viewKey (row .key)))) (has m e) ∙ f s
+              ap (λ (o : Option Metric). show.showListed (n .id .0) (viewShard row) o (heldShard (viewNode s n) (viewKey (row .key)))) (has m e) ∙ f s
 
       pub listed-first : n .count ≤ at → slot ≡ maxHeld → stored ≡ 0 → Firsts metric h → ShowsListed n t row r
       listed-first q p z f =

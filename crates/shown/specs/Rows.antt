@@ -10,7 +10,7 @@ use Rattle.model.specs.Limits.{maxHeld}
 use Rattle.model.specs.Keys as keys
 use Rattle.model.specs.Log.{Log, Vectors}
 use Rattle.model.specs.Map.Tables as tables
-use Rattle.model.specs.Node.Shards.{shardOf, begun}
+use Rattle.model.specs.Node.Shards.{heldShard, begun}
 use Rattle.model.specs.Node.Shown as show
 use Rattle.model.specs.declared.Metric.{Metric}
 use Rattle.node.specs.declared.Held.{Held}
@@ -90,7 +90,7 @@ pub data SlotFrom (n : Node) (y : Kept) : Type 0 where
 -- the definition's answer for a shard that lists this node
 abbrev pub listedShown : Stores → Node → tables.Map → ShardRow → Option show.Showing
 listedShown s n m row =
-    show.showListed (n .id .0) (viewShard row) (show.collectionMetric m (viewName (row .key .collection))) (shardOf (viewNode s n) (viewKey (row .key)))
+    show.showListed (n .id .0) (viewShard row) (show.collectionMetric m (viewName (row .key .collection))) (heldShard (viewNode s n) (viewKey (row .key)))
 
 -- a 33rd worker for that shard
 pub record Overworks (o : Option show.Showing) : Type 0 where

@@ -21,7 +21,7 @@ use Rattle.serve.specs.declared.Admit.{Admit}
 use Rattle.serve.specs.declared.Admit.the-variants as A
 use Rattle.serve.specs.Admits.{writeAs, AdmitsWrite}
 use Rattle.shard.specs.View.{logOf, entryOf, Columns}
-use Rattle.shard.specs.Store.{Store, Sized, Pushed, storeLog, storeRows, replicaOf, wellFormedStore}
+use Rattle.shard.specs.Store.{Store, Sized, Pushed, storeLog, storeRows, replicaIn, wellFormedStore}
 use Rattle.shard.specs.Table.{vectorsOf}
 use Rattle.shard.proofs.Firsts.{firsts-length}
 use Rattle.writes.specs.declared.Written.{Written}
@@ -87,10 +87,10 @@ module _ (h : Held) (s : Store) (count : s .count ≡ h .last) (epoch : ℕ) (le
     }
 
     pushed-is : (k : Key) → viewStored k out t .replica ≡ append (viewStored k h s .replica) op
-    unfolding replicaOf append
+    unfolding replicaIn append
     pushed-is k =
         p .replica (h .epoch .0) (h .metric)
-        ∙ ap (λ (o : ℕ). push (replicaOf (h .epoch .0) (h .metric) s) (record { epoch = h .epoch .0; offset = o + 1; op = op })) (sym (log-length s ∙ count))
+        ∙ ap (λ (o : ℕ). push (replicaIn (h .epoch .0) (h .metric) s) (record { epoch = h .epoch .0; offset = o + 1; op = op })) (sym (log-length s ∙ count))
 
     pub writes-pushed : AdmitsWrite h epoch lease least A.Yes → (stored : ℕ)
         → Writes h s t epoch lease least op (record { admit = A.Yes; stored = stored; held = out })

@@ -1,9 +1,9 @@
--- Paper 01, 'Starred cases': every row of the table holds, computed by the checker. Assumes nothing.
+-- Paper 01, 'Starred cases': every row of the table rowHolds, computed by the checker. Assumes nothing.
 use mathlib.Core.Path.{_≡_, refl}
 use mathlib.Core.Bool.{true}
 use lib.ListN.{length}
 use Rattle.model.specs.Lists.{every}
-use Rattle.model.specs.Starred.{holds, starred}
+use Rattle.model.specs.Starred.{rowHolds, starred}
 use Rattle.model.proofs.Opened.{opened}
 
 -- there are twelve
@@ -11,6 +11,6 @@ pub twelve : length starred ≡ 12
 unfolding opened
 twelve = refl
 
-pub starred-hold : every holds starred ≡ true
+pub starred-hold : every rowHolds starred ≡ true
 unfolding opened
 starred-hold = refl

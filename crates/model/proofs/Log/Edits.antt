@@ -14,7 +14,7 @@ use borrow.Author.Tests.{ltb-true, ltb-false, le-ltb, eq-eqb, ne-eqb}
 use Rattle.model.specs.declared.Metric.{Metric}
 use Rattle.model.specs.Lists.{nth, filter, rising}
 use Rattle.model.specs.Nearest.Search.{Vector, hits}
-use Rattle.model.specs.Log.{Entry, Log, Op, upsert, delete, Vectors, idBelow, otherId, applyOp, playFrom, play, ShardReplica, lastOffset, push, append}
+use Rattle.model.specs.Log.{Entry, Log, Op, upsert, delete, Vectors, vectorBelow, otherId, applyOp, playFrom, play, ShardReplica, lastOffset, push, append}
 use Rattle.model.proofs.Lists.{some-same, nth-append, nth-last, nth-past}
 use Rattle.model.proofs.Rising.{filter-filter, filter-again, put-put, put-over, put-filter, put-away, filter-put}
 use Rattle.model.proofs.Log.Ids.{by-id, play-rising}
@@ -28,10 +28,10 @@ opId (delete id) = id
 
 -- ---- Ids as keys
 
-strict-id : (a b : Vector) → idBelow a b ≡ true → idBelow b a ≡ false
+strict-id : (a b : Vector) → vectorBelow a b ≡ true → vectorBelow b a ≡ false
 strict-id a b p = let h = ltb-true (a .id) (b .id) p in le-ltb (b .id) (a .id) (omega arith)
 
-level-id : (a b : Vector) → idBelow a b ≡ false → idBelow b a ≡ false → a .id ≡ b .id
+level-id : (a b : Vector) → vectorBelow a b ≡ false → vectorBelow b a ≡ false → a .id ≡ b .id
 level-id a b p q = let h = ltb-false (a .id) (b .id) p in let g = ltb-false (b .id) (a .id) q in omega arith
 
 other-true : (i : ℕ) (v : Vector) → (v .id ≡ i → ⊥) → otherId i v ≡ true
@@ -40,7 +40,7 @@ other-true i v n = let e : eqb (v .id) i ≡ false = ne-eqb (v .id) i n in rw e
 other-false : (i : ℕ) (v : Vector) → v .id ≡ i → otherId i v ≡ false
 other-false i v q = let e : eqb (v .id) i ≡ true = eq-eqb (v .id) i q in rw e
 
-other-alike : (i : ℕ) (a b : Vector) → idBelow a b ≡ false → idBelow b a ≡ false → otherId i a ≡ otherId i b
+other-alike : (i : ℕ) (a b : Vector) → vectorBelow a b ≡ false → vectorBelow b a ≡ false → otherId i a ≡ otherId i b
 other-alike i a b p q = ap (λ (n : ℕ). cond (eqb n i) false true) (level-id a b p q)
 
 abbrev row : ℕ → List Float → Vector
@@ -48,25 +48,25 @@ row id xs = record { id = id; components = xs }
 
 -- ---- One step
 
-pub swap-ops : (vs : Vectors) (a b : Op) → rising idBelow vs ≡ true → (opId a ≡ opId b → ⊥)
+pub swap-ops : (vs : Vectors) (a b : Op) → rising vectorBelow vs ≡ true → (opId a ≡ opId b → ⊥)
     → applyOp (applyOp vs a) b ≡ applyOp (applyOp vs b) a
 unfolding applyOp
 swap-ops vs (upsert i xs) (upsert j ys) h n =
-    put-put idBelow by-id strict-id (row j ys) (row i xs) vs (λ p q. n (sym (level-id (row j ys) (row i xs) p q)))
+    put-put vectorBelow by-id strict-id (row j ys) (row i xs) vs (λ p q. n (sym (level-id (row j ys) (row i xs) p q)))
 swap-ops vs (upsert i xs) (delete j) h n =
-    put-filter idBelow by-id strict-id (otherId j) (other-alike j) (row i xs) vs h (other-true j (row i xs) n)
+    put-filter vectorBelow by-id strict-id (otherId j) (other-alike j) (row i xs) vs h (other-true j (row i xs) n)
 swap-ops vs (delete i) (upsert j ys) h n =
-    sym (put-filter idBelow by-id strict-id (otherId i) (other-alike i) (row j ys) vs h (other-true i (row j ys) (λ q. n (sym q))))
+    sym (put-filter vectorBelow by-id strict-id (otherId i) (other-alike i) (row j ys) vs h (other-true i (row j ys) (λ q. n (sym q))))
 swap-ops vs (delete i) (delete j) h n = filter-filter (otherId j) (otherId i) vs
 
-pub later-op : (vs : Vectors) (a b : Op) → rising idBelow vs ≡ true → opId a ≡ opId b → applyOp (applyOp vs a) b ≡ applyOp vs b
+pub later-op : (vs : Vectors) (a b : Op) → rising vectorBelow vs ≡ true → opId a ≡ opId b → applyOp (applyOp vs a) b ≡ applyOp vs b
 unfolding applyOp
 later-op vs (upsert i xs) (upsert j ys) h q =
-    put-over idBelow by-id strict-id (row j ys) (row i xs) vs (le-ltb j i (omega arith)) (le-ltb i j (omega arith))
+    put-over vectorBelow by-id strict-id (row j ys) (row i xs) vs (le-ltb j i (omega arith)) (le-ltb i j (omega arith))
 later-op vs (upsert i xs) (delete j) h q =
-    put-away idBelow by-id strict-id (otherId j) (other-alike j) (row i xs) vs (other-false j (row i xs) q)
+    put-away vectorBelow by-id strict-id (otherId j) (other-alike j) (row i xs) vs (other-false j (row i xs) q)
 later-op vs (delete i) (upsert j ys) h q =
-    filter-put idBelow by-id strict-id (otherId i) (other-alike i) (row j ys)
+    filter-put vectorBelow by-id strict-id (otherId i) (other-alike i) (row j ys)
     (λ z p. let g = ltb-true j (z .id) p in other-true i z (λ e. omega arith))
     (λ z p. let g = ltb-true (z .id) j p in other-true i z (λ e. omega arith)) vs h
 later-op vs (delete i) (delete j) h q =
@@ -117,8 +117,8 @@ logs-differ l a b n q = n (same-logs l a b q)
 
 -- ---- Two edits of the primary: `append` gives each the replica's epoch and the next offset
 
-rises : (r : ShardReplica) → InStep r → rising idBelow (r .vectors) ≡ true
-rises r h = ap (rising idBelow) h ∙ play-rising (r .log)
+rises : (r : ShardReplica) → InStep r → rising vectorBelow (r .vectors) ≡ true
+rises r h = ap (rising vectorBelow) h ∙ play-rising (r .log)
 
 pub swap-appends : (r : ShardReplica) (x y : Op) → InStep r → (opId x ≡ opId y → ⊥)
     → append (append r x) y .vectors ≡ append (append r y) x .vectors

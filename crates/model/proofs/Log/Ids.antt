@@ -8,10 +8,10 @@ use lib.Dec.{eqb, ltb}
 use borrow.Author.Tests.{ltb-true, ltb-false, lt-ltb}
 use Rattle.model.specs.Lists.{filter, rising, put}
 use Rattle.model.specs.Nearest.Search.{Vector}
-use Rattle.model.specs.Log.{Entry, Log, Op, upsert, delete, Vectors, idBelow, otherId, applyOp, playFrom, play}
+use Rattle.model.specs.Log.{Entry, Log, Op, upsert, delete, Vectors, vectorBelow, otherId, applyOp, playFrom, play}
 use Rattle.model.proofs.Rising.{ByKey, put-rising, filter-rising}
 
-pub by-id : ByKey idBelow
+pub by-id : ByKey vectorBelow
 by-id = record {
   through = λ a b c p q. (let h = ltb-true (a .id) (b .id) p in let g = ltb-true (b .id) (c .id) q in lt-ltb (a .id) (c .id) (omega arith));
   level =
@@ -24,16 +24,16 @@ by-id = record {
       lt-ltb (a .id) (c .id) (omega arith));
 }
 
-pub op-rising : (vs : Vectors) (op : Op) → rising idBelow vs ≡ true → rising idBelow (applyOp vs op) ≡ true
+pub op-rising : (vs : Vectors) (op : Op) → rising vectorBelow vs ≡ true → rising vectorBelow (applyOp vs op) ≡ true
 unfolding applyOp
-op-rising vs (upsert id xs) h = put-rising idBelow by-id (record { id = id; components = xs }) vs h
-op-rising vs (delete id) h = filter-rising idBelow by-id (otherId id) vs h
+op-rising vs (upsert id xs) h = put-rising vectorBelow by-id (record { id = id; components = xs }) vs h
+op-rising vs (delete id) h = filter-rising vectorBelow by-id (otherId id) vs h
 
-pub play-rising-from : (vs : Vectors) (l : Log) → rising idBelow vs ≡ true → rising idBelow (playFrom vs l) ≡ true
+pub play-rising-from : (vs : Vectors) (l : Log) → rising vectorBelow vs ≡ true → rising vectorBelow (playFrom vs l) ≡ true
 unfolding playFrom
 play-rising-from vs [] h = h
 play-rising-from vs (e ∷ es) h = play-rising-from (applyOp vs (e .op)) es (op-rising vs (e .op) h)
 
-pub play-rising : (l : Log) → rising idBelow (play l) ≡ true
+pub play-rising : (l : Log) → rising vectorBelow (play l) ≡ true
 unfolding play rising
 play-rising l = play-rising-from [] l refl

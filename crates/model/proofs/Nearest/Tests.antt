@@ -24,8 +24,8 @@ and-true true = refl
 and-true false = refl
 
 -- a Bool that is true, as what `T` asks, and back
-pub holds : {b : Bool} → b ≡ true → T b
-holds e = subst T (sym e) tt
+pub holds-T : {b : Bool} → b ≡ true → T b
+holds-T e = subst T (sym e) tt
 
 pub is-true : (b : Bool) → T b → b ≡ true
 is-true true t = refl

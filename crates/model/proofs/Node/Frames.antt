@@ -11,7 +11,7 @@ use Rattle.model.specs.Log.{ShardReplica, promote}
 use Rattle.model.specs.Map.Tables.{ShardInfo}
 use Rattle.model.specs.Map.Apply.{update}
 use Rattle.model.specs.Node.Held.{Held, Node}
-use Rattle.model.specs.Node.Shards.{Result, heldBelow, ofKey, shardOf, withHeld, atShard}
+use Rattle.model.specs.Node.Shards.{Result, heldBelow, ofKey, heldShard, withHeld, atShard}
 use Rattle.model.specs.Node.Shown.{Showing, isPrimary, promotes, promotedTo, keptAs, showHeld}
 use Rattle.model.specs.declared.Metric.{Metric}
 use Rattle.model.specs.declared.Role.{Role}
@@ -29,16 +29,16 @@ other-key h k j d e = subst (λ (x : Key). sameKey x j ≡ false) (sym (same-key
 
 module _ {A : Type 0} (n : Node) (k : Key) (absent : A) (f : Held → Result A Held) (key : (h : Held) → f h .after .key ≡ h .key) where
   -- every other shard is as it was
-  pub at-other : (j : Key) → sameKey k j ≡ false → shardOf (atShard n k absent f .after) j ≡ shardOf n j
-  unfolding shardOf
+  pub at-other : (j : Key) → sameKey k j ≡ false → heldShard (atShard n k absent f .after) j ≡ heldShard n j
+  unfolding heldShard
   at-other j d =
       at-cases n k absent f (λ r. find (ofKey j) (r .after .held) ≡ find (ofKey j) (n .held)) (λ e. refl)
       (λ h e. find-other (ofKey k) (λ x. f x .after) (ofKey j) (λ x p. other-key x k j d p)
       (λ x p. ap (λ (y : Key). sameKey y j) (key x) ∙ other-key x k j d p) (n .held))
 
   -- the shard itself is what the call makes of it
-  pub at-after : (h : Held) → shardOf n k ≡ some h → shardOf (atShard n k absent f .after) k ≡ some (f h .after)
-  unfolding shardOf
+  pub at-after : (h : Held) → heldShard n k ≡ some h → heldShard (atShard n k absent f .after) k ≡ some (f h .after)
+  unfolding heldShard
   at-after h e =
       at-cases n k absent f (λ r. find (ofKey k) (r .after .held) ≡ some (f h .after))
       (λ z. none-some (sym z ∙ e))

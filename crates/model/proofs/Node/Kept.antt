@@ -17,7 +17,7 @@ use Rattle.model.specs.Layout.Message.{Reply, replyStored, replyGap, rep
 use Rattle.model.specs.Map.Apply.{update}
 use Rattle.model.specs.Map.WellFormed.{nameFits}
 use Rattle.model.specs.Node.Held.{Held, Node}
-use Rattle.model.specs.Node.Shards.{Result, rowBelow, ofNode, withReplica, withPeers, demoted, begun, shardOf}
+use Rattle.model.specs.Node.Shards.{Result, rowBelow, ofNode, withReplica, withPeers, demoted, begun, heldShard}
 use Rattle.model.specs.Node.Lease.{grant, leased}
 use Rattle.model.specs.Node.Client.{overfull, lacks, waitRow, writeHeld, onWrite, waitHeld, onWait, writeRefused}
 use Rattle.model.specs.Node.Backup.{BackupAnswer, unheld, replicateHeld, onReplicate, newEpochHeld, newEpochAt, onNewEpoch, copyHeld, onCopy}
@@ -199,7 +199,7 @@ new-epoch-at n k epoch end t m (some h) p x = at-formed n k unheld (newEpochHeld
 pub new-epoch-kept : (n : Node) (k : Key) (epoch end : ℕ) (t : List End) (m : Metric) → nameFits (k .collection) ≡ true → FormedNode n
     → FormedNode (onNewEpoch n k epoch end t m .after)
 unfolding onNewEpoch
-new-epoch-kept n k epoch end t m p x = new-epoch-at n k epoch end t m (shardOf n k) p x
+new-epoch-kept n k epoch end t m p x = new-epoch-at n k epoch end t m (heldShard n k) p x
 
 pub copy-keeps : (epoch : ℕ) (es : List Entry) → every wellFormedEntry es ≡ true → Keeps (λ h. copyHeld epoch es h .after)
 copy-keeps epoch es p = record {

@@ -22,7 +22,7 @@ use Rattle.model.specs.Layout.Writable.{GoodOp, GoodEntry, GoodBits}
 use Rattle.model.specs.Layout.Message.{Write, decodeWrite, Query, decodeSearch, Replicated, decodeReplicate, NewEpoch, decodeNewEpoch, Copied, decodeCopyShard, Reply, decodeReply}
 use Rattle.model.specs.Node.Held.{Node}
 use Rattle.model.specs.Node.Shards.{Result}
-use Rattle.model.specs.Node.Wire.{floatOf, floatsOf, vectorInDomain, opInDomain, entryInDomain, storedOp, storedEntry}
+use Rattle.model.specs.Node.Wire.{floatOf, floatsOf, patternsInDomain, opInDomain, entryInDomain, storedOp, storedEntry}
 use Rattle.model.specs.Node.Lease.{GrantAnswer}
 use Rattle.model.specs.Node.Client.{WriteAnswer, SearchAnswer, WaitAnswer}
 use Rattle.model.specs.Node.Backup.{BackupAnswer}
@@ -59,8 +59,8 @@ length-floats : (bs : List ℕ) → length (map floatOf bs) ≡ length bs
 length-floats [] = refl
 length-floats (b ∷ bs) = ap suc (length-floats bs)
 
-vector-formed : (bs : List ℕ) → GoodBits bs → vectorInDomain bs ≡ true → wellFormedVector (floatsOf bs) ≡ true
-unfolding wellFormedVector floatsOf vectorInDomain
+vector-formed : (bs : List ℕ) → GoodBits bs → patternsInDomain bs ≡ true → wellFormedVector (floatsOf bs) ≡ true
+unfolding wellFormedVector floatsOf patternsInDomain
 vector-formed bs g e =
     let l = length-floats bs in
     let a = g .0 in

@@ -18,7 +18,7 @@ use Rattle.model.specs.Map.Create.{shardBelow, collectionBelow}
 use Rattle.model.specs.Map.Apply.{nodeBelow, sessionBelow}
 use Rattle.model.specs.Map.WellFormed.{nameFits, nodeFits, collectionFits, shardFits, sessionFits, tableFits, wellFormedMap}
 use Rattle.model.specs.Node.Held.{Held, Node, emptyNode}
-use Rattle.model.specs.Node.Shards.{Result, heldBelow, rowBelow, ofKey, ofNode, onNode, shardOf, demoted, begun}
+use Rattle.model.specs.Node.Shards.{Result, heldBelow, rowBelow, ofKey, ofNode, onNode, heldShard, demoted, begun}
 use Rattle.model.specs.Node.Shown.{Showing, still, refreshed, isNode, newRow, withRow, withRows, retained, isPrimary, promotes, promotedTo, keptAs, showHeld, showListed, listedAs, collectionMetric, showShard, orNot, showings, heldOf, overworked, tooMany, takeMap, deadAs, onMap, ShownAnswer}
 use Rattle.model.specs.Node.WellFormed.{ackFits, wellFormedHeld, wellFormedLog, logOf}
 use Rattle.model.specs.declared.Metric.{Metric}
@@ -157,12 +157,12 @@ show-shard : (n : Node) (m : Map) (i : ShardInfo) → FormedNode n → Listed i 
 unfolding showShard
 show-shard n m i x l s =
     by-test (λ (v : Option Showing). v ≡ some s → Shows i (s .held)) (any (listedAs (n .id) (n .incarnation)) (i .replicas))
-    (λ q. show-listed (n .id) i (collectionMetric m (i .key .collection)) (shardOf n (i .key)) l found s)
+    (λ q. show-listed (n .id) i (collectionMetric m (i .key .collection)) (heldShard n (i .key)) l found s)
     (λ q e. none-some e)
   where
-    found : (h : Held) → shardOf n (i .key) ≡ some h → (h .key ≡ i .key) × FormedHeld h × (logOf h ≡ true)
+    found : (h : Held) → heldShard n (i .key) ≡ some h → (h .key ≡ i .key) × FormedHeld h × (logOf h ≡ true)
     found h e =
-        unfold shardOf in (
+        unfold heldShard in (
           same-key (h .key) (i .key) (find-true (ofKey (i .key)) (n .held) h e),
           held-formed h (every-find wellFormedHeld (ofKey (i .key)) (n .held) h (x .shards) e),
           every-find logOf (ofKey (i .key)) (n .held) h (x .logs) e,

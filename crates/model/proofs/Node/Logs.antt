@@ -14,7 +14,7 @@ use lib.Ieee.{Float, nan, inf, fin}
 use borrow.Author.Tests.{eqb-true, eq-eqb}
 use Rattle.model.specs.Lists.{_and_, nth, every, rising}
 use Rattle.model.specs.Nearest.Search.{Vector}
-use Rattle.model.specs.Log.{Op, Entry, End, Log, Vectors, idBelow, play, playFrom, ShardReplica, emptyReplica, lastOffset, push, append, store, storeAll, agrees, keep, adopted, promote}
+use Rattle.model.specs.Log.{Op, Entry, End, Log, Vectors, vectorBelow, play, playFrom, ShardReplica, emptyReplica, lastOffset, push, append, store, storeAll, agrees, keep, adopted, promote}
 use Rattle.model.specs.Node.WellFormed.{numberedFrom, wellFormedOp, wellFormedEntry, sameInt, sameFloat, sameFloats, sameVectors, wellFormedLog}
 use Rattle.model.specs.declared.Metric.{Metric}
 use Rattle.model.proofs.Lists.{by-test, not-both, and-true, and-left, and-right}
@@ -137,7 +137,7 @@ unfolding wellFormedLog
 log-formed r e =
     let a = numberedFrom 1 (r .log) in
     let b = every wellFormedEntry (r .log) in
-    let c = rising idBelow (r .vectors) in
+    let c = rising vectorBelow (r .vectors) in
     let d = sameVectors (r .vectors) (play (r .log)) in
     let f = and-right a (b and c and d) e in
     record {
@@ -151,12 +151,12 @@ unfolding wellFormedLog
 formed-log r h =
     let a = numberedFrom 1 (r .log) in
     let b = every wellFormedEntry (r .log) in
-    let c = rising idBelow (r .vectors) in
+    let c = rising vectorBelow (r .vectors) in
     let d = sameVectors (r .vectors) (play (r .log)) in
     and-true a (b and c and d) (fact-numbered 0 (r .log) (h .numbered))
     (and-true b (c and d) (h .entries)
     (and-true c d
-    (subst (λ (v : Vectors). rising idBelow v ≡ true) (sym (h .played)) (play-rising (r .log)))
+    (subst (λ (v : Vectors). rising vectorBelow v ≡ true) (sym (h .played)) (play-rising (r .log)))
     (subst (λ (v : Vectors). sameVectors (r .vectors) v ≡ true) (h .played) (vectors-refl (r .vectors)))))
 
 -- ---- kept

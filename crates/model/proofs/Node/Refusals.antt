@@ -21,8 +21,8 @@ use Rattle.model.specs.declared.Metric.{Metric}
 use Rattle.model.specs.declared.Peer.{Peer}
 use Rattle.model.specs.declared.DataNodeId.{DataNodeId}
 use Rattle.model.specs.Node.Held.{Held, Node}
-use Rattle.model.specs.Node.Shards.{Result, shardOf, leadsAt, ofNode}
-use Rattle.model.specs.Node.Wire.{opInDomain, vectorInDomain, entryInDomain}
+use Rattle.model.specs.Node.Shards.{Result, heldShard, leadsAt, ofNode}
+use Rattle.model.specs.Node.Wire.{opInDomain, patternsInDomain, entryInDomain}
 use Rattle.model.specs.Node.Lease.{GrantAnswer, grantRefused, leased}
 use Rattle.model.specs.Node.Client.{WriteAnswer, accepted, writeRefused, ackCount, overfull, writeHeld, onWrite, SearchAnswer, found, searchRefused, searchHeld, onSearch, WaitAnswer, done, waiting, waitRefused, hasAcked, waitHeld, onWait}
 use Rattle.model.specs.Node.Backup.{BackupAnswer, replied, backupRefused, unheld, leadsFrom, isEmpty, replicateHeld, onReplicate, newEpochHeld, newEpochAt, onNewEpoch, copyHeld, onCopy}
@@ -91,7 +91,7 @@ search-of : (lent : Key → Bool) (n : Node) (now room : ℕ) (m : Option Query)
 search-of lent n now room none = refl
 search-of lent n now room (some m) =
     let P : Result SearchAnswer Node → Type 0 = λ v. v .after ≡ n in
-    by-test P (not (vectorInDomain (m .bits))) (λ p. refl)
+    by-test P (not (patternsInDomain (m .bits))) (λ p. refl)
     (λ p. by-test P (not (lent (m .key))) (λ q. refl) (λ q. on-search-same n now room (m .key) (m .epoch) (m .k) _))
 
 pub search-same : (lent : Key → Bool) (n : Node) (now room : ℕ) (s : List ℕ) → searchWith lent n now room s .after ≡ n
@@ -174,7 +174,7 @@ module _ (r : Refusal) where
   new-epoch-of lent n none = λ e. refl
   new-epoch-of lent n (some m) =
       by-test (Keeps (backupRefused r) n) (not (lent (m .key))) (λ q e. refl)
-      (λ q. new-epoch-at n (m .key) (m .epoch) (m .end) (m .table) (m .metric) (shardOf n (m .key)))
+      (λ q. new-epoch-at n (m .key) (m .epoch) (m .end) (m .table) (m .metric) (heldShard n (m .key)))
 
   pub new-epoch-refused : (lent : Key → Bool) (n : Node) (s : List ℕ) → Keeps (backupRefused r) n (newEpochWith lent n s)
   unfolding newEpochWith

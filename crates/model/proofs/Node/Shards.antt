@@ -8,7 +8,7 @@ use Rattle.model.specs.Lists.{find}
 use Rattle.model.specs.Keys.{Key}
 use Rattle.model.specs.Node.Held.{Held, Node}
 use Rattle.model.specs.Map.Apply.{update}
-use Rattle.model.specs.Node.Shards.{Result, ofKey, shardOf, withHeld, atFound, atShard}
+use Rattle.model.specs.Node.Shards.{Result, ofKey, heldShard, withHeld, atFound, atShard}
 use Rattle.model.proofs.Lists.{none-some, some-same}
 
 -- two choices by one test
@@ -42,23 +42,23 @@ module _ {ℓ} {A : Type ℓ} (p : A → Bool) (f : A → A) where
 -- ---- a call on one shard
 
 module _ {A : Type 0} (n : Node) (k : Key) (absent : A) (f : Held → Result A Held) where
-  pub at-absent : shardOf n k ≡ none → atShard n k absent f ≡ record { answer = absent; after = n }
+  pub at-absent : heldShard n k ≡ none → atShard n k absent f ≡ record { answer = absent; after = n }
   unfolding atShard
   at-absent e = ap (atFound n k absent f) e
 
-  pub at-held : (h : Held) → shardOf n k ≡ some h
+  pub at-held : (h : Held) → heldShard n k ≡ some h
       → atShard n k absent f ≡ record { answer = f h .answer; after = withHeld n (update (ofKey k) (λ x. f x .after) (n .held)) }
   unfolding atShard
   at-held h e = ap (atFound n k absent f) e
 
   -- a fact of the result: of a node without the shard, and of one with it
   pub at-cases {κ} : (P : Result A Node → Type κ)
-      → (shardOf n k ≡ none → P (record { answer = absent; after = n }))
-      → ((h : Held) → shardOf n k ≡ some h
+      → (heldShard n k ≡ none → P (record { answer = absent; after = n }))
+      → ((h : Held) → heldShard n k ≡ some h
       → P (record { answer = f h .answer; after = withHeld n (update (ofKey k) (λ x. f x .after) (n .held)) }))
       → P (atShard n k absent f)
   unfolding atShard
-  at-cases P g h = go (shardOf n k) g h
+  at-cases P g h = go (heldShard n k) g h
     where
       go : (o : Option Held)
           → (o ≡ none → P (record { answer = absent; after = n }))
@@ -71,7 +71,7 @@ module _ {A : Type 0} (n : Node) (k : Key) (absent : A) (f : Held → Result A H
   -- where the shard is left as it was, so is the node
   pub at-same : (T : A → Type 0) → ((h : Held) → T (f h .answer) → f h .after ≡ h) → T (atShard n k absent f .answer)
       → atShard n k absent f .after ≡ n
-  unfolding shardOf
+  unfolding heldShard
   at-same T same =
       at-cases (λ r. T (r .answer) → r .after ≡ n)
       (λ e t. refl)

@@ -13,7 +13,7 @@ use Rattle.model.specs.Refusals.{Refusal, noRoom}
 use Rattle.model.specs.Log.{Op, Entry, End, Stored, through, gap, stale, store, storeAll, adopted, lastOffset}
 use Rattle.model.specs.Layout.Message.{Reply, replyStored, replyGap, replyStale, replyAdopted}
 use Rattle.model.specs.Node.Held.{Held, Node}
-use Rattle.model.specs.Node.Shards.{Result, gives, atShard, shardOf, withHeld, withReplica, heldBelow, demoted, begun}
+use Rattle.model.specs.Node.Shards.{Result, gives, atShard, heldShard, withHeld, withReplica, heldBelow, demoted, begun}
 use Rattle.model.specs.Node.Client.{overfull}
 use Rattle.model.specs.declared.Metric.{Metric}
 use Rattle.model.specs.declared.Role.{Role}
@@ -77,7 +77,7 @@ newEpochAt n k epoch end table metric (some h) = atShard n k unheld (newEpochHel
 
 -- 'Who is turned down', NewEpoch: at the shard that the message names
 unfoldable pub onNewEpoch : Node → Key → (epoch end : ℕ) → List End → Metric → Result BackupAnswer Node
-onNewEpoch n k epoch end table metric = newEpochAt n k epoch end table metric (shardOf n k)
+onNewEpoch n k epoch end table metric = newEpochAt n k epoch end table metric (heldShard n k)
 
 -- ---- CopyShard
 

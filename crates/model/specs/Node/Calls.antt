@@ -19,7 +19,7 @@ use Rattle.model.specs.Layout.Parts.{keyF, keyOf, whenever}
 use Rattle.model.specs.Layout.Message.{Write, decodeWrite, Query, decodeSearch, Replicated, decodeReplicate, NewEpoch, decodeNewEpoch, Copied, decodeCopyShard, Reply, decodeReply}
 use Rattle.model.specs.Node.Held.{Node}
 use Rattle.model.specs.Node.Shards.{Result, gives}
-use Rattle.model.specs.Node.Wire.{vectorInDomain, opInDomain, entryInDomain, floatsOf, storedOp, storedEntry}
+use Rattle.model.specs.Node.Wire.{patternsInDomain, opInDomain, entryInDomain, floatsOf, storedOp, storedEntry}
 use Rattle.model.specs.Node.Lease.{GrantAnswer, granted, grantRefused, grant}
 use Rattle.model.specs.Node.Client.{WriteAnswer, writeRefused, onWrite, SearchAnswer, searchRefused, onSearch, WaitAnswer, waitRefused, onWait}
 use Rattle.model.specs.Node.Backup.{BackupAnswer, backupRefused, onReplicate, onNewEpoch, onCopy}
@@ -62,7 +62,7 @@ callWrite n now least s = writeWith (wellFormedLent n) n now least s
 abbrev pub searchOf : (Key → Bool) → Node → (now room : ℕ) → Option Query → Result SearchAnswer Node
 searchOf lent n now room none = gives (searchRefused undecodable) n
 searchOf lent n now room (some m) =
-    cond (not (vectorInDomain (m .bits))) (gives (searchRefused outsideDomain) n)
+    cond (not (patternsInDomain (m .bits))) (gives (searchRefused outsideDomain) n)
     (cond (not (lent (m .key))) (gives (searchRefused malformed) n)
     (onSearch n now room (m .key) (m .epoch) (m .k) (floatsOf (m .bits))))
 

@@ -7,7 +7,7 @@ use Rattle.model.specs.Keys.{Key}
 use Rattle.model.specs.Nearest.Search.{Vector}
 use Rattle.model.specs.Log.{lastOffset}
 use Rattle.model.specs.Node.Held.{Held, Node}
-use Rattle.model.specs.Node.Shards.{shardOf}
+use Rattle.model.specs.Node.Shards.{heldShard}
 use Rattle.model.specs.declared.Role.{Role}
 use Rattle.model.specs.declared.Role.the-variants.{Backup, Primary}
 
@@ -41,4 +41,4 @@ dumpAt k (some h) = record {
 
 -- node.rs, dump: a shard that is not held shows as empty
 unfoldable pub dump : Node → Key → Dump
-dump n k = dumpAt k (shardOf n k)
+dump n k = dumpAt k (heldShard n k)

@@ -46,8 +46,8 @@ abbrev pub onNode : ℕ → Replica → Bool
 onNode k r = eqb (r .node .0) k
 
 -- node.rs, `state.shards.get`
-unfoldable pub shardOf : Node → Key → Option Held
-shardOf n k = find (ofKey k) (n .held)
+unfoldable pub heldShard : Node → Key → Option Held
+heldShard n k = find (ofKey k) (n .held)
 
 -- the node with other shards
 abbrev pub withHeld : Node → List Held → Node
@@ -60,7 +60,7 @@ atFound n k absent f (some h) = gives (f h .answer) (withHeld n (update (ofKey k
 
 -- a call on the one shard that it names; `absent` is the answer of a node without that shard
 unfoldable pub atShard : {A : Type 0} → Node → Key → A → (Held → Result A Held) → Result A Node
-atShard n k absent f = atFound n k absent f (shardOf n k)
+atShard n k absent f = atFound n k absent f (heldShard n k)
 
 -- node.rs, `primary.filter(|p| p.epoch == epoch)`
 abbrev pub leadsAt : Role → ℕ → Bool

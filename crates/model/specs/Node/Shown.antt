@@ -13,7 +13,7 @@ use Rattle.model.specs.Refusals.{Refusal, noRoom}
 use Rattle.model.specs.Log.{promote, lastOffset}
 use Rattle.model.specs.Map.Tables.{Map, NodeInfo, Collection, ShardInfo}
 use Rattle.model.specs.Node.Held.{Held, Node, emptyNode}
-use Rattle.model.specs.Node.Shards.{Result, gives, shardOf, leadsAt, rowBelow, ofNode, onNode, demoted, begun}
+use Rattle.model.specs.Node.Shards.{Result, gives, heldShard, leadsAt, rowBelow, ofNode, onNode, demoted, begun}
 use Rattle.model.specs.declared.Metric.{Metric}
 use Rattle.model.specs.declared.DataNodeId.{DataNodeId}
 use Rattle.model.specs.declared.Replica.{Replica}
@@ -179,7 +179,7 @@ collectionMetric m k = metricOf (find (named k) (m .collections))
 unfoldable pub showShard : Node → Map → ShardInfo → Option Showing
 showShard n m i =
     cond (any (listedAs (n .id) (n .incarnation)) (i .replicas))
-    (showListed (n .id) i (collectionMetric m (i .key .collection)) (shardOf n (i .key)))
+    (showListed (n .id) i (collectionMetric m (i .key .collection)) (heldShard n (i .key)))
     none
 
 -- one more shard, if it is held

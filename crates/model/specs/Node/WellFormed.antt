@@ -13,10 +13,10 @@ use Rattle.model.specs.Limits.{maxComponents, maxEntries, maxHeld, maxRe
 use Rattle.model.specs.Keys.{Key}
 use Rattle.model.specs.Nearest.Order.{inDomain}
 use Rattle.model.specs.Nearest.Search.{Vector}
-use Rattle.model.specs.Log.{Op, upsert, delete, Entry, Log, Vectors, ShardReplica, idBelow, lastOffset, play}
+use Rattle.model.specs.Log.{Op, upsert, delete, Entry, Log, Vectors, ShardReplica, vectorBelow, lastOffset, play}
 use Rattle.model.specs.Map.WellFormed.{nameFits}
 use Rattle.model.specs.Node.Held.{Held, Node}
-use Rattle.model.specs.Node.Shards.{heldBelow, rowBelow, shardOf}
+use Rattle.model.specs.Node.Shards.{heldBelow, rowBelow, heldShard}
 use Rattle.model.specs.declared.Peer.{Peer}
 
 -- ---- the header: what every call is lent
@@ -102,7 +102,7 @@ unfoldable pub wellFormedLog : ShardReplica → Bool
 wellFormedLog r =
     numberedFrom 1 (r .log)
     and every wellFormedEntry (r .log)
-    and rising idBelow (r .vectors)
+    and rising vectorBelow (r .vectors)
     and sameVectors (r .vectors) (play (r .log))
 
 -- ---- the lent state of a call
@@ -114,7 +114,7 @@ logIfHeld (some h) = wellFormedLog (h .replica)
 
 -- a call that touches a log is lent the header and the store of the shard that it names
 unfoldable pub wellFormedLent : Node → Key → Bool
-wellFormedLent n k = wellFormedHeader n and logIfHeld (shardOf n k)
+wellFormedLent n k = wellFormedHeader n and logIfHeld (heldShard n k)
 
 -- the log of one held shard
 abbrev pub logOf : Held → Bool

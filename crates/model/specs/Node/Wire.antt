@@ -22,12 +22,12 @@ unfoldable pub floatsOf : List ℕ → List Float
 floatsOf bs = map floatOf bs
 
 -- 'Who is turned down': a vector outside the domain is 22
-unfoldable pub vectorInDomain : List ℕ → Bool
-vectorInDomain bs = every bitsInDomain bs
+unfoldable pub patternsInDomain : List ℕ → Bool
+patternsInDomain bs = every bitsInDomain bs
 
 -- 22, of an operation
 abbrev pub opInDomain : WireOp → Bool
-opInDomain (wireUpsert id bs) = vectorInDomain bs
+opInDomain (wireUpsert id bs) = patternsInDomain bs
 opInDomain (wireDelete id) = true
 
 -- 22, of an entry

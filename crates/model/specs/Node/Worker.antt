@@ -13,7 +13,7 @@ use Rattle.model.specs.Refusals.{Refusal}
 use Rattle.model.specs.Log.{Log, Entry, entriesFrom, epochEnds}
 use Rattle.model.specs.Layout.Message.{NewEpoch, Replicated, Copied, encodeNewEpoch, encodeReplicate, encodeCopyShard}
 use Rattle.model.specs.Node.Held.{Held, Node}
-use Rattle.model.specs.Node.Shards.{shardOf, leadsAt, ofNode, onNode}
+use Rattle.model.specs.Node.Shards.{heldShard, leadsAt, ofNode, onNode}
 use Rattle.model.specs.Node.Wire.{wireOp, wireEntry}
 use Rattle.model.specs.declared.Metric.{Metric}
 use Rattle.model.specs.declared.Peer.{Peer}
@@ -53,7 +53,7 @@ stepAt epoch peer (some h) = stepHeld epoch peer h
 
 -- 'The node': the worker's step; it changes nothing
 unfoldable pub onStep : Node → Key → (epoch peer : ℕ) → Step
-onStep n k epoch peer = stepAt epoch peer (shardOf n k)
+onStep n k epoch peer = stepAt epoch peer (heldShard n k)
 
 -- ---- the request of a step
 
@@ -119,4 +119,4 @@ requestAt form epoch metric step (some h) = requestHeld form epoch metric h step
 
 -- the request of a step that the node answered
 unfoldable pub onRequest : Node → Key → (epoch : ℕ) → Metric → Form → Step → Option Message
-onRequest n k epoch metric form step = requestAt form epoch metric step (shardOf n k)
+onRequest n k epoch metric form step = requestAt form epoch metric step (heldShard n k)

@@ -10,7 +10,7 @@ use Rattle.model.specs.Keys.{Key}
 use Rattle.model.specs.Lists.{_and_, _or_, any, collect}
 use Rattle.model.specs.Map.Tables.{Map, ShardInfo}
 use Rattle.model.specs.Node.Held.{Held, Node, emptyNode}
-use Rattle.model.specs.Node.Shards.{Result, shardOf, ofNode, rowBelow, begun}
+use Rattle.model.specs.Node.Shards.{Result, heldShard, ofNode, rowBelow, begun}
 use Rattle.model.specs.Node.Shown.{ShownAnswer, Worker, Showing, newRow, isNew, starts, withRow, withRows, retained, isPrimary, promotes, promotedTo, keptAs, showHeld, showListed, showShard, orNot, showings, allStarts, tooMany, takeMap, deadAs, onMap, collectionMetric, listedAs, isNode}
 use Rattle.model.specs.Node.WellFormed.{wellFormedHeader}
 use Rattle.model.specs.Map.WellFormed.{wellFormedMap}
@@ -126,7 +126,7 @@ module _ (x : Node) (m : Map) where
   unfolding showShard
   shard-other i =
       by-test (OtherIn (x .id)) (any (listedAs (x .id) (x .incarnation)) (i .replicas))
-      (λ t. listed-other (x .id) i (collectionMetric m (i .key .collection)) (shardOf x (i .key))) (λ t. tt)
+      (λ t. listed-other (x .id) i (collectionMetric m (i .key .collection)) (heldShard x (i .key))) (λ t. tt)
 
   showings-other : (is : List ShardInfo) → All (Other (x .id)) (allStarts (showings x m is))
   unfolding showings allStarts

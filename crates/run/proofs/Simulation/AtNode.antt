@@ -13,7 +13,7 @@ use Rattle.model.specs.Map.Apply.{update}
 use Rattle.model.specs.Map.Change.{holds}
 use Rattle.model.specs.Node.Held as held
 use Rattle.model.specs.Node.Held.{Held}
-use Rattle.model.specs.Node.Shards.{Result, ofKey, shardOf, withHeld, atShard, leadsAt}
+use Rattle.model.specs.Node.Shards.{Result, ofKey, heldShard, withHeld, atShard, leadsAt}
 use Rattle.model.specs.Node.WellFormed.{wellFormedHeader, wellFormedHeld, wellFormedLent, logIfHeld, logOf}
 use Rattle.model.specs.declared.Peer.{Peer}
 use Rattle.model.specs.declared.Role as role
@@ -48,7 +48,7 @@ module _ (w : World) (top n : ℕ) (x : held.Node) (b : Node) (k : NodeSim w top
       → (holds n (w .holders) ≡ true → (h : Held) → x .held ≡ h ∷ [] → HeldSim w top n h b → key ≡ w .key
       → P (record { answer = f h .answer; after = withHeld x (f h .after ∷ []) }))
       → P (atShard x key absent f)
-  unfolding shardOf find update
+  unfolding heldShard find update
   at-key {A} P key absent f none′ some′ = go (holds n (w .holders)) refl
     where
       empty : x .held ≡ [] → P (atShard x key absent f)
@@ -57,7 +57,7 @@ module _ (w : World) (top n : ℕ) (x : held.Node) (b : Node) (k : NodeSim w top
       full : holds n (w .holders) ≡ true → (h : Held) → x .held ≡ h ∷ [] → HeldSim w top n h b → (t : Bool) → sameKey (h .key) key ≡ t
           → P (atShard x key absent f)
       full y h e hs true t =
-          let found : shardOf x key ≡ some h = ap (find (ofKey key)) e ∙ rw t in
+          let found : heldShard x key ≡ some h = ap (find (ofKey key)) e ∙ rw t in
           let one : update (ofKey key) (λ z. f z .after) (x .held) ≡ f h .after ∷ [] = ap (update (ofKey key) (λ z. f z .after)) e ∙ rw t in
           subst P
           (sym (at-held x key absent f h found
@@ -93,8 +93,8 @@ module _ (w : World) (top n : ℕ) (x : held.Node) (b : Node) (k : NodeSim w top
   pub held-facts : (h : Held) → x .held ≡ h ∷ [] → FormedHeld h
   held-facts h e = held-formed h (every-tail wellFormedHeld h [] (subst (λ (l : List Held). every wellFormedHeld l ≡ true) e (k .formed .shards)) .0)
 
-  pub shard-found : (h : Held) → x .held ≡ h ∷ [] → HeldSim w top n h b → shardOf x (w .key) ≡ some h
-  unfolding shardOf find
+  pub shard-found : (h : Held) → x .held ≡ h ∷ [] → HeldSim w top n h b → heldShard x (w .key) ≡ some h
+  unfolding heldShard find
   shard-found h e hs =
       let t : sameKey (h .key) (w .key) ≡ true = subst (λ (j : Key). sameKey j (w .key) ≡ true) (sym (hs .key)) (key-same (w .key)) in
       ap (find (ofKey (w .key))) e ∙ rw t
@@ -117,8 +117,8 @@ module _ (w : World) (top n : ℕ) (x : held.Node) (b : Node) (k : NodeSim w top
   -- the shard that a call names, found or not
   pub shard-cases : (P : Option Held → Type 0) (key : Key) → P none
       → (holds n (w .holders) ≡ true → (h : Held) → x .held ≡ h ∷ [] → HeldSim w top n h b → key ≡ w .key → P (some h))
-      → P (shardOf x key)
-  unfolding shardOf find
+      → P (heldShard x key)
+  unfolding heldShard find
   shard-cases P key none′ some′ = go (holds n (w .holders)) refl
     where
       full : holds n (w .holders) ≡ true → (h : Held) → x .held ≡ h ∷ [] → HeldSim w top n h b → (t : Bool) → sameKey (h .key) key ≡ t

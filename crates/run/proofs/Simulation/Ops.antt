@@ -15,7 +15,7 @@ use Rattle.model.specs.Nearest.Order.{inDomain, bitsInDomain}
 use Rattle.model.specs.Log.{Op, upsert, delete}
 use Rattle.model.specs.Layout.Format as format
 use Rattle.model.specs.Layout.Writable.{U64, U32, GoodOp}
-use Rattle.model.specs.Node.Wire.{floatOf, bitsOf, floatsOf, vectorInDomain, opInDomain, storedOp, wireOp}
+use Rattle.model.specs.Node.Wire.{floatOf, bitsOf, floatsOf, patternsInDomain, opInDomain, storedOp, wireOp}
 use Rattle.model.specs.Node.WellFormed.{component, wellFormedVector, wellFormedOp}
 use Rattle.model.proofs.Lists.{and-left, and-right}
 use Rattle.model.proofs.Map.Rows.{every-tail, every-cons}
@@ -57,7 +57,7 @@ pub record Back (op : Op) : Type 0 where
   pub same : storedOp (wireOp op) ≡ op
 
 pub op-back : (op : Op) → wellFormedOp op ≡ true → IdFits op → Back op
-unfolding wireOp storedOp wellFormedVector floatsOf vectorInDomain
+unfolding wireOp storedOp wellFormedVector floatsOf patternsInDomain
 op-back (upsert id xs) e g =
     let a = leb 1 (length xs) in
     let b = leb (length xs) maxComponents in

@@ -16,7 +16,7 @@ use Rattle.model.specs.Map.Change.{holds}
 use Rattle.model.specs.Map.WellFormed.{wellFormedMap}
 use Rattle.model.specs.Node.Held as held
 use Rattle.model.specs.Node.Held.{Held, emptyNode}
-use Rattle.model.specs.Node.Shards.{Result, shardOf, leadsAt, demoted}
+use Rattle.model.specs.Node.Shards.{Result, heldShard, leadsAt, demoted}
 use Rattle.model.specs.Node.Shown.{ShownAnswer, Showing, listedAs, collectionMetric, metricOf, named, refreshed, promotes, promotedTo, keptAs, showHeld, showListed, showShard, orNot, showings, heldOf, tooMany, takeMap, deadAs, onMap, isPrimary}
 use Rattle.model.specs.Node.Calls.{shownWith, callShown}
 use Rattle.model.specs.Node.WellFormed.{wellFormedHeader}
@@ -72,7 +72,7 @@ module _ (w : World) (m : tables.Map) (am : Map) (t : MapSim w m am) (x : held.N
 
   -- a holder: the one that it holds, or one that begins
   pub shows-one : x .id ≡ n → any (listedAs n (x .incarnation)) (w .holders) ≡ true
-      → showings x m (m .shards) ≡ orNot (showListed n (t .shard) (some (w .metric)) (shardOf x (w .key))) []
+      → showings x m (m .shards) ≡ orNot (showListed n (t .shard) (some (w .metric)) (heldShard x (w .key))) []
   unfolding showings showShard
   shows-one id h =
       let u : any (listedAs (x .id) (x .incarnation)) (t .shard .replicas) ≡ true =
@@ -83,10 +83,10 @@ module _ (w : World) (m : tables.Map) (am : Map) (t : MapSim w m am) (x : held.N
       ∙ ap (λ (cs : List Collection). metricOf (find (named (w .key .collection)) cs)) (t .collections) ∙ w .measured in
       ap (showings x m) (t .only)
       ∙ ap (λ (z : Bool). orNot (cond z (showListed (x .id) (t .shard) (collectionMetric m (t .shard .key .collection))
-      (shardOf x (t .shard .key))) none) []) u
-      ∙ ap (λ (z : ℕ). orNot (showListed z (t .shard) (collectionMetric m (t .shard .key .collection)) (shardOf x (t .shard .key))) []) id
-      ∙ ap (λ (z : Option Metric). orNot (showListed n (t .shard) z (shardOf x (t .shard .key))) []) c
-      ∙ ap (λ (z : Key). orNot (showListed n (t .shard) (some (w .metric)) (shardOf x z)) []) (t .key)
+      (heldShard x (t .shard .key))) none) []) u
+      ∙ ap (λ (z : ℕ). orNot (showListed z (t .shard) (collectionMetric m (t .shard .key .collection)) (heldShard x (t .shard .key))) []) id
+      ∙ ap (λ (z : Option Metric). orNot (showListed n (t .shard) z (heldShard x (t .shard .key))) []) c
+      ∙ ap (λ (z : Key). orNot (showListed n (t .shard) (some (w .metric)) (heldShard x z)) []) (t .key)
 
 module _ (w : World) (s : real.State) (a : State) (k : Sim w s a) (n : ℕ) where
   abbrev x : held.Node

@@ -21,7 +21,7 @@ use Rattle.model.specs.Map.WellFormed.{shardFits}
 use Rattle.model.specs.Layout.Writable.{U64}
 use Rattle.model.specs.Node.Held as held
 use Rattle.model.specs.Node.Held.{Held, emptyNode}
-use Rattle.model.specs.Node.Shards.{Result, shardOf, ofNode, heldBelow, rowBelow, begun, demoted}
+use Rattle.model.specs.Node.Shards.{Result, heldShard, ofNode, heldBelow, rowBelow, begun, demoted}
 use Rattle.model.specs.Node.Shown as shown
 use Rattle.model.specs.Node.Shown.{ShownAnswer, Showing, listedAs, newRow, withRow, withRows, promotes, promotedTo, showHeld, showListed, showings, heldOf, tooMany, takeMap, isPrimary, refreshed}
 use Rattle.model.specs.Node.WellFormed.{wellFormedHeld, logOf}
@@ -269,7 +269,7 @@ module _ (m : tables.Map) (i : ShardInfo) (c : Created m i) where
         (λ t. ap (map heldOf) (shows-none world m (start .map) table new n y))
 
     one : holds n (i .replicas) ≡ true → showings new m (m .shards) ≡ showHeld n i (c .metric .0) h ∷ []
-    unfolding showListed shardOf find table
+    unfolding showListed heldShard find table
     one y = shows-one world m (start .map) table new n refl (listed y)
 
     room : tooMany (showHeld n i (c .metric .0) h ∷ []) ≡ false

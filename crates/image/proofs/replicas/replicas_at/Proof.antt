@@ -5,7 +5,7 @@ use mathlib.Core.Path.{_≡_, refl, sym, _∙_}
 use Prim.Native.Nat.{_-_, _≤_, _<_}
 use lib.ListN.{length, length-set}
 use Rattle.image.specs.Shape.{rowsAt, value}
-use Rattle.image.specs.Parts.{replicaF, replicaOf, replicaAt, replicasAt, noReplica}
+use Rattle.image.specs.Parts.{replicaF, replicaRead, replicaAt, replicasAt, noReplica}
 use Rattle.image.proofs.Images.{rows-start, rows-step, rows-full, map-items}
 use Rattle.image.proofs.replicas.replicas_at.Statement.{statement}
 use Rattle.image.proofs.replicas.replicas_at.Tie as tie
@@ -53,7 +53,7 @@ returns c =
     let l = (c .before .loop) in
     let a = (c .before .before .before .args) in
     let z : l .i ≡ 8 = omega arith in
-    l .inv .2 ∙ rows-full (replicaAt (a .s .now)) noReplica 16 8 (l .i) (a .at) z ∙ sym (map-items replicaOf 8 (value replicaF (a .s .now)) 16 (a .at))
+    l .inv .2 ∙ rows-full (replicaAt (a .s .now)) noReplica 16 8 (l .i) (a .at) z ∙ sym (map-items replicaRead 8 (value replicaF (a .s .now)) 16 (a .at))
 
 pub replicas-at-spec : {M : Type 1} → statement M
 replicas-at-spec = tie.close (tie.spec Inv-loop μ-loop loop-holds mul-replica-at add-replica-at replica-at-requires mul-out array-set-from-out add-i loop-less loop-again returns)

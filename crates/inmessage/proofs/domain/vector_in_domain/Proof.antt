@@ -6,7 +6,7 @@ use native.Mathlib.Omega.{arith}
 use lib.ListN.{drop}
 use Rattle.model.specs.Lists.{_and_, every}
 use Rattle.model.specs.Nearest.Order.{bitsInDomain}
-use Rattle.model.specs.Node.Wire.{vectorInDomain}
+use Rattle.model.specs.Node.Wire.{patternsInDomain}
 use Rattle.model.proofs.LayoutLaws.Tests.{and-true}
 use Rattle.inmessage.specs.Parts.{bitsIn}
 use Rattle.inmessage.proofs.InMessage.{bits-length, bits-within}
@@ -57,7 +57,7 @@ loop-again-2 c =
     (l .inv .0, omega arith, tested-out (bitsIn (a .s .now) (a .v)) (l .i) (l .ok) (bits-within (a .s .now) (a .v) (l .i) h) (bit-in (a .s .now) (a .v) (l .i) h _ _ (c .before .before .component .ensures) (c .before .bits-in-domain .ensures) ∙ c .if1 .left) (l .inv .2))
 
 returns : tie.Need-returns Inv-loop μ-loop
-unfolding vectorInDomain
+unfolding patternsInDomain
 returns c =
     let a = c .before .before .before .args in
     let l = c .before .loop in
