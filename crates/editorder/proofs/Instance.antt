@@ -20,7 +20,7 @@ use Rattle.shard.specs.View as view
 use Rattle.shard.specs.Table as table
 use Rattle.shard.specs.Store as store
 use Rattle.shard.specs.View.{columns}
-use Rattle.shard.specs.Store.{Store, lent, replicaIn}
+use Rattle.shard.specs.Store.{Store, Spares, lent, replicaIn}
 use Rattle.replica.specs.Fits as test
 use Rattle.replica.specs.Fits.{lentFits}
 use Rattle.replica.specs.Calls.{Calls, appendLent}
@@ -142,6 +142,17 @@ left-call-x : (m : Metric) → replicaIn 1 m after-x ≡ append (replicaIn 1 m b
 unfolding opened before after-x store.replicaIn view.logOf view.firsts view.entryOf view.opOf view.stretch table.rowsOf table.zipped table.vectorsOf table.vectorOf
 left-call-x m = refl
 
+spares-x : Spares before after-x
+unfolding opened before after-x view.writtenAll view.written
+spares-x = record {
+  entries = record { epoch = 1; code = 1; id = 3; bits = 1073741824 ∷ [] } ∷ [];
+  grown = refl;
+  columns = refl;
+  keys = refl;
+  places = refl;
+  same = λ e. absurd (omega (arith, e));
+}
+
 call-x : Appends x 1 before after-x (done 2 2)
 unfolding before
 call-x = record {
@@ -150,11 +161,23 @@ call-x = record {
       ∙ sym (there x 1 before (sets 3) edit-x before-fits (omega arith) m);
   kept = λ k. not-both false k refl;
   fits = λ _. after-x-fits;
+  spares = spares-x;
 }
 
 left-call-x-y : (m : Metric) → replicaIn 1 m after-x-y ≡ append (replicaIn 1 m after-x) (delete 5)
 unfolding opened after-x after-x-y store.replicaIn view.logOf view.firsts view.entryOf view.opOf view.stretch table.rowsOf table.zipped table.vectorsOf table.vectorOf
 left-call-x-y m = refl
+
+spares-x-y : Spares after-x after-x-y
+unfolding opened after-x after-x-y view.writtenAll view.written
+spares-x-y = record {
+  entries = record { epoch = 1; code = 2; id = 5; bits = [] } ∷ [];
+  grown = refl;
+  columns = refl;
+  keys = refl;
+  places = refl;
+  same = λ e. absurd (omega (arith, e));
+}
 
 call-x-y : Appends y 1 after-x after-x-y (done 3 1)
 unfolding after-x
@@ -164,11 +187,23 @@ call-x-y = record {
       ∙ sym (there y 1 after-x (delete 5) edit-y after-x-fits (omega arith) m);
   kept = λ k. not-both false k refl;
   fits = λ _. after-x-y-fits;
+  spares = spares-x-y;
 }
 
 left-call-y : (m : Metric) → replicaIn 1 m after-y ≡ append (replicaIn 1 m before) (delete 5)
 unfolding opened before after-y store.replicaIn view.logOf view.firsts view.entryOf view.opOf view.stretch table.rowsOf table.zipped table.vectorsOf table.vectorOf
 left-call-y m = refl
+
+spares-y : Spares before after-y
+unfolding opened before after-y view.writtenAll view.written
+spares-y = record {
+  entries = record { epoch = 1; code = 2; id = 5; bits = [] } ∷ [];
+  grown = refl;
+  columns = refl;
+  keys = refl;
+  places = refl;
+  same = λ e. absurd (omega (arith, e));
+}
 
 call-y : Appends y 1 before after-y (done 2 0)
 unfolding before
@@ -178,11 +213,23 @@ call-y = record {
       ∙ sym (there y 1 before (delete 5) edit-y before-fits (omega arith) m);
   kept = λ k. not-both false k refl;
   fits = λ _. after-y-fits;
+  spares = spares-y;
 }
 
 left-call-y-x : (m : Metric) → replicaIn 1 m after-y-x ≡ append (replicaIn 1 m after-y) (sets 3)
 unfolding opened after-y after-y-x store.replicaIn view.logOf view.firsts view.entryOf view.opOf view.stretch table.rowsOf table.zipped table.vectorsOf table.vectorOf
 left-call-y-x m = refl
+
+spares-y-x : Spares after-y after-y-x
+unfolding opened after-y after-y-x view.writtenAll view.written
+spares-y-x = record {
+  entries = record { epoch = 1; code = 1; id = 3; bits = 1073741824 ∷ [] } ∷ [];
+  grown = refl;
+  columns = refl;
+  keys = refl;
+  places = refl;
+  same = λ e. absurd (omega (arith, e));
+}
 
 call-y-x : Appends x 1 after-y after-y-x (done 3 1)
 unfolding after-y
@@ -192,11 +239,23 @@ call-y-x = record {
       ∙ sym (there x 1 after-y (sets 3) edit-x after-y-fits (omega arith) m);
   kept = λ k. not-both false k refl;
   fits = λ _. after-y-x-fits;
+  spares = spares-y-x;
 }
 
 left-call-z : (m : Metric) → replicaIn 1 m after-z ≡ append (replicaIn 1 m before) (sets 5)
 unfolding opened before after-z store.replicaIn view.logOf view.firsts view.entryOf view.opOf view.stretch table.rowsOf table.zipped table.vectorsOf table.vectorOf
 left-call-z m = refl
+
+spares-z : Spares before after-z
+unfolding opened before after-z view.writtenAll view.written
+spares-z = record {
+  entries = record { epoch = 1; code = 1; id = 5; bits = 1073741824 ∷ [] } ∷ [];
+  grown = refl;
+  columns = refl;
+  keys = refl;
+  places = refl;
+  same = λ e. absurd (omega (arith, e));
+}
 
 call-z : Appends z 1 before after-z (done 2 1)
 unfolding before
@@ -206,11 +265,23 @@ call-z = record {
       ∙ sym (there z 1 before (sets 5) edit-z before-fits (omega arith) m);
   kept = λ k. not-both false k refl;
   fits = λ _. after-z-fits;
+  spares = spares-z;
 }
 
 left-call-z-y : (m : Metric) → replicaIn 1 m after-z-y ≡ append (replicaIn 1 m after-z) (delete 5)
 unfolding opened after-z after-z-y store.replicaIn view.logOf view.firsts view.entryOf view.opOf view.stretch table.rowsOf table.zipped table.vectorsOf table.vectorOf
 left-call-z-y m = refl
+
+spares-z-y : Spares after-z after-z-y
+unfolding opened after-z after-z-y view.writtenAll view.written
+spares-z-y = record {
+  entries = record { epoch = 1; code = 2; id = 5; bits = [] } ∷ [];
+  grown = refl;
+  columns = refl;
+  keys = refl;
+  places = refl;
+  same = λ e. absurd (omega (arith, e));
+}
 
 call-z-y : Appends y 1 after-z after-z-y (done 3 0)
 unfolding after-z
@@ -220,6 +291,7 @@ call-z-y = record {
       ∙ sym (there y 1 after-z (delete 5) edit-y after-z-fits (omega arith) m);
   kept = λ k. not-both false k refl;
   fits = λ _. after-z-y-fits;
+  spares = spares-z-y;
 }
 
 turn-x-y : InTurn x y 1 before after-x-y
