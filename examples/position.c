@@ -40,12 +40,13 @@ static void begin(void)
 {
     static uint8_t starts[CATALOGUE_STARTS];
     uint8_t lists[CATALOGUE_LISTS], count[CATALOGUE_ANSWER];
+    struct catalogue_stamp first = {1, 1, 1}, second = {2, 1, 2};
     struct catalogue_message m;
     expect("catalogue_empty_map", catalogue_empty_map(LENT(map)));
-    catalogue_make_register(&m, (struct catalogue_stamp){1, 1, 1}, NODE, "projector", INCARNATION);
+    catalogue_make_register(&m, first, NODE, "projector", INCARNATION);
     apply(&m);
     expect("catalogue_place", catalogue_place(LENT(map), 1, 1, LENT(lists)));
-    catalogue_make_create(&m, (struct catalogue_stamp){2, 1, 2}, "stars", FLOATS, 0, 1, 1, lists);
+    catalogue_make_create(&m, second, "stars", FLOATS, 0, 1, 1, lists);
     apply(&m);
     expect("catalogue_fresh_node", catalogue_fresh_node(LENT(header), NODE, INCARNATION));
     expect("catalogue_show_map", catalogue_show_map(LENT(header), LENT(map), INCARNATION, LENT(starts), LENT(count)));
@@ -68,9 +69,8 @@ static const struct star stars[] = {{1, "Betelgeuse", 5, 55, 10305, 0, 7, 24, 25
 static void vector_of(const struct star *s, uint8_t vector[CATALOGUE_VECTOR])
 {
     uint8_t position[CATALOGUE_POSITION];
-    expect("catalogue_position",
-           catalogue_position(s->hours, s->minutes, s->thousandths, s->minus, s->degrees, s->arcminutes,
-                              s->arcthousandths, LENT(position)));
+    expect("catalogue_position", catalogue_position(s->hours, s->minutes, s->thousandths, s->minus, s->degrees,
+                                                    s->arcminutes, s->arcthousandths, LENT(position)));
     int64_t ra = catalogue_i64(position), dec = catalogue_i64(position + 8);
     printf("%s is typed: %" PRId64 " and %" PRId64 " milliarcseconds\n", s->name, ra, dec);
     expect("catalogue_position_vector", catalogue_position_vector(ra, dec, vector, CATALOGUE_VECTOR));
@@ -85,7 +85,8 @@ static void put_bytes(struct catalogue_message *m, const uint8_t *bytes, size_t 
 static void write_star(const struct star *s)
 {
     uint8_t vector[CATALOGUE_VECTOR], offset[CATALOGUE_ANSWER];
-    struct catalogue_message m = {.len = 0};
+    struct catalogue_message m;
+    m.len = 0;
     vector_of(s, vector);
     catalogue_put(&m, 0x23, 1);
     catalogue_put_key(&m, key);
@@ -103,7 +104,8 @@ static void write_star(const struct star *s)
 static uint64_t nearest(const struct star *s)
 {
     uint8_t vector[CATALOGUE_VECTOR], hits[NEAREST * CATALOGUE_HIT], count[CATALOGUE_ANSWER];
-    struct catalogue_message m = {.len = 0};
+    struct catalogue_message m;
+    m.len = 0;
     vector_of(s, vector);
     catalogue_put(&m, 0x24, 1);
     catalogue_put_key(&m, key);
@@ -119,7 +121,8 @@ static uint64_t nearest(const struct star *s)
     return catalogue_u64(hits);
 }
 
-/* A stored entry's floats are its milliarcseconds: a thousand times the first and the second, and so with the others. */
+/* A stored entry's floats are its milliarcseconds: a thousand times the first and the second, and so with the others.
+ */
 static int64_t milliarcseconds(const uint8_t *floats)
 {
     return 1000 * (int64_t)catalogue_float_of(catalogue_u32(floats)) +
@@ -130,8 +133,8 @@ static void show_stored(uint64_t entry, const struct star *typed)
 {
     uint8_t fields[CATALOGUE_FIELDS];
     const uint8_t *floats = stores + CATALOGUE_STORE_PATTERNS + 4 * CATALOGUE_FLOATS_MOST * entry;
-    expect("catalogue_position_fields", catalogue_position_fields(milliarcseconds(floats),
-                                                                  milliarcseconds(floats + 8), LENT(fields)));
+    expect("catalogue_position_fields",
+           catalogue_position_fields(milliarcseconds(floats), milliarcseconds(floats + 8), LENT(fields)));
     uint32_t f[7];
     for (int i = 0; i < 7; i++)
         f[i] = catalogue_u32(fields + 4 * i);

@@ -36,7 +36,7 @@ done
 
 echo "-- symbols"
 # What the libraries define for others, and what the header declares, are one list.
-sed -n 's/.*\(catalogue_[a-z0-9_]*\)(.*/\1/p' "$tree/include/catalogue.h" | grep -v '^catalogue_u' | sort -u >"$scratch/declared"
+sed -n 's/.*\(catalogue_[a-z0-9_]*\)(.*/\1/p' "$tree/include/catalogue.h" | grep -v '^catalogue_[iu][0-9]' | sort -u >"$scratch/declared"
 for library in libcatalogue.so libcatalogue.a; do
     case $library in *.so) table=-D ;; *) table=-g ;; esac
     nm $table --defined-only "$tree/lib/$library" | awk 'NF == 3 { print $3 }' | sort >"$scratch/defined"
