@@ -244,14 +244,14 @@ uint32_t catalogue_outcome(uint8_t *header, size_t header_len, const uint8_t *na
 uint32_t catalogue_position(uint32_t hours, uint32_t minutes, uint32_t thousandths, uint32_t minus, uint32_t degrees,
                             uint32_t arcminutes, uint32_t arcthousandths, uint8_t *position, size_t position_len);
 
-/* And back. 0: CATALOGUE_FIELDS bytes stand in `fields`, in the order above; zero has a plus. 30 a right ascension below
- * 0 or above 1,295,999,985 or a declination beyond 324,000,000 either way; then 31 a right ascension that is no multiple
- * of 15; 23. */
+/* And back. 0: CATALOGUE_FIELDS bytes stand in `fields`, in the order above; zero has a plus. 30 a right ascension
+ * below 0 or above 1,295,999,985 or a declination beyond 324,000,000 either way; then 31 a right ascension that is no
+ * multiple of 15; 23. */
 uint32_t catalogue_position_fields(int64_t ra, int64_t dec, uint8_t *fields, size_t fields_len);
 
-/* The vector of a position, for a Write or a Search. 0: CATALOGUE_VECTOR bytes stand in `vector`: right ascension's whole
- * arcseconds and left-over thousandths, then declination's, which both carry its sign, all exact; a zero is plus zero.
- * 30 as above; 23. A search measures these floats as they are: nothing wraps around at 24 hours, and a thousandth
+/* The vector of a position, for a Write or a Search. 0: CATALOGUE_VECTOR bytes stand in `vector`: right ascension's
+ * whole arcseconds and left-over thousandths, then declination's, which both carry its sign, all exact; a zero is plus
+ * zero. 30 as above; 23. A search measures these floats as they are: nothing wraps around at 24 hours, and a thousandth
  * counts as much as an arcsecond. */
 uint32_t catalogue_position_vector(int64_t ra, int64_t dec, uint8_t *vector, size_t vector_len);
 

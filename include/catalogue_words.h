@@ -1,7 +1,7 @@
 /* What the engine's numbers mean, in words, for a host's log or screen.
  *
- * Refusals, 17 to 26 and 30, 31, mean the same in every call; rejections, 1 to 16, are catalogue_apply's. Other answers are a
- * call's own and stand at the call in catalogue.h. Each function answers NULL for a number that is not its own.
+ * Refusals, 17 to 26 and 30, 31, mean the same in every call; rejections, 1 to 16, are catalogue_apply's. Other answers
+ * are a call's own and stand at the call in catalogue.h. Each function answers NULL for a number that is not its own.
  */
 #ifndef CATALOGUE_WORDS_H
 #define CATALOGUE_WORDS_H
