@@ -1,0 +1,7 @@
+pub mod OfNode
+pub mod OfSearch
+pub mod OfWrites
+pub mod Order
+pub mod Calls
+pub mod Instance
+pub mod Searched
