@@ -10,7 +10,7 @@ use Rattle.model.specs.Map.Tables.{ShardInfo}
 use Rattle.model.specs.Map.Change.{promote, decideChange, rejects}
 use Rattle.model.specs.Node.Client.{waitRow}
 use Rattle.model.specs.Node.Ack.{joins}
-use Rattle.model.specs.Node.Worker.{olderAsCopy, copies}
+use Rattle.model.specs.Node.Worker.{copies}
 use Rattle.model.specs.declared.Peer.{Peer}
 use Rattle.model.proofs.Opened.{opened}
 
@@ -48,6 +48,14 @@ pub behind-waits : joins 3 2 false (peer false) ≡ false
 unfolding opened
 behind-waits = refl
 
-pub older-goes-whole : copies olderAsCopy 2 1 ≡ true
+pub older-goes-whole : copies 2 1 ≡ true
 unfolding opened
 older-goes-whole = refl
+
+pub newer-goes-whole : copies 2 3 ≡ true
+unfolding opened
+newer-goes-whole = refl
+
+pub own-goes-alone : copies 2 2 ≡ false
+unfolding opened
+own-goes-alone = refl

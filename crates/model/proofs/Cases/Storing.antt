@@ -2,6 +2,7 @@
 use mathlib.Core.Path.{_≡_, refl}
 use mathlib.Core.Bool.{false}
 use mathlib.Core.List.{[], _∷_, map}
+use mathlib.Core.Option.{some}
 use lib.ListN.{length}
 use Rattle.model.specs.Refusals.{noRoom, undecodable}
 use Rattle.model.specs.Log.{delete, emptyReplica, promote}
@@ -11,14 +12,14 @@ use Rattle.model.specs.Node.Shards.{gives}
 use Rattle.model.specs.Node.Lease.{granted, grantRefused}
 use Rattle.model.specs.Node.Client.{searchRefused}
 use Rattle.model.specs.Node.Backup.{replied, replicateHeld, copyHeld, newEpochHeld, onReplicate, onCopy}
-use Rattle.model.specs.Node.Worker.{requestHeld}
+use Rattle.model.specs.Node.Worker.{send, requestHeld}
 use Rattle.model.specs.Node.Shown.{shownRefused, onMap}
 use Rattle.model.specs.Node.Calls.{callSearch, callGrant}
 use Rattle.model.specs.Starred.{backupAt}
 use Rattle.model.specs.declared.Metric.the-variants.{Angular}
 use Rattle.model.specs.Cases.Commands.{id, part}
 use Rattle.model.specs.Cases.Serving.{primary}
-use Rattle.model.specs.Cases.Storing.{storing, copying, second, sending, asking, listing, newcomer, working}
+use Rattle.model.specs.Cases.Storing.{storing, copying, second, sending, ahead, newer, asking, listing, newcomer, working}
 use Rattle.model.proofs.Opened.{opened}
 
 pub storing-holds :
@@ -55,9 +56,13 @@ pub gives-way : newEpochHeld 4 0 [] primary .answer ≡ replied (replyAdopted 0)
 unfolding opened
 gives-way = refl
 
-pub sending-holds : map (λ r. requestHeld (r .form) 3 Angular primary (r .step)) sending ≡ map (λ r. r .message) sending
+pub sending-holds : map (λ r. requestHeld 3 Angular primary (r .step)) sending ≡ map (λ r. r .message) sending
 unfolding opened
 sending-holds = refl
+
+pub newer-goes-whole : requestHeld 3 Angular ahead (send 1 1 4) ≡ some newer
+unfolding opened
+newer-goes-whole = refl
 
 pub asking-holds : map (λ r. callSearch (r .node) (r .now) 9 (r .bytes) .answer) asking ≡ map (λ r. searchRefused (r .refusal)) asking
 unfolding opened

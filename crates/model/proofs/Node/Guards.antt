@@ -1,19 +1,19 @@
 -- What stands between a write and its loss: each of these, taken away, loses an acknowledged write in some run (docs/LOST-WRITES.md).
 -- Assumes nothing.
 use Prim.Native.Nat.{ℕ, _≤_, _<_}
-use mathlib.Core.Path.{_≡_, refl}
+use mathlib.Core.Path.{_≡_, refl, ap}
 use mathlib.Core.Bool.{Bool, true, false, not}
-use borrow.Author.Tests.{lt-ltb, leb-true}
+use borrow.Author.Tests.{ne-eqb, leb-true}
 use Rattle.model.specs.Lists.{_and_}
 use Rattle.model.specs.Node.Client.{lacks, waitRow}
-use Rattle.model.specs.Node.Worker.{olderAsCopy, copies}
+use Rattle.model.specs.Node.Worker.{copies}
 use Rattle.model.specs.Node.Ack.{ackedThrough, caughtUp, joins, settledRow}
 use Rattle.model.specs.declared.Peer.{Peer}
 use Rattle.model.proofs.Lists.{by-test, and-left}
 
--- 'Rules of a run': a lone entry with an epoch below the primary's goes as CopyShard
-pub older-copies : (epoch own : ℕ) → own < epoch → copies olderAsCopy epoch own ≡ true
-older-copies epoch own h = lt-ltb own epoch h
+-- request 2.5: a lone entry of another epoch than the primary's goes as CopyShard, which keeps its epoch
+pub other-copies : (epoch own : ℕ) → (own ≡ epoch → ⊥) → copies epoch own ≡ true
+other-copies epoch own h = ap not (ne-eqb own epoch h)
 
 -- node.rs, check_acks: a wait takes nobody out of the ack set, whatever it proposes
 pub wait-leaves-members : (last now timeout : ℕ) (p : Peer) → waitRow last now timeout p .member ≡ p .member

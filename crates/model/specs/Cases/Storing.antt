@@ -9,9 +9,9 @@ use Rattle.model.specs.Log.{Entry, delete}
 use Rattle.model.specs.Map.Tables.{Map}
 use Rattle.model.specs.Layout.Parts.{wireDelete}
 use Rattle.model.specs.Layout.Message.{Reply, replyStored, replyGap, replyStale, encodeSearch}
-use Rattle.model.specs.Node.Held.{Node, emptyNode}
-use Rattle.model.specs.Node.Worker.{Step, stop, wait, align, send, Form, asReplicate, olderAsCopy, Message, newEpochMessage, replicateMessage, copyMessage}
-use Rattle.model.specs.Starred.{upTo}
+use Rattle.model.specs.Node.Held.{Held, Node, emptyNode}
+use Rattle.model.specs.Node.Worker.{Step, stop, wait, align, send, Message, newEpochMessage, replicateMessage, copyMessage}
+use Rattle.model.specs.Starred.{entriesOf, upTo}
 use Rattle.model.specs.declared.DataNodeId.{DataNodeId}
 use Rattle.model.specs.declared.Metric.the-variants.{Angular}
 use Rattle.model.specs.declared.Role.the-variants.{Primary}
@@ -71,28 +71,26 @@ second o = record { epoch = 2; offset = o; op = delete 0 }
 
 -- ---- what the primary of Serving sends
 
--- the form, the step, and the request
+-- the step, and the request
 pub record SendRow : Type 0 where
-  pub form : Form
   pub step : Step
   pub message : Option Message
 
 -- a row
-abbrev pub sends : Form → Step → Option Message → SendRow
-sends f s m = record { form = f; step = s; message = m }
+abbrev pub sends : Step → Option Message → SendRow
+sends s m = record { step = s; message = m }
 
--- an alignment tells the log that the epoch began with; a lone entry goes as Replicate under the primary's epoch, one of an older epoch as
--- CopyShard where that form is chosen; entries keep their own epochs in a CopyShard
+-- an alignment tells the log that the epoch began with; a lone entry of the primary's epoch goes as Replicate, one of an older epoch as
+-- CopyShard, and so do several; entries keep their own epochs in a CopyShard
 abbrev pub sending : List SendRow
 sending =
-    sends olderAsCopy stop none
-    ∷ sends olderAsCopy wait none
-    ∷ sends olderAsCopy align (some (newEpochMessage (record { key = part 0; epoch = 3; end = 2; table = upTo 1 2 ∷ []; metric = Angular })))
-    ∷ sends olderAsCopy (send 3 1 3) (some (replicateMessage (record { key = part 0; epoch = 3; offset = 3; op = wireDelete 3 })))
-    ∷ sends asReplicate (send 2 1 1) (some (replicateMessage (record { key = part 0; epoch = 3; offset = 2; op = wireDelete 2 })))
-    ∷ sends olderAsCopy (send 2 1 1)
+    sends stop none
+    ∷ sends wait none
+    ∷ sends align (some (newEpochMessage (record { key = part 0; epoch = 3; end = 2; table = upTo 1 2 ∷ []; metric = Angular })))
+    ∷ sends (send 3 1 3) (some (replicateMessage (record { key = part 0; epoch = 3; offset = 3; op = wireDelete 3 })))
+    ∷ sends (send 2 1 1)
     (some (copyMessage (record { key = part 0; epoch = 3; entries = record { epoch = 1; offset = 2; op = wireDelete 2 } ∷ [] })))
-    ∷ sends asReplicate (send 2 2 1)
+    ∷ sends (send 2 2 1)
     (some
     (copyMessage
     (record {
@@ -101,6 +99,21 @@ sending =
       entries = record { epoch = 1; offset = 2; op = wireDelete 2 } ∷ record { epoch = 3; offset = 3; op = wireDelete 3 } ∷ [];
     })))
     ∷ []
+
+-- a primary at epoch 3 whose log has an entry of epoch 4: a lent state that no run reaches
+abbrev pub ahead : Held
+ahead = record {
+  key = part 0;
+  replica = record { epoch = 3; metric = Angular; log = entriesOf 1 (4 ∷ []); vectors = [] };
+  holders = on 1 1 ∷ on 2 1 ∷ [];
+  role = Primary (record { 0 = 3 }) (record { 0 = 1 });
+  own = true;
+  peers = [];
+}
+
+-- its lone entry keeps its epoch too
+abbrev pub newer : Message
+newer = copyMessage (record { key = part 0; epoch = 3; entries = record { epoch = 4; offset = 1; op = wireDelete 1 } ∷ [] })
 
 -- ---- 21, then 22, then 24, before the call's own list
 

@@ -23,7 +23,7 @@ use Rattle.model.specs.Node.Wire.{patternsInDomain, opInDomain, entryInD
 use Rattle.model.specs.Node.Lease.{GrantAnswer, granted, grantRefused, grant}
 use Rattle.model.specs.Node.Client.{WriteAnswer, writeRefused, onWrite, SearchAnswer, searchRefused, onSearch, WaitAnswer, waitRefused, onWait}
 use Rattle.model.specs.Node.Backup.{BackupAnswer, backupRefused, onReplicate, onNewEpoch, onCopy}
-use Rattle.model.specs.Node.Worker.{Step, onStep, Form, Message, messageBytes, onRequest}
+use Rattle.model.specs.Node.Worker.{Step, onStep, Message, messageBytes, onRequest}
 use Rattle.model.specs.Node.Ack.{AckAnswer, ackRefused, Sent, badReply, onAck, OutcomeAnswer, outcomeRefused, Proposal, onOutcome}
 use Rattle.model.specs.Node.Shown.{ShownAnswer, shownRefused, onMap}
 use Rattle.model.specs.Node.WellFormed.{wellFormedHeader, wellFormedLent}
@@ -175,17 +175,17 @@ writtenIn room none = unsent
 writtenIn room (some m) = cond (ltb room (length (messageBytes m))) (requestRefused noRoom) (written (messageBytes m))
 
 -- 'Rules of a run', Messages: the request that the worker's step puts under way
-unfoldable pub requestOf : Node → Key → (epoch peer : ℕ) → Metric → Form → Option Message
-requestOf n k epoch peer metric form = onRequest n k epoch metric form (onStep n k epoch peer)
+unfoldable pub requestOf : Node → Key → (epoch peer : ℕ) → Metric → Option Message
+requestOf n k epoch peer metric = onRequest n k epoch metric (onStep n k epoch peer)
 
 -- 24, then the request, then 23
-unfoldable pub requestWith : (Key → Bool) → Node → (room : ℕ) → Key → (epoch peer : ℕ) → Metric → Form → RequestAnswer
-requestWith lent n room k epoch peer metric form =
-    cond (not (lent k)) (requestRefused malformed) (writtenIn room (requestOf n k epoch peer metric form))
+unfoldable pub requestWith : (Key → Bool) → Node → (room : ℕ) → Key → (epoch peer : ℕ) → Metric → RequestAnswer
+requestWith lent n room k epoch peer metric =
+    cond (not (lent k)) (requestRefused malformed) (writtenIn room (requestOf n k epoch peer metric))
 
 -- the request of a step, where nothing but the node is lent
-unfoldable pub callRequest : Node → (room : ℕ) → Key → (epoch peer : ℕ) → Metric → Form → RequestAnswer
-callRequest n room k epoch peer metric form = requestWith (wellFormedLent n) n room k epoch peer metric form
+unfoldable pub callRequest : Node → (room : ℕ) → Key → (epoch peer : ℕ) → Metric → RequestAnswer
+callRequest n room k epoch peer metric = requestWith (wellFormedLent n) n room k epoch peer metric
 
 -- ---- ack, outcome of a proposal
 

@@ -4,7 +4,7 @@ use Prim.Native.Nat.{ℕ, _+_}
 use mathlib.Core.Bool.{Bool, true, false, cond, not}
 use mathlib.Core.List.{List, [], _∷_, map}
 use mathlib.Core.Option.{Option, none, some}
-use lib.Dec.{eqb, ltb}
+use lib.Dec.{eqb}
 use lib.ListN.{length, take}
 use Rattle.model.specs.Lists.{_or_, any, find}
 use Rattle.model.specs.Limits.{maxBatch}
@@ -57,11 +57,6 @@ onStep n k epoch peer = stepAt epoch peer (heldShard n k)
 
 -- ---- the request of a step
 
--- how a lone entry goes. 'The node': as Replicate. 'Rules of a run': as CopyShard where its epoch is below the primary's
-pub data Form : Type 0 where
-  asReplicate : Form
-  olderAsCopy : Form
-
 -- the requests 20, 21 and 22
 pub data Message : Type 0 where
   newEpochMessage : NewEpoch → Message
@@ -85,10 +80,9 @@ alignment h epoch metric =
     let end = endOffset (h .role) in
     record { key = h .key; epoch = epoch; end = end; table = epochEnds (take end (h .replica .log)); metric = metric }
 
--- whether an entry alone goes as CopyShard
-abbrev pub copies : Form → (epoch given : ℕ) → Bool
-copies asReplicate epoch e = false
-copies olderAsCopy epoch e = ltb e epoch
+-- request 2.5: an entry alone goes as CopyShard where its epoch differs from the primary's, and as Replicate otherwise
+abbrev pub copies : (epoch given : ℕ) → Bool
+copies epoch e = not (eqb e epoch)
 
 -- 22: the entries as CopyShard
 abbrev pub copyOf : Key → (epoch : ℕ) → Log → Message
@@ -98,25 +92,25 @@ copyOf k epoch es = copyMessage (record { key = k; epoch = epoch; entries = map 
 abbrev pub loneOf : Key → (epoch : ℕ) → Entry → Message
 loneOf k epoch e = replicateMessage (record { key = k; epoch = epoch; offset = e .offset; op = wireOp (e .op) })
 
--- node.rs, replicate_to: one entry goes as Replicate, several as CopyShard
-unfoldable pub sending : Form → Key → (epoch : ℕ) → Log → Option Message
-sending form k epoch [] = none
-sending form k epoch (e ∷ []) = some (cond (copies form epoch (e .epoch)) (copyOf k epoch (e ∷ [])) (loneOf k epoch e))
-sending form k epoch (e ∷ d ∷ es) = some (copyOf k epoch (e ∷ d ∷ es))
+-- node.rs, replicate_to: one entry goes as Replicate if it is of the primary's epoch; any others as CopyShard
+unfoldable pub sending : Key → (epoch : ℕ) → Log → Option Message
+sending k epoch [] = none
+sending k epoch (e ∷ []) = some (cond (copies epoch (e .epoch)) (copyOf k epoch (e ∷ [])) (loneOf k epoch e))
+sending k epoch (e ∷ d ∷ es) = some (copyOf k epoch (e ∷ d ∷ es))
 
 -- node.rs, replicate_to: the request of a step, at the shard; Stop and Wait have none
-unfoldable pub requestHeld : Form → (epoch : ℕ) → Metric → Held → Step → Option Message
-requestHeld form epoch metric h stop = none
-requestHeld form epoch metric h wait = none
-requestHeld form epoch metric h align = some (newEpochMessage (alignment h epoch metric))
-requestHeld form epoch metric h (send first count e) =
-    sending form (h .key) epoch (entriesFrom (h .replica .log) first count)
+unfoldable pub requestHeld : (epoch : ℕ) → Metric → Held → Step → Option Message
+requestHeld epoch metric h stop = none
+requestHeld epoch metric h wait = none
+requestHeld epoch metric h align = some (newEpochMessage (alignment h epoch metric))
+requestHeld epoch metric h (send first count e) =
+    sending (h .key) epoch (entriesFrom (h .replica .log) first count)
 
 -- no request without the shard
-abbrev pub requestAt : Form → (epoch : ℕ) → Metric → Step → Option Held → Option Message
-requestAt form epoch metric step none = none
-requestAt form epoch metric step (some h) = requestHeld form epoch metric h step
+abbrev pub requestAt : (epoch : ℕ) → Metric → Step → Option Held → Option Message
+requestAt epoch metric step none = none
+requestAt epoch metric step (some h) = requestHeld epoch metric h step
 
 -- the request of a step that the node answered
-unfoldable pub onRequest : Node → Key → (epoch : ℕ) → Metric → Form → Step → Option Message
-onRequest n k epoch metric form step = requestAt form epoch metric step (heldShard n k)
+unfoldable pub onRequest : Node → Key → (epoch : ℕ) → Metric → Step → Option Message
+onRequest n k epoch metric step = requestAt epoch metric step (heldShard n k)
