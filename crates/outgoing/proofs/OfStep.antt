@@ -12,7 +12,7 @@ use Rattle.model.specs.Keys.{Key}
 use Rattle.model.specs.Log.{Entry, Log, entriesFrom, epochEnds}
 use Rattle.model.specs.Node.Held as held
 use Rattle.model.specs.Node.Shards.{heldShard, leadsAt, ofNode, onNode}
-use Rattle.model.specs.Node.Worker.{Step, stop, wait, align, send, sendOf, stepRow, stepHeld, onStep, Form, Message, newEpochMessage, copies, copyOf, loneOf, endOffset, alignment, sending, requestHeld, onRequest}
+use Rattle.model.specs.Node.Worker.{Step, stop, wait, align, send, sendOf, stepRow, stepHeld, onStep, Message, newEpochMessage, copies, copyOf, loneOf, endOffset, alignment, sending, requestHeld, onRequest}
 use Rattle.model.specs.Node.Calls.{requestOf}
 use Rattle.model.specs.declared.Metric.{Metric}
 use Rattle.model.specs.declared.Peer.{Peer}
@@ -26,10 +26,10 @@ abbrev pub Word : Type 0
 Word = words.Step
 
 -- of a node that holds the shard, the request is the shard's
-pub request-of : (n : held.Node) (k : Key) (h : held.Held) (epoch peer : ℕ) (metric : Metric) (form : Form) → heldShard n k ≡ some h
-    → requestOf n k epoch peer metric form ≡ requestOn form epoch peer metric h
+pub request-of : (n : held.Node) (k : Key) (h : held.Held) (epoch peer : ℕ) (metric : Metric) → heldShard n k ≡ some h
+    → requestOf n k epoch peer metric ≡ requestOn epoch peer metric h
 unfolding requestOf onRequest onStep requestOn
-request-of n k h epoch peer metric form e = rw e
+request-of n k h epoch peer metric e = rw e
 
 -- ---- what is sent lies in the log
 
@@ -68,21 +68,21 @@ of-step epoch peer h =
 
 -- ---- the request by the step's word: the first entry's epoch is not asked for
 
-module _ (form : Form) (epoch peer : ℕ) (metric : Metric) (h : held.Held) where
+module _ (epoch peer : ℕ) (metric : Metric) (h : held.Held) where
   abbrev pub byWord : Word → Option Message
   byWord S.Stop = none
   byWord S.Wait = none
   byWord S.Align = some (newEpochMessage (alignment h epoch metric))
-  byWord (S.Send first n) = sending form (h .key) epoch (entriesFrom (h .replica .log) first n)
+  byWord (S.Send first n) = sending (h .key) epoch (entriesFrom (h .replica .log) first n)
 
-  by-word : (s : Step) → requestHeld form epoch metric h s ≡ byWord (stepWord s)
+  by-word : (s : Step) → requestHeld epoch metric h s ≡ byWord (stepWord s)
   unfolding requestHeld
   by-word stop = refl
   by-word wait = refl
   by-word align = refl
   by-word (send first n e) = refl
 
-  pub request-by : (w : Word) → w ≡ stepWord (stepHeld epoch peer h) → requestOn form epoch peer metric h ≡ byWord w
+  pub request-by : (w : Word) → w ≡ stepWord (stepHeld epoch peer h) → requestOn epoch peer metric h ≡ byWord w
   unfolding requestOn
   request-by w e = by-word (stepHeld epoch peer h) ∙ ap byWord (sym e)
 
@@ -100,16 +100,16 @@ align-at h epoch metric end e =
 
 -- ---- one entry, or several
 
-module _ (form : Form) (k : Key) (epoch : ℕ) where
-  pub send-copy : (e : Entry) → copies form epoch (e .epoch) ≡ true → sending form k epoch (e ∷ []) ≡ some (copyOf k epoch (e ∷ []))
+module _ (k : Key) (epoch : ℕ) where
+  pub send-copy : (e : Entry) → copies epoch (e .epoch) ≡ true → sending k epoch (e ∷ []) ≡ some (copyOf k epoch (e ∷ []))
   unfolding sending
   send-copy e t = rw t
 
-  pub send-lone : (e : Entry) → copies form epoch (e .epoch) ≡ false → sending form k epoch (e ∷ []) ≡ some (loneOf k epoch e)
+  pub send-lone : (e : Entry) → copies epoch (e .epoch) ≡ false → sending k epoch (e ∷ []) ≡ some (loneOf k epoch e)
   unfolding sending
   send-lone e t = rw t
 
-  pub send-many : (es : Log) → 2 ≤ length es → sending form k epoch es ≡ some (copyOf k epoch es)
+  pub send-many : (es : Log) → 2 ≤ length es → sending k epoch es ≡ some (copyOf k epoch es)
   unfolding sending
   send-many [] h = absurd (omega arith)
   send-many (e ∷ []) h = absurd (omega arith)

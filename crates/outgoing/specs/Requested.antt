@@ -13,8 +13,6 @@ use Rattle.model.specs.Node.Calls as calls
 use Rattle.model.specs.declared.Metric.{Metric}
 use Rattle.outgoing.specs.declared.Request.{Request}
 use Rattle.outgoing.specs.declared.Request.the-variants as R
-use Rattle.outgoing.specs.declared.Form.{Form}
-use Rattle.outgoing.specs.declared.Form.the-variants as F
 pub use Rattle.sententries.specs.Sent.{keyNamed}
 
 -- the answer by its words: how many bytes, or the refusal's number
@@ -34,11 +32,6 @@ pub record Requested (m : Option worker.Message) (before after : List ℕ) (r : 
   pub answer : r ≡ answerOf (calls.writtenIn (length before) m)
   pub bytes : after ≡ leftOf (calls.writtenIn (length before) m) before
 
--- how a lone entry goes
-abbrev pub formOf : Form → worker.Form
-formOf F.Replicate = worker.asReplicate
-formOf F.OlderAsCopy = worker.olderAsCopy
-
 -- 'The node', 'Rules of a run', Messages: the request of the worker's step at a shard
-unfoldable pub requestOn : worker.Form → (epoch peer : ℕ) → Metric → held.Held → Option worker.Message
-requestOn form epoch peer metric h = worker.requestHeld form epoch metric h (worker.stepHeld epoch peer h)
+unfoldable pub requestOn : (epoch peer : ℕ) → Metric → held.Held → Option worker.Message
+requestOn epoch peer metric h = worker.requestHeld epoch metric h (worker.stepHeld epoch peer h)

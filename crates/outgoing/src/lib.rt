@@ -13,9 +13,3 @@ pub enum Request {
     Written(usize),
     Refused(u8),
 }
-
-// How a lone entry goes: as Replicate ('The node'), or as CopyShard where its epoch is below the primary's ('Rules of a run').
-pub enum Form {
-    Replicate,
-    OlderAsCopy,
-}

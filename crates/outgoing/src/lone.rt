@@ -6,8 +6,7 @@ ghost use lib.ListN.{length};
 ghost use Rattle.model.specs.Node.Worker as worker;
 ghost use Rattle.shard.specs.View.{columns, entryOf};
 ghost use Rattle.outgoing.specs.Sent.{Sendable};
-ghost use Rattle.outgoing.specs.Requested.{formOf, keyNamed, Requested};
-use crate::Form;
+ghost use Rattle.outgoing.specs.Requested.{keyNamed, Requested};
 use crate::Request;
 use model::Epoch;
 use model::Offset;
@@ -15,14 +14,11 @@ use rpcw::fit::op_size;
 use rpcw::put::put_head;
 use sententries::entry::put_stored;
 
-// Internal: whether a lone entry of the epoch `own` goes as CopyShard.
-pub fn goes_as_copy(form: Form, own: Epoch, epoch: Epoch) -> bool
-    ensures { λ r. ⌜ r ≡ worker.copies (formOf form) (epoch .0) (own .0) ⌝ }
+// Internal: whether a lone entry of the epoch `own` goes as CopyShard, which keeps that epoch.
+pub fn goes_as_copy(own: Epoch, epoch: Epoch) -> bool
+    ensures { λ r. ⌜ r ≡ worker.copies (epoch .0) (own .0) ⌝ }
 {
-    match form {
-        Form::Replicate => false,
-        Form::OlderAsCopy => own.0 < epoch.0,
-    }
+    own.0 != epoch.0
 }
 
 // Internal: 20 with the entry at place i; its own epoch is not sent.

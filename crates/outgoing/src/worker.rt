@@ -10,8 +10,7 @@ ghost use Rattle.shard.specs.View.{columns, logOf};
 ghost use Rattle.shard.specs.Store.{lent, Sized, wellFormedStore};
 ghost use Rattle.writes.specs.Writes.{viewStored};
 ghost use Rattle.outgoing.specs.Sent.{Sendable};
-ghost use Rattle.outgoing.specs.Requested.{formOf, keyNamed, requestOn, Requested};
-use crate::Form;
+ghost use Rattle.outgoing.specs.Requested.{keyNamed, requestOn, Requested};
 use crate::Request;
 use crate::align::write_align;
 use crate::entries::entries_from;
@@ -36,13 +35,12 @@ pub fn end_of(role: Role) -> Offset
     }
 }
 
-// Internal: the n entries from an offset on: one as Replicate, or as CopyShard where the form says so; several as CopyShard.
+// Internal: the n entries from an offset on: one of the primary's epoch as Replicate, one of another epoch and several as CopyShard.
 fn write_send(
     out: &mut [u8],
     name: &[u8],
     shard: u32,
     epoch: Epoch,
-    form: Form,
     epochs: &[u64],
     offsets: &[u64],
     ids: &[u64],
@@ -55,19 +53,18 @@ fn write_send(
 ) -> Request
     requires { ⌜ (Sendable (columns (now epochs) (now offsets) (now ids) (now codes) (now lengths) (now floats)) count)
         × (1 ≤ first .0) × (1 ≤ n) × (n ≤ 256) × (first .0 + n ≤ count + 1) × (length (now name) ≤ 32) ⌝ }
-    ensures { λ r. ⌜ Requested (worker.sending (formOf form) (keyNamed (now (name .entry)) shard) (epoch .0) (entriesFrom (logOf (columns (now (epochs .entry)) (now (offsets .entry)) (now (ids .entry)) (now (codes .entry)) (now (lengths .entry)) (now (floats .entry))) count) (first .0) n))
+    ensures { λ r. ⌜ Requested (worker.sending (keyNamed (now (name .entry)) shard) (epoch .0) (entriesFrom (logOf (columns (now (epochs .entry)) (now (offsets .entry)) (now (ids .entry)) (now (codes .entry)) (now (lengths .entry)) (now (floats .entry))) count) (first .0) n))
         (now (out .entry)) (now (out .exit)) r ⌝ }
 {
     if n == 1 {
         let i = (first.0 - 1) as usize;
         let own = Epoch(epochs[i]);
-        if !goes_as_copy(form, own, epoch) {
-            let under = epoch;
+        if !goes_as_copy(own, epoch) {
             return write_lone(
                 out,
                 name,
                 shard,
-                under,
+                epoch,
                 epochs,
                 offsets,
                 ids,
@@ -128,13 +125,12 @@ pub fn request(
     epoch: Epoch,
     peer: DataNodeId,
     metric: Metric,
-    form: Form,
     out: &mut [u8],
 ) -> Request
     requires { ⌜ (formedHeld h ≡ true) × (length (now name) ≤ 32)
         × (Sized (lent (columns (now epochs) (now offsets) (now ids) (now codes) (now lengths) (now floats)) (now keys) (now places) (h .last) stored))
         × (wellFormedStore (lent (columns (now epochs) (now offsets) (now ids) (now codes) (now lengths) (now floats)) (now keys) (now places) (h .last) stored) ≡ true) ⌝ }
-    ensures { λ r. ⌜ Requested (requestOn (formOf form) (epoch .0) (peer .0) metric (viewStored (keyNamed (now (name .entry)) shard) h
+    ensures { λ r. ⌜ Requested (requestOn (epoch .0) (peer .0) metric (viewStored (keyNamed (now (name .entry)) shard) h
         (lent (columns (now (epochs .entry)) (now (offsets .entry)) (now (ids .entry)) (now (codes .entry)) (now (lengths .entry)) (now (floats .entry))) (now (keys .entry)) (now (places .entry)) (h .last) stored)))
         (now (out .entry)) (now (out .exit)) r ⌝ }
 {
@@ -154,7 +150,6 @@ pub fn request(
                 name,
                 shard,
                 epoch,
-                form,
                 epochs,
                 offsets,
                 ids,

@@ -11,7 +11,7 @@ use Rattle.shard.specs.Store.{lent, Store, storeLog}
 use Rattle.shard.proofs.Columns.{log-length}
 use Rattle.shard.proofs.Facts.{facts}
 use Rattle.writes.specs.Writes.{viewStored}
-use Rattle.outgoing.specs.Requested.{formOf, keyNamed, requestOn, Requested}
+use Rattle.outgoing.specs.Requested.{keyNamed, requestOn, Requested}
 use Rattle.outgoing.proofs.OfAnswer.{nothing}
 use Rattle.sententries.proofs.OfEntry.{sendable}
 use Rattle.outgoing.proofs.OfStep.{Word, align-at, byWord, request-by, send-within}
@@ -39,9 +39,9 @@ worded c w e = e (view c .key) (storeLog (store c)) (view c .replica .vectors) (
 
 -- .. and so is what it asks for
 asked : (c : tie.Start) (w : Word) → stepping c w
-    → requestOn (formOf (c .args .form)) (c .args .epoch .0) (c .args .peer .0) (c .args .metric) (view c)
-    ≡ byWord (formOf (c .args .form)) (c .args .epoch .0) (c .args .peer .0) (c .args .metric) (view c) w
-asked c w e = request-by (formOf (c .args .form)) (c .args .epoch .0) (c .args .peer .0) (c .args .metric) (view c) w (worded c w e)
+    → requestOn (c .args .epoch .0) (c .args .peer .0) (c .args .metric) (view c)
+    ≡ byWord (c .args .epoch .0) (c .args .peer .0) (c .args .metric) (view c) w
+asked c w e = request-by (c .args .epoch .0) (c .args .peer .0) (c .args .metric) (view c) w (worded c w e)
 
 step-requires : tie.Need-step-requires
 step-requires c κs = c .before .before .before .before .before .before .before .before .before .before .pre .0

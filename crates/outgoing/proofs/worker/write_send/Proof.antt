@@ -9,7 +9,7 @@ use lib.ListN.{length}
 use Rattle.model.specs.Node.Worker.{Message, copyOf, sending}
 use Rattle.model.specs.Log.{Log, entriesFrom}
 use Rattle.shard.specs.View.{columns, entryOf, logOf}
-use Rattle.outgoing.specs.Requested.{formOf, keyNamed, Requested}
+use Rattle.outgoing.specs.Requested.{keyNamed, Requested}
 use Rattle.sententries.proofs.OfEntries.{at-length, from-one, from-within}
 use Rattle.outgoing.proofs.OfStep.{send-copy, send-lone, send-many}
 use Rattle.outgoing.proofs.worker.write_send.Statement.{statement}
@@ -18,11 +18,11 @@ use Rattle.outgoing.proofs.worker.write_send.Tie as tie
 sub-i : tie.Need-sub-i
 sub-i c = omega arith
 
-mul-t20 : tie.Need-mul-t20
-mul-t20 c = search needs
+mul-t18 : tie.Need-mul-t18
+mul-t18 c = search needs
 
-shared-slice-read-t19 : tie.Need-shared-slice-read-t19
-shared-slice-read-t19 c = search needs
+shared-slice-read-t17 : tie.Need-shared-slice-read-t17
+shared-slice-read-t17 c = search needs
 
 goes-as-copy-requires : tie.Need-goes-as-copy-requires
 goes-as-copy-requires c κs = search needs
@@ -40,11 +40,10 @@ returns c =
     let t = columns (a .epochs .now) (a .offsets .now) (a .ids .now) (a .codes .now) (a .lengths .now) (a .floats .now) in
     let k = keyNamed (a .name .now) (a .shard) in
     let e = a .epoch .0 in
-    let f = formOf (a .form) in
     let i = a .first .0 - 1 in
     let es = from-one t (a .count) (a .first .0) (a .n) (c .before .before .before .before .before .before .before .before .if1 .taken) (c .before .before .before .before .before .before .before .before .before .before .before .before .before .before .before .before .before .pre .1) (omega arith) in
     subst (λ (o : Option Message). Requested o (a .out .now) (c .before .before .write-lone .last .0) (c .before .before .write-lone .result))
-    (sym (ap (sending f k e) es ∙ send-lone f k e (entryOf t i) (sym (c .before .before .before .before .before .goes-as-copy .ensures) ∙ not-true _ (c .before .before .before .before .if2 .taken)))) (c .before .before .write-lone .ensures)
+    (sym (ap (sending k e) es ∙ send-lone k e (entryOf t i) (sym (c .before .before .before .before .before .goes-as-copy .ensures) ∙ not-true _ (c .before .before .before .before .if2 .taken)))) (c .before .before .write-lone .ensures)
 
 entries-from-requires : tie.Need-entries-from-requires
 entries-from-requires c κs = (c .before .before .before .before .before .before .before .before .before .before .before .before .before .before .pre .0, c .before .before .before .before .before .before .before .before .before .before .before .before .before .before .pre .3, c .before .before .before .before .before .before .before .before .before .before .before .before .before .before .pre .5)
@@ -59,11 +58,10 @@ returns-2 c =
     let t = columns (a .epochs .now) (a .offsets .now) (a .ids .now) (a .codes .now) (a .lengths .now) (a .floats .now) in
     let k = keyNamed (a .name .now) (a .shard) in
     let e = a .epoch .0 in
-    let f = formOf (a .form) in
     let i = a .first .0 - 1 in
     let es = from-one t (a .count) (a .first .0) (a .n) (c .before .before .before .before .before .before .before .before .if1 .taken) (c .before .before .before .before .before .before .before .before .before .before .before .before .before .before .before .before .before .pre .1) (omega arith) in
     subst (λ (o : Option Message). Requested o (a .out .now) (c .before .before .entries-from .last .0) (c .before .before .entries-from .result))
-    (sym (ap (sending f k e) es ∙ send-copy f k e (entryOf t i) (sym (c .before .before .before .before .before .goes-as-copy .ensures) ∙ not-false _ (c .before .before .before .before .if2 .left)) ∙ ap (λ (l : Log). some (copyOf k e l)) (sym es))) (c .before .before .entries-from .ensures)
+    (sym (ap (sending k e) es ∙ send-copy k e (entryOf t i) (sym (c .before .before .before .before .before .goes-as-copy .ensures) ∙ not-false _ (c .before .before .before .before .if2 .left)) ∙ ap (λ (l : Log). some (copyOf k e l)) (sym es))) (c .before .before .entries-from .ensures)
 
 entries-from-requires-2 : tie.Need-entries-from-requires-2
 entries-from-requires-2 c κs = (c .before .before .before .before .before .before .before .before .before .before .pre .0, c .before .before .before .before .before .before .before .before .before .before .pre .3, c .before .before .before .before .before .before .before .before .before .before .pre .5)
@@ -77,20 +75,19 @@ returns-3 c =
     let t = columns (a .epochs .now) (a .offsets .now) (a .ids .now) (a .codes .now) (a .lengths .now) (a .floats .now) in
     let k = keyNamed (a .name .now) (a .shard) in
     let e = a .epoch .0 in
-    let f = formOf (a .form) in
     let i = a .first .0 - 1 in
     let es = entriesFrom (logOf t (a .count)) (a .first .0) (a .n) in
     let z : length es ≡ a .n = ap length (from-within t (a .count) (a .first .0) (a .n) (c .before .before .before .before .before .before .before .before .before .before .before .before .before .pre .1) (c .before .before .before .before .before .before .before .before .before .before .before .before .before .pre .4)) ∙ at-length t (a .n) i in
     subst (λ (o : Option Message). Requested o (a .out .now) (c .before .before .entries-from2 .last .0) (c .before .before .entries-from2 .result))
-    (sym (send-many f k e es (omega arith))) (c .before .before .entries-from2 .ensures)
+    (sym (send-many k e es (omega arith))) (c .before .before .entries-from2 .ensures)
 
 pub write-send-spec : {M : Type 1} → statement M
 write-send-spec =
     tie.close
     (tie.spec
     sub-i
-    mul-t20
-    shared-slice-read-t19
+    mul-t18
+    shared-slice-read-t17
     goes-as-copy-requires
     write-lone-requires
     same-length
