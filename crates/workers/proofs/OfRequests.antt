@@ -38,22 +38,22 @@ unfolding keptFits
 kept-named x e = leb-true (x .key .collection .len) maxName (and-left _ _ e)
 
 -- the request goes under the shard's key
-pub under-key : (x : Kept) (s : Store) (form : worker.Form) (epoch peer : ℕ) (metric : Metric) (before after : List ℕ) (r : Request)
-    → Requested (requestOn form epoch peer metric (viewStored (keyNamed (take (x .key .collection .len - 0) (x .key .collection .bytes)) (x .key .shard)) (x .held) s)) before after r
-    → Requested (requestOn form epoch peer metric (viewStored (viewKey (x .key)) (x .held) s)) before after r
-under-key x s form epoch peer metric before after r d =
-    subst (λ (i : ℕ). Requested (requestOn form epoch peer metric (viewStored (keyNamed (take i (x .key .collection .bytes)) (x .key .shard)) (x .held) s)) before after r)
+pub under-key : (x : Kept) (s : Store) (epoch peer : ℕ) (metric : Metric) (before after : List ℕ) (r : Request)
+    → Requested (requestOn epoch peer metric (viewStored (keyNamed (take (x .key .collection .len - 0) (x .key .collection .bytes)) (x .key .shard)) (x .held) s)) before after r
+    → Requested (requestOn epoch peer metric (viewStored (viewKey (x .key)) (x .held) s)) before after r
+under-key x s epoch peer metric before after r d =
+    subst (λ (i : ℕ). Requested (requestOn epoch peer metric (viewStored (keyNamed (take i (x .key .collection .bytes)) (x .key .shard)) (x .held) s)) before after r)
     (sub-zero (x .key .collection .len)) d
 
 module _ (n : Node) (a : Lot) (k : Key) (f : found.Lent) (finds : Finds n k a f) where
-  module _ (epoch peer : ℕ) (metric : Metric) (form : worker.Form) (out : List ℕ) where
-    pub unfit : f ≡ L.Malformed → Requests n a k epoch peer metric form out out (R.Refused 24)
+  module _ (epoch peer : ℕ) (metric : Metric) (out : List ℕ) where
+    pub unfit : f ≡ L.Malformed → Requests n a k epoch peer metric out out (R.Refused 24)
     unfolding calls.requestWith
     unfit e =
         let bad = subst (Finds n k a) e finds in
         record { answer = λ s l. rw (bad s); bytes = λ s l. rw (bad s) }
 
-    pub gone : f ≡ L.Absent → Requests n a k epoch peer metric form out out R.Unsent
+    pub gone : f ≡ L.Absent → Requests n a k epoch peer metric out out R.Unsent
     unfolding calls.requestWith calls.requestOf worker.onRequest worker.onStep
     gone e =
         let g = subst (Finds n k a) e finds in
@@ -75,24 +75,24 @@ module _ (n : Node) (a : Lot) (k : Key) (f : found.Lent) (finds : Finds n k a f)
         let g = found-at in
         every-at keptFits (n .held) (n .count) at noKept (g .inside) (header-fit n (g .formed)) (g .under)
 
-    module _ (epoch peer : ℕ) (metric : Metric) (form : worker.Form) (before : List ℕ) where
+    module _ (epoch peer : ℕ) (metric : Metric) (before : List ℕ) where
       abbrev x : Kept
       x = getD (n .held) at noKept
 
       asked : (s : Stores) → Lends s (slotOf n k) a
-          → calls.writtenIn (length before) (requestOn form epoch peer metric (viewStored (viewKey (x .key)) (x .held) (storeOf a x)))
-          ≡ calls.requestWith (lentFor s n a) (viewNode s n) (length before) k epoch peer metric form
+          → calls.writtenIn (length before) (requestOn epoch peer metric (viewStored (viewKey (x .key)) (x .held) (storeOf a x)))
+          ≡ calls.requestWith (lentFor s n a) (viewNode s n) (length before) k epoch peer metric
       unfolding calls.requestWith
       asked s l =
           let g = found-at in
           let own : x .slot ≡ slotOf n k = sym (slot-held n k at (g .is) (g .under)) in
           rw (g .lent s)
           (ap (calls.writtenIn (length before))
-          (ap (requestOn form epoch peer metric) (sym (lends-view s (slotOf n k) a l x own))
-          ∙ sym (request-of (viewNode s n) k (viewKept s x) epoch peer metric form (shard-some s n k (g .inside) at (g .is) (g .under)))))
+          (ap (requestOn epoch peer metric) (sym (lends-view s (slotOf n k) a l x own))
+          ∙ sym (request-of (viewNode s n) k (viewKept s x) epoch peer metric (shard-some s n k (g .inside) at (g .is) (g .under)))))
 
-      pub sent : (after : List ℕ) (r : Request) → Requested (requestOn form epoch peer metric (viewStored (viewKey (x .key)) (x .held) (storeOf a x))) before after r
-          → Requests n a k epoch peer metric form before after r
+      pub sent : (after : List ℕ) (r : Request) → Requested (requestOn epoch peer metric (viewStored (viewKey (x .key)) (x .held) (storeOf a x))) before after r
+          → Requests n a k epoch peer metric before after r
       sent after r d = record {
         answer = λ s l. d .answer ∙ ap answerOf (asked s l);
         bytes = λ s l. d .bytes ∙ ap (λ (w : calls.RequestAnswer). leftOf w before) (asked s l);

@@ -5,7 +5,6 @@ use mathlib.Core.Path.{_≡_}
 use mathlib.Core.List.{List}
 use lib.ListN.{length}
 use Rattle.model.specs.Keys.{Key}
-use Rattle.model.specs.Node.Worker as worker
 use Rattle.model.specs.Node.Calls as calls
 use Rattle.model.specs.declared.Metric.{Metric}
 use Rattle.header.specs.declared.Node.{Node}
@@ -16,8 +15,8 @@ use Rattle.lend.specs.Lend.{Lot, lentFor, slotOf, Lends}
 
 -- a call with the columns a, where the stores s hold them in the slot of the shard k, and an output of the bytes `before`, which leaves
 -- `after`: a request from its start, the rest as it was, or all of it as it was where nothing is sent
-pub record Requests (n : Node) (a : Lot) (k : Key) (epoch peer : ℕ) (metric : Metric) (form : worker.Form) (before after : List ℕ) (r : Request) : Type 0 where
+pub record Requests (n : Node) (a : Lot) (k : Key) (epoch peer : ℕ) (metric : Metric) (before after : List ℕ) (r : Request) : Type 0 where
   pub answer : (s : Stores) → Lends s (slotOf n k) a
-      → r ≡ answerOf (calls.requestWith (lentFor s n a) (viewNode s n) (length before) k epoch peer metric form)
+      → r ≡ answerOf (calls.requestWith (lentFor s n a) (viewNode s n) (length before) k epoch peer metric)
   pub bytes : (s : Stores) → Lends s (slotOf n k) a
-      → after ≡ leftOf (calls.requestWith (lentFor s n a) (viewNode s n) (length before) k epoch peer metric form) before
+      → after ≡ leftOf (calls.requestWith (lentFor s n a) (viewNode s n) (length before) k epoch peer metric) before

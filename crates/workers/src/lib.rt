@@ -6,7 +6,7 @@ ghost use mathlib.Core.Bool.{true};
 ghost use Rattle.state.specs.Names.{viewKey};
 ghost use Rattle.shard.specs.Store.{Sized, wellFormedStore};
 ghost use Rattle.writes.specs.Writes.{viewStored};
-ghost use Rattle.outgoing.specs.Requested.{formOf, requestOn, Requested};
+ghost use Rattle.outgoing.specs.Requested.{requestOn, Requested};
 ghost use Rattle.header.specs.Formed.{keptFits};
 ghost use Rattle.lend.specs.Lend.{lot, storeOf};
 ghost use Rattle.workers.specs.Requests.{Requests};
@@ -17,7 +17,6 @@ use lend::tested::lent_shard;
 use model::DataNodeId;
 use model::Epoch;
 use model::Metric;
-use outgoing::Form;
 use outgoing::Request;
 use state::ShardKey;
 
@@ -35,13 +34,12 @@ fn request_kept(
     epoch: Epoch,
     peer: DataNodeId,
     metric: Metric,
-    form: Form,
     out: &mut [u8],
 ) -> Request
     requires { ⌜ (keptFits x ≡ true)
         × (Sized (storeOf (lot (now epochs) (now offsets) (now ids) (now codes) (now lengths) (now floats) (now keys) (now places)) x))
         × (wellFormedStore (storeOf (lot (now epochs) (now offsets) (now ids) (now codes) (now lengths) (now floats) (now keys) (now places)) x) ≡ true) ⌝ }
-    ensures { λ r. ⌜ Requested (requestOn (formOf form) (epoch .0) (peer .0) metric (viewStored (viewKey (x .key)) (x .held)
+    ensures { λ r. ⌜ Requested (requestOn (epoch .0) (peer .0) metric (viewStored (viewKey (x .key)) (x .held)
         (storeOf (lot (now (epochs .entry)) (now (offsets .entry)) (now (ids .entry)) (now (codes .entry)) (now (lengths .entry)) (now (floats .entry)) (now (keys .entry)) (now (places .entry))) x)))
         (now (out .entry)) (now (out .exit)) r ⌝ }
 {
@@ -66,7 +64,6 @@ fn request_kept(
         epoch,
         peer,
         metric,
-        form,
         out,
     )
 }
@@ -87,12 +84,11 @@ pub fn request(
     epoch: Epoch,
     peer: DataNodeId,
     metric: Metric,
-    form: Form,
     out: &mut [u8],
 ) -> Request
     ensures { λ r. ⌜ Requests n
         (lot (now (epochs .entry)) (now (offsets .entry)) (now (ids .entry)) (now (codes .entry)) (now (lengths .entry)) (now (floats .entry)) (now (keys .entry)) (now (places .entry)))
-        (viewKey key) (epoch .0) (peer .0) metric (formOf form) (now (out .entry)) (now (out .exit)) r ⌝ }
+        (viewKey key) (epoch .0) (peer .0) metric (now (out .entry)) (now (out .exit)) r ⌝ }
 {
     let found = lent_shard(
         n,
@@ -125,7 +121,6 @@ pub fn request(
                 epoch,
                 peer,
                 metric,
-                form,
                 out,
             )
         }

@@ -30,16 +30,16 @@ request-kept-requires c κs =
     (found-fits (c .before .before .before .before .before .before .before .before .before .before .before .before .before .before .before .before .args .n) _ _ (c .before .before .before .before .before .before .lent-shard .result) (c .before .before .before .before .before .before .lent-shard .ensures) _ (c .before .before .before .before .found .given .1), g .sized, g .well)
 
 returns : tie.Need-returns
-returns c = unfit (c .before .before .before .before .before .before .before .before .before .before .before .before .args .n) _ _ (c .before .before .lent-shard .result) (c .before .before .lent-shard .ensures) _ _ _ _ _ (c .enum-told .given .1)
+returns c = unfit (c .before .before .before .before .before .before .before .before .before .before .before .before .args .n) _ _ (c .before .before .lent-shard .result) (c .before .before .lent-shard .ensures) _ _ _ _ (c .enum-told .given .1)
 
 returns-2 : tie.Need-returns-2
-returns-2 c = gone (c .before .before .before .before .before .before .before .before .before .before .before .before .args .n) _ _ (c .before .before .lent-shard .result) (c .before .before .lent-shard .ensures) _ _ _ _ _ (c .enum-told2 .given .1)
+returns-2 c = gone (c .before .before .before .before .before .before .before .before .before .before .before .before .args .n) _ _ (c .before .before .lent-shard .result) (c .before .before .lent-shard .ensures) _ _ _ _ (c .enum-told2 .given .1)
 
 same-length : tie.Need-same-length
 same-length c = search needs
 
 returns-3 : tie.Need-returns-3
-returns-3 c = sent (c .before .before .before .before .before .before .before .before .before .before .before .before .before .before .before .before .before .before .before .args .n) _ _ (c .before .before .before .before .before .before .before .before .before .lent-shard .result) (c .before .before .before .before .before .before .before .before .before .lent-shard .ensures) _ (c .before .before .before .before .before .before .before .found .given .1) _ _ _ _ _ _ _ (c .before .before .request-kept .ensures)
+returns-3 c = sent (c .before .before .before .before .before .before .before .before .before .before .before .before .before .before .before .before .before .before .before .args .n) _ _ (c .before .before .before .before .before .before .before .before .before .lent-shard .result) (c .before .before .before .before .before .before .before .before .before .lent-shard .ensures) _ (c .before .before .before .before .before .before .before .found .given .1) _ _ _ _ _ _ (c .before .before .request-kept .ensures)
 
 pub request-spec : {M : Type 1} → statement M
 request-spec =
