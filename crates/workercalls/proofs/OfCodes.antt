@@ -5,12 +5,11 @@ use mathlib.Core.List.{List}
 use native.Mathlib.Omega.{arith}
 use lib.ListN.{length, getD, List·getD-eq-default}
 use borrow.Author.Tests.{eq-eqb, ne-eqb}
-use Rattle.model.specs.Node.Worker as worker
 use Rattle.model.specs.declared.Metric.the-variants.{Euclidean, Angular}
 use Rattle.serve.specs.declared.Step.{Step}
 use Rattle.header.specs.declared.StepAnswer.{StepAnswer}
 use Rattle.header.specs.declared.StepAnswer.the-variants.{Stepped}
-use Rattle.workercalls.specs.Steps.{metricOf, formOf, sentNumber, quietNumber}
+use Rattle.workercalls.specs.Steps.{metricOf, sentNumber, quietNumber}
 
 module _ (c : ℕ) where
   pub metric-zero : c ≡ 0 → Euclidean ≡ metricOf c
@@ -18,12 +17,6 @@ module _ (c : ℕ) where
 
   pub metric-other : (c ≡ 0 → ⊥) → Angular ≡ metricOf c
   metric-other e = rw (ne-eqb c 0 e) refl
-
-  pub form-zero : c ≡ 0 → worker.asReplicate ≡ formOf c
-  form-zero e = rw (eq-eqb c 0 e) refl
-
-  pub form-other : (c ≡ 0 → ⊥) → worker.olderAsCopy ≡ formOf c
-  form-other e = rw (ne-eqb c 0 e) refl
 
   pub sent-aligns : c ≡ 0x21 → 2 ≡ sentNumber c
   sent-aligns e = rw (eq-eqb c 0x21 e) refl

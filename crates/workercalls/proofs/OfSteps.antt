@@ -7,7 +7,6 @@ use borrow.Author.Tests.{lt-leb, le-leb}
 use Rattle.model.specs.Limits.{maxName}
 use Rattle.model.specs.Lists.{_and_}
 use Rattle.model.specs.Keys.{Key}
-use Rattle.model.specs.Node.Worker as worker
 use Rattle.model.specs.declared.Metric.{Metric}
 use Rattle.model.proofs.Lists.{not-both}
 use Rattle.rpcw.specs.Written.{textFits}
@@ -16,7 +15,7 @@ use Rattle.headerimage.specs.Image.{nodeAt}
 use Rattle.lend.specs.Lend.{Lot}
 use Rattle.lentimage.specs.declared.Picked.{Picked}
 use Rattle.lentimage.specs.Lent.{lendsState, lotIn, Picks}
-use Rattle.workercalls.specs.Steps.{Asking, decodes, keyOf, metricOf, formOf, Outputs, StepAsked, StepsImage}
+use Rattle.workercalls.specs.Steps.{Asking, decodes, keyOf, metricOf, Outputs, StepAsked, StepsImage}
 
 -- ---- the operands
 
@@ -30,14 +29,9 @@ module _ (w : Asking) (b : Bool) (e : b ≡ textFits maxName (w .name)) where
     unfolding decodes _and_
     bad-metric m = rw (sym e ∙ t) (rw (lt-leb (w .metric) 1 m) refl)
 
-    module _ (m : w .metric ≤ 1) where
-      pub bad-form : 1 < w .form → decodes w ≡ false
-      unfolding decodes _and_
-      bad-form f = rw (sym e ∙ t) (rw (le-leb (w .metric) 1 m) (rw (lt-leb (w .form) 1 f) refl))
-
-      pub decoded : w .form ≤ 1 → decodes w ≡ true
-      unfolding decodes _and_
-      decoded f = rw (sym e ∙ t) (rw (le-leb (w .metric) 1 m) (rw (le-leb (w .form) 1 f) refl))
+    pub decoded : w .metric ≤ 1 → decodes w ≡ true
+    unfolding decodes _and_
+    decoded m = rw (sym e ∙ t) (rw (le-leb (w .metric) 1 m) refl)
 
 -- ---- the ways out
 
@@ -60,18 +54,17 @@ module _ (h s : List ℕ) (w : Asking) (o : Outputs) where
       asked = λ z i. not-both (lendsState h s (keyOf w)) i (sym (picks .found) ∙ f);
     }
 
-    module _ (m : Metric) (is-metric : m ≡ metricOf (w .metric)) (form : worker.Form) (is-form : form ≡ formOf (w .form)) where
-      abbrev StepOf : Node → Lot → Key → Metric → worker.Form → (p : Outputs) → ℕ → Type 0
-      StepOf n a i metric f p r = StepAsked n a i (w .epoch) (w .peer) metric f o p r
+    module _ (m : Metric) (is-metric : m ≡ metricOf (w .metric)) where
+      abbrev StepOf : Node → Lot → Key → Metric → (p : Outputs) → ℕ → Type 0
+      StepOf n a i metric p r = StepAsked n a i (w .epoch) (w .peer) metric o p r
 
-      pub asked : l .found ≡ true → (p : Outputs) (r : ℕ) → StepOf (l .node) b k m form p r → StepsImage h s w o p r
+      pub asked : l .found ≡ true → (p : Outputs) (r : ℕ) → StepOf (l .node) b k m p r → StepsImage h s w o p r
       asked f p r a = record {
         undecoded = λ z. not-both (decodes w) e z;
         unlent = λ z i. not-both (lendsState h s (keyOf w)) (sym (picks .found) ∙ f) i;
         asked = λ z i.
-            subst (λ (x : Node). StepOf x (lotIn s (nodeAt h) (keyOf w)) (keyOf w) (metricOf (w .metric)) (formOf (w .form)) p r) (picks .read i)
-            (subst (λ (x : Lot). StepOf (l .node) x (keyOf w) (metricOf (w .metric)) (formOf (w .form)) p r) (picks .lot i)
-            (subst (λ (x : Key). StepOf (l .node) b x (metricOf (w .metric)) (formOf (w .form)) p r) name
-            (subst (λ (x : worker.Form). StepOf (l .node) b k (metricOf (w .metric)) x p r) is-form
-            (subst (λ (x : Metric). StepOf (l .node) b k x form p r) is-metric a))));
+            subst (λ (x : Node). StepOf x (lotIn s (nodeAt h) (keyOf w)) (keyOf w) (metricOf (w .metric)) p r) (picks .read i)
+            (subst (λ (x : Lot). StepOf (l .node) x (keyOf w) (metricOf (w .metric)) p r) (picks .lot i)
+            (subst (λ (x : Key). StepOf (l .node) b x (metricOf (w .metric)) p r) name
+            (subst (λ (x : Metric). StepOf (l .node) b k x p r) is-metric a)));
       }

@@ -7,7 +7,6 @@ use lib.ListN.{length}
 use lib.Dec.{leb}
 use borrow.Author.Tests.{lt-leb, le-leb}
 use Rattle.model.specs.Keys.{Key}
-use Rattle.model.specs.Node.Worker as worker
 use Rattle.model.specs.declared.Metric.{Metric}
 use Rattle.model.proofs.Lists.{not-both}
 use Rattle.header.specs.declared.Node.{Node}
@@ -43,17 +42,17 @@ module _ (n : Node) (a : Lot) (k : Key) where
   short-number L.Absent d r e t = rw (d .lent t) e
   short-number (L.At at) d r e t = rw (d .lent t) e
 
-  module _ (epoch peer : ℕ) (metric : Metric) (form : worker.Form) (o p : List ℕ) where
+  module _ (epoch peer : ℕ) (metric : Metric) (o p : List ℕ) where
     pub no-room : length p < 8 → (f : found.Lent) → Finds n k a f → (r : ℕ) → r ≡ shortNumber f
-        → StepAsked n a k epoch peer metric form (outputs o p) (outputs o p) r
+        → StepAsked n a k epoch peer metric (outputs o p) (outputs o p) r
     no-room h f d r e = record {
       short = λ z. record { answer = short-number f d r e; kept = refl };
       told = λ z. not-both (leb 8 (length p)) z (lt-leb 8 (length p) h);
     }
 
     pub asked : 8 ≤ length p → (s : StepAnswer) (w : Request) → StepsNode n k epoch peer s
-        → (q : List ℕ) → Requests n a k epoch peer metric form o q w
-        → (t : List ℕ) (r : ℕ) → Told s w q p t r → StepAsked n a k epoch peer metric form (outputs o p) (outputs q t) r
+        → (q : List ℕ) → Requests n a k epoch peer metric o q w
+        → (t : List ℕ) (r : ℕ) → Told s w q p t r → StepAsked n a k epoch peer metric (outputs o p) (outputs q t) r
     asked h s w i q j t r e = record {
       short = λ z. not-both (leb 8 (length p)) (le-leb 8 (length p) h) z;
       told = λ z. record { step = s; sent = w; steps = i; requests = j; number = e .0; answer = e .1 };

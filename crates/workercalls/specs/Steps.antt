@@ -9,7 +9,6 @@ use lib.ListN.{getD}
 use Rattle.model.specs.Lists.{_and_}
 use Rattle.model.specs.Limits.{maxName}
 use Rattle.model.specs.Keys.{Key}
-use Rattle.model.specs.Node.Worker as worker
 use Rattle.model.specs.declared.Metric.{Metric}
 use Rattle.model.specs.declared.Metric.the-variants.{Euclidean, Angular}
 use Rattle.rpcw.specs.Written.{textFits, keyGiven}
@@ -31,31 +30,27 @@ use Rattle.lentimage.specs.Lent.{lotIn, lendsState}
 
 -- ---- the operands
 
--- the worker that asks: its key by name and number, epoch, peer, and the codes of metric and form
+-- the worker that asks: its key by name and number, epoch, peer, and the metric's code
 pub record Asking : Type 0 where
   pub name : List ℕ
   pub shard : ℕ
   pub epoch : ℕ
   pub peer : ℕ
   pub metric : ℕ
-  pub form : ℕ
 
-abbrev pub asking : List ℕ → (shard epoch peer metric form : ℕ) → Asking
-asking name shard epoch peer metric form =
-    record { name = name; shard = shard; epoch = epoch; peer = peer; metric = metric; form = form }
+abbrev pub asking : List ℕ → (shard epoch peer metric : ℕ) → Asking
+asking name shard epoch peer metric =
+    record { name = name; shard = shard; epoch = epoch; peer = peer; metric = metric }
 
 -- 21 otherwise
 unfoldable pub decodes : Asking → Bool
-decodes w = textFits maxName (w .name) and (leb (w .metric) 1 and leb (w .form) 1)
+decodes w = textFits maxName (w .name) and leb (w .metric) 1
 
 abbrev pub keyOf : Asking → Key
 keyOf w = keyGiven (w .name) (w .shard)
 
 abbrev pub metricOf : ℕ → Metric
 metricOf c = cond (eqb c 0) Euclidean Angular
-
-abbrev pub formOf : ℕ → worker.Form
-formOf c = cond (eqb c 0) worker.asReplicate worker.olderAsCopy
 
 -- ---- the answer
 
@@ -98,11 +93,11 @@ pub record Refuses (number : ℕ) (o p : Outputs) (r : ℕ) : Type 0 where
   pub kept : p ≡ o
 
 -- what header and workers answer, on a header and columns: their step and their request, and what is told of them
-pub record Tells (n : Node) (a : Lot) (k : Key) (epoch peer : ℕ) (metric : Metric) (form : worker.Form) (o p : Outputs) (r : ℕ) : Type 0 where
+pub record Tells (n : Node) (a : Lot) (k : Key) (epoch peer : ℕ) (metric : Metric) (o p : Outputs) (r : ℕ) : Type 0 where
   pub step : StepAnswer
   pub sent : Request
   pub steps : StepsNode n k epoch peer step
-  pub requests : Requests n a k epoch peer metric form (o .request) (p .request) sent
+  pub requests : Requests n a k epoch peer metric (o .request) (p .request) sent
   pub number : r ≡ stepNumber step sent (p .request)
   pub answer : p .answer ≡ answerLeft sent (o .answer)
 
@@ -111,16 +106,16 @@ pub record Short (n : Node) (a : Lot) (k : Key) (o p : Outputs) (r : ℕ) : Type
   pub answer : (t : Stores) → r ≡ cond (lentFor t n a k) 23 24
   pub kept : p ≡ o
 
-pub record StepAsked (n : Node) (a : Lot) (k : Key) (epoch peer : ℕ) (metric : Metric) (form : worker.Form) (o p : Outputs) (r : ℕ) : Type 0 where
+pub record StepAsked (n : Node) (a : Lot) (k : Key) (epoch peer : ℕ) (metric : Metric) (o p : Outputs) (r : ℕ) : Type 0 where
   pub short : answerLent (o .answer) ≡ false → Short n a k o p r
-  pub told : answerLent (o .answer) ≡ true → Tells n a k epoch peer metric form o p r
+  pub told : answerLent (o .answer) ≡ true → Tells n a k epoch peer metric o p r
 
 -- h and s the images of the header and of the stores, which stay as they are: 21, 24, then the step of what the bytes are read as
 pub record StepsImage (h s : List ℕ) (w : Asking) (o p : Outputs) (r : ℕ) : Type 0 where
   pub undecoded : decodes w ≡ false → Refuses 21 o p r
   pub unlent : decodes w ≡ true → lendsState h s (keyOf w) ≡ false → Refuses 24 o p r
   pub asked : decodes w ≡ true → lendsState h s (keyOf w) ≡ true
-      → StepAsked (nodeAt h) (lotIn s (nodeAt h) (keyOf w)) (keyOf w) (w .epoch) (w .peer) (metricOf (w .metric)) (formOf (w .form)) o p r
+      → StepAsked (nodeAt h) (lotIn s (nodeAt h) (keyOf w)) (keyOf w) (w .epoch) (w .peer) (metricOf (w .metric)) o p r
 
 -- internal: by what the test found
 abbrev pub shortNumber : found.Lent → ℕ

@@ -1,12 +1,10 @@
-// The codes of metric and form, and the numbers of the answers. Internal.
+// The codes of a metric, and the numbers of the answers. Internal.
 ghost use mathlib.Core.Path.{_≡_};
 ghost use Prim.Native.Nat.{_<_};
 ghost use lib.ListN.{length, getD};
-ghost use Rattle.outgoing.specs.Requested as requested;
-ghost use Rattle.workercalls.specs.Steps.{metricOf, formOf, sentNumber, quietNumber};
+ghost use Rattle.workercalls.specs.Steps.{metricOf, sentNumber, quietNumber};
 use header::StepAnswer;
 use model::Metric;
-use outgoing::Form;
 use serve::Step;
 
 pub fn metric_of(code: u8) -> Metric
@@ -16,15 +14,6 @@ pub fn metric_of(code: u8) -> Metric
         return Metric::Euclidean;
     }
     Metric::Angular
-}
-
-pub fn form_of(code: u8) -> Form
-    ensures { λ r. ⌜ requested.formOf r ≡ formOf code ⌝ }
-{
-    if code == 0 {
-        return Form::Replicate;
-    }
-    Form::OlderAsCopy
 }
 
 // By the code that the request begins with.

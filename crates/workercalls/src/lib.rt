@@ -1,7 +1,6 @@
 // The step of a worker, as a host in C asks for it (paper 01, 'The node'; node.rs, replicate_to): over the byte images of the header and of
 // the stores, which are only read, with an output for the request and one for the number beside the answer.
 ghost use Rattle.workercalls.specs.Steps.{asking, outputs, StepsImage};
-use crate::codes::form_of;
 use crate::codes::metric_of;
 use crate::told::step_at;
 use asked::named::key_named;
@@ -13,7 +12,7 @@ use rpcw::fit::text_fits;
 mod codes;
 mod told;
 
-// 21 a name, a metric or a form that is none; 24; 23 if an output is short. Otherwise 0 wait, 1 stop, and 2 align, 3 replicate, 4 copy with
+// 21 a name or a metric that is none; 24; 23 if an output is short. Otherwise 0 wait, 1 stop, and 2 align, 3 replicate, 4 copy with
 // the request in `request` and its length in `answer`, which is 0 beside 0 and 1.
 pub fn step(
     header: &[u8],
@@ -23,20 +22,16 @@ pub fn step(
     epoch: u64,
     peer: u64,
     metric: u8,
-    form: u8,
     request: &mut [u8],
     answer: &mut [u8],
 ) -> u32
-    ensures { λ r. ⌜ StepsImage (now (header .entry)) (now (stores .entry)) (asking (now (name .entry)) shard epoch peer metric form)
+    ensures { λ r. ⌜ StepsImage (now (header .entry)) (now (stores .entry)) (asking (now (name .entry)) shard epoch peer metric)
         (outputs (now (request .entry)) (now (answer .entry))) (outputs (now (request .exit)) (now (answer .exit))) r ⌝ }
 {
     if !text_fits(name, 32) {
         return 21;
     }
     if 1 < metric {
-        return 21;
-    }
-    if 1 < form {
         return 21;
     }
     let key = key_named(name, shard);
@@ -66,7 +61,6 @@ pub fn step(
     }
     let n = k.node;
     let m = metric_of(metric);
-    let f = form_of(form);
     step_at(
         n,
         &epochs,
@@ -81,7 +75,6 @@ pub fn step(
         Epoch(epoch),
         DataNodeId(peer),
         m,
-        f,
         request,
         answer,
     )

@@ -1,7 +1,6 @@
 // The step of a worker on the header and the columns that were picked. Internal.
 ghost use mathlib.Core.Path.{_≡_};
 ghost use Rattle.state.specs.Names.{viewKey};
-ghost use Rattle.outgoing.specs.Requested.{formOf};
 ghost use Rattle.lend.specs.Lend.{lot};
 ghost use Rattle.workercalls.specs.Steps.{stepNumber, answerLeft, shortNumber, outputs, StepAsked};
 use crate::codes::quiet_number;
@@ -15,7 +14,6 @@ use lend::tested::lent_shard;
 use model::DataNodeId;
 use model::Epoch;
 use model::Metric;
-use outgoing::Form;
 use outgoing::Request;
 use state::ShardKey;
 
@@ -61,14 +59,13 @@ pub fn step_at(
     epoch: Epoch,
     peer: DataNodeId,
     metric: Metric,
-    form: Form,
     request: &mut [u8],
     answer: &mut [u8],
 ) -> u32
     ensures { λ r. ⌜ StepAsked n
         (lot (now (epochs .entry)) (now (offsets .entry)) (now (ids .entry)) (now (codes .entry)) (now (lengths .entry))
         (now (floats .entry)) (now (keys .entry)) (now (places .entry)))
-        (viewKey key) (epoch .0) (peer .0) metric (formOf form)
+        (viewKey key) (epoch .0) (peer .0) metric
         (outputs (now (request .entry)) (now (answer .entry))) (outputs (now (request .exit)) (now (answer .exit))) r ⌝ }
 {
     if answer.len() < 8 {
@@ -100,7 +97,6 @@ pub fn step_at(
         epoch,
         peer,
         metric,
-        form,
         request,
     );
     let s = step(n, key, epoch, peer);

@@ -5,13 +5,13 @@ use mathlib.Core.Path.{refl, sym, _∙_}
 use Rattle.state.specs.Names.{viewKey}
 use Rattle.lentimage.specs.Lent.{noLot}
 use Rattle.workercalls.specs.Steps.{Asking, asking, Outputs, outputs}
-use Rattle.workercalls.proofs.OfSteps.{bad-name, bad-metric, bad-form, decoded, undecoded, unlent, asked}
+use Rattle.workercalls.proofs.OfSteps.{bad-name, bad-metric, decoded, undecoded, unlent, asked}
 use Rattle.workercalls.proofs.step.Statement.{statement}
 use Rattle.workercalls.proofs.step.Tie as tie
 
 -- the operands
 abbrev asked-by : tie.Start → Asking
-asked-by c = asking (c .args .name .now) (c .args .shard) (c .args .epoch) (c .args .peer) (c .args .metric) (c .args .form)
+asked-by c = asking (c .args .name .now) (c .args .shard) (c .args .epoch) (c .args .peer) (c .args .metric)
 
 -- the outputs at entry
 abbrev lent-by : tie.Start → Outputs
@@ -34,15 +34,8 @@ returns-2 c =
     undecoded (z .args .header .now) (z .args .stores .now) (asked-by z) (lent-by z)
     (bad-metric (asked-by z) (t .result) (t .ensures) (not-false _ (c .before .if1 .left)) (c .if2 .taken))
 
-returns-3 : tie.Need-returns-3
-returns-3 c =
-    let z = c .before .before .before .before .before .before .before .before .before in
-    let t = c .before .before .before .text-fits in
-    undecoded (z .args .header .now) (z .args .stores .now) (asked-by z) (lent-by z)
-    (bad-form (asked-by z) (t .result) (t .ensures) (not-false _ (c .before .before .if1 .left)) (c .before .if2 .left) (c .if3 .taken))
-
 key-named-requires : tie.Need-key-named-requires
-key-named-requires c κs = sym (c .before .before .before .text-fits .ensures) ∙ not-false _ (c .before .before .if1 .left)
+key-named-requires c κs = sym (c .before .before .text-fits .ensures) ∙ not-false _ (c .before .if1 .left)
 
 slice-aggregate-pick : tie.Need-slice-aggregate-pick
 slice-aggregate-pick c = search needs
@@ -72,23 +65,20 @@ pick-requires : tie.Need-pick-requires
 unfolding noLot
 pick-requires c κs = refl
 
-returns-4 : tie.Need-returns-4
-returns-4 c =
+returns-3 : tie.Need-returns-3
+returns-3 c =
     let p = c .before .before .before .before .before .before .before .before .before .before in
     let i = p .before .before .before .before .before .before .before .before .before .before in
-    let z = i .before .before .before .before .before .before .before .before .before in
-    let t = i .before .before .before .text-fits in
+    let z = i .before .before .before .before .before .before .before .before in
+    let t = i .before .before .text-fits in
     let k = p .before .before .before .before .before .before .before .before .before .key-named in
-    let fine = decoded (asked-by z) (t .result) (t .ensures) (not-false _ (i .before .before .if1 .left)) (i .before .if2 .left) (i .if3 .left) in
+    let fine = decoded (asked-by z) (t .result) (t .ensures) (not-false _ (i .before .if1 .left)) (i .if2 .left) in
     unlent (z .args .header .now) (z .args .stores .now) (asked-by z) (lent-by z) fine
     (viewKey (k .result)) (k .ensures)
-    _ (p .pick .result) (p .pick .ensures) (not-true _ (c .if4 .taken))
+    _ (p .pick .result) (p .pick .ensures) (not-true _ (c .if3 .taken))
 
 metric-of-requires : tie.Need-metric-of-requires
 metric-of-requires c κs = search needs
-
-form-of-requires : tie.Need-form-of-requires
-form-of-requires c κs = search needs
 
 slice-aggregate-step-at : tie.Need-slice-aggregate-step-at
 slice-aggregate-step-at c = search needs
@@ -123,22 +113,21 @@ same-length c = search needs
 same-length-2 : tie.Need-same-length-2
 same-length-2 c = search needs
 
-returns-5 : tie.Need-returns-5
-returns-5 c =
+returns-4 : tie.Need-returns-4
+returns-4 c =
     let e = c .before .before .before .before in
-    let f = e .before .before .before .before .before .before .before .before .before .before .before in
-    let m = f .before in
+    let m = e .before .before .before .before .before .before .before .before .before .before .before in
     let l = m .before .before in
     let p = l .before .before .before .before .before .before .before .before .before .before in
     let i = p .before .before .before .before .before .before .before .before .before .before in
-    let z = i .before .before .before .before .before .before .before .before .before in
-    let t = i .before .before .before .text-fits in
+    let z = i .before .before .before .before .before .before .before .before in
+    let t = i .before .before .text-fits in
     let k = p .before .before .before .before .before .before .before .before .before .key-named in
-    let fine = decoded (asked-by z) (t .result) (t .ensures) (not-false _ (i .before .before .if1 .left)) (i .before .if2 .left) (i .if3 .left) in
+    let fine = decoded (asked-by z) (t .result) (t .ensures) (not-false _ (i .before .if1 .left)) (i .if2 .left) in
     asked (z .args .header .now) (z .args .stores .now) (asked-by z) (lent-by z) fine
     (viewKey (k .result)) (k .ensures)
-    _ (p .pick .result) (p .pick .ensures) (m .metric-of .result) (m .metric-of .ensures) _ (f .form-of .ensures)
-    (not-false _ (l .if4 .left)) _ _ (e .step-at .ensures)
+    _ (p .pick .result) (p .pick .ensures) (m .metric-of .result) (m .metric-of .ensures)
+    (not-false _ (l .if3 .left)) _ _ (e .step-at .ensures)
 
 pub step-spec : {M : Type 1} → statement M
 step-spec =
@@ -147,7 +136,6 @@ step-spec =
     text-fits-requires
     returns
     returns-2
-    returns-3
     key-named-requires
     slice-aggregate-pick
     slice-aggregate-pick-2
@@ -158,9 +146,8 @@ step-spec =
     slice-aggregate-pick-7
     slice-aggregate-pick-8
     pick-requires
-    returns-4
+    returns-3
     metric-of-requires
-    form-of-requires
     slice-aggregate-step-at
     slice-aggregate-step-at-2
     slice-aggregate-step-at-3
@@ -172,4 +159,4 @@ step-spec =
     step-at-requires
     same-length
     same-length-2
-    returns-5)
+    returns-4)

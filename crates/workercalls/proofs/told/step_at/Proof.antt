@@ -22,7 +22,7 @@ returns : tie.Need-returns
 returns c =
     let z = c .before .before .before .before .before .before .before .before .before .before .before .before .before in
     let a = z .args in
-    no-room (a .n) (columnsOf z) (viewKey (a .key)) (a .epoch .0) (a .peer .0) (a .metric) _ (a .request .now) (a .answer .now)
+    no-room (a .n) (columnsOf z) (viewKey (a .key)) (a .epoch .0) (a .peer .0) (a .metric) (a .request .now) (a .answer .now)
     (c .before .before .if1 .taken) (c .before .lent-shard .result) (c .before .lent-shard .ensures) _ (c .short-number .ensures)
 
 request-requires : tie.Need-request-requires
@@ -48,7 +48,7 @@ returns-2 c =
     let i = q .before .before in
     let z = i .before .before .before .before .before .before .before .before .before .before .before in
     let a = z .args in
-    asked (a .n) (columnsOf z) (viewKey (a .key)) (a .epoch .0) (a .peer .0) (a .metric) _ (a .request .now) (a .answer .now)
+    asked (a .n) (columnsOf z) (viewKey (a .key)) (a .epoch .0) (a .peer .0) (a .metric) (a .request .now) (a .answer .now)
     (i .if1 .left) (s .step .result) (q .request .result) (s .step .ensures) _ (q .request .ensures) _ _ (t .told .ensures)
 
 pub step-at-spec : {M : Type 1} → statement M
