@@ -10,12 +10,12 @@ SEED ?= $(shell date +%s)
 
 .PHONY: oracle oracle-ready oracle-test oracle-coverage oracle-mutants stored stored-positions stored-check differential conformance
 
-oracle: oracle-ready ## the published Rust, unchanged, behind applymap, search, replay and decode (target/oracle)
+oracle: oracle-ready ## the published Rust with the edits of oracle/edits, behind applymap, search, replay and decode (target/oracle)
 	@cd $(ORACLE_ROOT)/oracle && $(ORACLE_CARGO) build --release --offline --quiet
 
 oracle-ready:
 	@command -v cargo >/dev/null || { echo "oracle: cargo is missing (Rust 1.88 or later)" >&2; exit 1; }
-	@$(ORACLE_ROOT)/oracle/prepare.sh $(ORACLE_SOURCE) $(ORACLE_BUILD)/sources
+	@$(ORACLE_ROOT)/oracle/prepare.sh $(ORACLE_SOURCE) $(ORACLE_BUILD)/published $(ORACLE_BUILD)/sources
 
 oracle-test: oracle-ready ## the oracle's own tests, each finding of docs/DIFFERENCES.md among them
 	@cd $(ORACLE_ROOT)/oracle && $(ORACLE_CARGO) test --release --offline --quiet -p wire -p floats -p front -p generate --lib --tests

@@ -1,4 +1,4 @@
-//! The published data node, its clock taken from outside. `node` gets a child module `inside`
+//! The data node, its clock taken from outside: the published files with the edits of oracle/edits. `node` gets a child module `inside`
 //! (src/inside.rs), which reaches its private items; `reach` opens the replica's fields.
 
 extern crate clockstd as std;

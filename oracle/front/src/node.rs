@@ -283,7 +283,7 @@ impl Node {
     }
 
     /// A worker's step. The worker stays and waits for the reply.
-    pub fn step(&mut self, peer: Peer, metric: u8, lone_older_as_copy: bool) -> Asked {
+    pub fn step(&mut self, peer: Peer, metric: u8) -> Asked {
         let metric = convert::metric(metric);
         let (asked, task) = inside::step(&self.rust, &peer.key, peer.epoch, peer.peer, metric);
         let step = match &asked {
@@ -292,29 +292,11 @@ impl Node {
             Asked::Replicate(_) => Some(Step::Replicate),
             Asked::Copy(_) => Some(Step::Copy),
         };
-        let asked = match asked {
-            Asked::Replicate(m) if lone_older_as_copy => self.as_copy(m),
-            other => other,
-        };
         match step {
             Some(step) => self.waiting.insert(peer, (step, task)),
             None => self.waiting.remove(&peer),
         };
         asked
-    }
-
-    /// A lone entry with an epoch below the primary's, as a CopyShard; any other stays.
-    fn as_copy(&self, message: Replicate) -> Asked {
-        let held = self.held(&message.shard).expect("it was read from there");
-        let entries = held.replica.entries_from(message.offset, 1);
-        if entries[0].epoch >= message.epoch {
-            return Asked::Replicate(message);
-        }
-        Asked::Copy(CopyShard {
-            shard: message.shard,
-            epoch: message.epoch,
-            entries,
-        })
     }
 
     /// A reply to a step; whether an Expand is now proposed. If the peer's worker waits for a

@@ -246,9 +246,9 @@ fn wait(node: &mut Node, now: u64, mut operands: Operands) -> Lines {
 
 fn step(node: &mut Node, mut operands: Operands) -> Lines {
     let peer = operands.peer()?;
-    let (metric, form) = (operands.byte(1)?, operands.byte(1)?);
+    let metric = operands.byte(1)?;
     operands.end()?;
-    let asked = node.step(peer, metric, form == 1);
+    let asked = node.step(peer, metric);
     let word = match asked {
         Asked::Wait => "wait",
         Asked::Stop => "stop",

@@ -5,9 +5,9 @@ use std::panic::{AssertUnwindSafe, catch_unwind};
 use std::sync::Arc;
 
 use controlplane::state::StateMachine;
-use datanode::node::Node;
-use datanode::node::inside::{self, Asked, Reply, Settings};
-use datanode::shard::{ShardReplica, distance};
+use published::node::Node;
+use published::node::inside::{self, Asked, Reply, Settings};
+use published::shard::{ShardReplica, distance};
 use rpc::{
     CollectionSpec, ControlCommand, DataNodeId, Epoch, Metric, Outcome, ReplicateAck, Request,
     ShardKey, Write, WriteOp,

@@ -188,18 +188,10 @@ impl Stream {
         self.call(call::WAIT, node, operands)
     }
 
-    pub fn step(
-        &mut self,
-        node: u8,
-        key: &Key,
-        epoch: u64,
-        peer: u64,
-        metric: u8,
-        form: u8,
-    ) -> String {
+    pub fn step(&mut self, node: u8, key: &Key, epoch: u64, peer: u64, metric: u8) -> String {
         let mut operands = wire::key(key);
         operands.extend(longs(&[epoch, peer]));
-        operands.extend([metric, form]);
+        operands.push(metric);
         self.call(call::STEP, node, operands)
     }
 

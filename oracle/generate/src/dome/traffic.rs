@@ -15,15 +15,8 @@ impl Dome {
         if self.flights.iter().any(|f| f.worker == place) && !self.rng.once_in(8) {
             return self.deliver();
         }
-        let form = if self.wild {
-            self.rng.below(2) as u8
-        } else {
-            1
-        };
         let w = &self.workers[place];
-        let answer = self
-            .stream
-            .step(w.slot, &w.key, w.epoch, w.peer, w.metric, form);
+        let answer = self.stream.step(w.slot, &w.key, w.epoch, w.peer, w.metric);
         let (word, hex) = answer.trim().split_once(' ').unwrap_or((answer.trim(), ""));
         let step = match word {
             "align" => 0,

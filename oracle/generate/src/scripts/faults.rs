@@ -38,6 +38,7 @@ pub fn two_faults() -> Stream {
     t.s.call(call::SEARCH, 1, vec![0, 0, 0]);
     t.s.call(call::SEARCH, 1, vec![0, 0, 0, 0]);
     t.s.call(call::WRITE, 1, vec![]);
+    t.s.call(call::APPLY, 0, vec![1]);
     t.s.node(1);
     entries(&mut t, &a);
     acks(&mut t, &a);

@@ -52,15 +52,14 @@ pub fn full_log() -> Stream {
     t.s.search(2, &a, 2, 0, vec![ONE], 0);
     // The former primary is aligned and brought up by batches.
     t.s.shown(1, 0);
-    t.s.step(2, &a, 2, 1, 0, 0);
+    t.s.step(2, &a, 2, 1, 0);
     t.new_epoch(1, &a, 2, 1024, &[(1, 1024)]);
     t.s.ack(2, &a, 2, 1, 0, &Message::Adopted(0));
-    t.s.step(2, &a, 2, 1, 0, 1);
+    t.s.step(2, &a, 2, 1, 0);
     t.s.ack(2, &a, 2, 1, 2, &Message::Stored(1023));
-    t.s.step(2, &a, 2, 1, 0, 0);
-    t.s.step(2, &a, 2, 1, 0, 1);
+    t.s.step(2, &a, 2, 1, 0);
     t.s.ack(2, &a, 2, 1, 2, &Message::Stored(5000));
-    t.s.step(2, &a, 2, 1, 0, 1);
+    t.s.step(2, &a, 2, 1, 0);
     t.new_epoch(2, &a, 3, 3, &[(1, 3)]);
     t.s.held(2, &a);
     t.s.node(2);
@@ -114,13 +113,13 @@ pub fn many_workers() -> Stream {
             t.remove(&a, node, 1);
         }
     }
-    t.s.step(1, &a, 1, 2, 0, 0);
-    t.s.step(1, &a, 1, 33, 0, 0);
+    t.s.step(1, &a, 1, 2, 0);
+    t.s.step(1, &a, 1, 33, 0);
     t.add(&a, 34, 9, 1);
     t.s.shown(1, 0);
     t.s.node(1);
-    t.s.step(1, &a, 1, 33, 0, 0);
-    t.s.step(1, &a, 1, 34, 0, 0);
+    t.s.step(1, &a, 1, 33, 0);
+    t.s.step(1, &a, 1, 34, 0);
     t.s.ack(1, &a, 1, 34, 0, &Message::Adopted(0));
     t.remove(&a, 34, 1);
     t.add(&a, 2, 9, 1);

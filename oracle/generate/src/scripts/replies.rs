@@ -28,10 +28,10 @@ pub fn replies() -> Stream {
                     t.s.ack(1, &a, 1, 2, 0, &Message::Adopted(through));
                 }
                 if waits {
-                    t.s.step(1, &a, 1, 2, 0, 0);
+                    t.s.step(1, &a, 1, 2, 0);
                 }
                 t.s.ack(1, &a, 1, 2, step, reply);
-                t.s.step(1, &a, 1, 2, 0, 0);
+                t.s.step(1, &a, 1, 2, 0);
             }
         }
     }

@@ -1,6 +1,6 @@
 //! What the Rust does and a reader easily misses.
 
-use wire::{Change, Command, Key, Message};
+use wire::{Change, Command, Entry, Key, Message};
 
 use super::{ONE, Script, put};
 use crate::stream::Stream;
@@ -13,7 +13,7 @@ pub fn settled() -> Stream {
     // A peer removed and added again gets no second worker; its row stays.
     t.remove(&a, 2, 1);
     t.s.shown(1, 0);
-    t.s.step(1, &a, 1, 2, 0, 0);
+    t.s.step(1, &a, 1, 2, 0);
     t.s.ack(1, &a, 1, 2, 0, &Message::Adopted(0));
     t.s.held(1, &a);
     // A late reply of the removed peer brings it into the ack set.
@@ -53,7 +53,7 @@ pub fn settled() -> Stream {
     t.s.now = 601;
     // The node's own outcome, and a step for itself.
     t.s.outcome(1, &a, 1, 1, 0x17, true);
-    t.s.step(1, &a, 1, 1, 0, 0);
+    t.s.step(1, &a, 1, 1, 0);
     t.s.held(1, &a);
     t.s.write(1, &a, 1, put(4, ONE));
     starting_over(&mut t, &a);
@@ -99,7 +99,8 @@ fn starting_over(t: &mut Script, a: &Key) {
     t.s.place(2, 9);
 }
 
-/// A lone entry of an older epoch in both forms, and the alignment after it.
+/// A lone entry of an older epoch, of the primary's own and of a newer one, and the alignment after
+/// the first.
 pub fn lone_entry() -> Stream {
     let (mut t, a) = Script::pair(1);
     t.s.write(1, &a, 1, put(1, ONE));
@@ -107,8 +108,7 @@ pub fn lone_entry() -> Stream {
     t.s.shown(1, 0);
     t.new_epoch(2, &a, 2, 1, &[(1, 1)]);
     t.s.ack(1, &a, 2, 2, 0, &Message::Adopted(0));
-    t.s.step(1, &a, 2, 2, 0, 0);
-    let copy = t.s.step(1, &a, 2, 2, 0, 1);
+    let copy = t.s.step(1, &a, 2, 2, 0);
     t.s.message(
         2,
         &Message::Replicate {
@@ -119,7 +119,7 @@ pub fn lone_entry() -> Stream {
         },
     );
     t.s.held(2, &a);
-    // The entry came under epoch 2, so the alignment cuts it off; as a CopyShard it stays.
+    // As a Replicate the entry came under epoch 2, so the alignment cuts it off; as a CopyShard it stays.
     for _ in 0..2 {
         t.new_epoch(2, &a, 2, 1, &[(1, 1)]);
         let bytes = crate::dome::unhex(copy.trim().trim_start_matches("copy "));
@@ -128,7 +128,31 @@ pub fn lone_entry() -> Stream {
     }
     t.s.ack(1, &a, 2, 2, 2, &Message::Stored(1));
     t.s.write(1, &a, 2, put(2, ONE));
-    t.s.step(1, &a, 2, 2, 0, 1);
+    t.s.step(1, &a, 2, 2, 0);
     t.s.held(1, &a);
+    // No run has an entry of an epoch above the primary's.
+    let newer = Entry {
+        epoch: 9,
+        offset: 2,
+        op: put(2, ONE),
+    };
+    t.s.message(
+        2,
+        &Message::CopyShard {
+            key: a.clone(),
+            epoch: 2,
+            entries: vec![newer],
+        },
+    );
+    t.promote(&a, 2, 2);
+    t.s.shown(2, 0);
+    t.s.ack(2, &a, 3, 1, 0, &Message::Adopted(1));
+    t.s.step(2, &a, 3, 1, 0);
+    t.s.ack(2, &a, 3, 1, 2, &Message::Stored(2));
+    t.s.write(2, &a, 3, put(3, ONE));
+    t.s.step(2, &a, 3, 1, 0);
+    t.s.ack(2, &a, 3, 1, 0, &Message::Adopted(1));
+    t.s.step(2, &a, 3, 1, 0);
+    t.s.held(2, &a);
     t.s
 }

@@ -21,7 +21,7 @@ impl Script {
 
     /// A step of node 1's worker for node 2, its request carried over and the reply back.
     fn carry(&mut self, key: &Key, epoch: u64) -> String {
-        let sent = self.s.step(1, key, epoch, 2, 0, 1);
+        let sent = self.s.step(1, key, epoch, 2, 0);
         let (kind, request) = sent.trim().split_once(' ').expect("a request");
         let step = ["align", "replicate", "copy"]
             .iter()
@@ -74,7 +74,7 @@ pub fn caught_up_during_shrink() -> Stream {
     t.s.outcome(1, &a, 1, 2, SHRINK, true);
     for now in [112, 900] {
         t.s.now = now;
-        t.s.step(1, &a, 1, 2, 0, 1);
+        t.s.step(1, &a, 1, 2, 0);
         t.s.write(1, &a, 1, put(2, ONE));
     }
     t.s.held(1, &a);

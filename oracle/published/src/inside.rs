@@ -1,0 +1,1 @@
+include!("../../datanode/src/inside.rs");
