@@ -39,7 +39,6 @@
 #define LEAST_IN_SYNC 2u /* an edit is taken only with so many in sync */
 #define EUCLIDEAN 0u     /* the metric of the one collection */
 #define INCARNATION 1u   /* of every node; in a run none starts over */
-#define OLDER_AS_COPY 1u /* the form of a worker's requests that the rules of a run ask for */
 
 #define TECHNICIAN 1u    /* client numbers all differ: the technician's, */
 #define NODE_CLIENT 100u /* and of each node this and its id */
@@ -444,7 +443,7 @@ static void take_step(struct node *n, struct worker *w)
 {
     uint8_t len[CATALOGUE_ANSWER];
     w->step = catalogue_step(LENT(n->header), LENT(n->stores), NAMED(w->key), w->epoch, w->peer, w->metric,
-                             OLDER_AS_COPY, LENT(w->request), LENT(len));
+                             LENT(w->request), LENT(len));
     if (w->step > CATALOGUE_STEP_COPY)
         expect("catalogue_step", w->step, CATALOGUE_STEP_WAIT);
     if (w->step == CATALOGUE_STEP_STOP)

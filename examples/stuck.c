@@ -15,7 +15,7 @@
 #define LENT(array) (array), sizeof(array)
 #define STARS (const uint8_t *)"stars", 5, 0
 
-enum { NODES = 2, LEASE = 10000, ACK_TIMEOUT = 100, TECHNICIAN = 1, PRIMARY = 2, OLDER_AS_COPY = 1, EUCLIDEAN = 0 };
+enum { NODES = 2, LEASE = 10000, ACK_TIMEOUT = 100, TECHNICIAN = 1, PRIMARY = 2, EUCLIDEAN = 0 };
 
 static uint8_t map[CATALOGUE_MAP], key[CATALOGUE_KEY];
 static uint8_t header[NODES][CATALOGUE_HEADER], stores[NODES][CATALOGUE_STORES], refused[CATALOGUE_REFUSED];
@@ -115,8 +115,8 @@ static void carry(uint32_t expected)
     static uint8_t request[CATALOGUE_REQUEST];
     uint8_t len[CATALOGUE_ANSWER], reply[CATALOGUE_REPLY];
     uint32_t (*call)(uint8_t *, size_t, uint8_t *, size_t, const uint8_t *, size_t, uint8_t *, size_t);
-    uint32_t step = catalogue_step(LENT(header[0]), LENT(stores[0]), STARS, epoch, 2, EUCLIDEAN, OLDER_AS_COPY,
-                                   LENT(request), LENT(len));
+    uint32_t step = catalogue_step(LENT(header[0]), LENT(stores[0]), STARS, epoch, 2, EUCLIDEAN, LENT(request),
+                                   LENT(len));
     call = step == CATALOGUE_STEP_ALIGN       ? catalogue_new_epoch
            : step == CATALOGUE_STEP_REPLICATE ? catalogue_replicate
                                               : catalogue_copy;
@@ -130,8 +130,7 @@ static void expect_nothing_to_send(void)
     static uint8_t request[CATALOGUE_REQUEST];
     uint8_t len[CATALOGUE_ANSWER];
     must("catalogue_step",
-         catalogue_step(LENT(header[0]), LENT(stores[0]), STARS, epoch, 2, EUCLIDEAN, OLDER_AS_COPY, LENT(request),
-                        LENT(len)),
+         catalogue_step(LENT(header[0]), LENT(stores[0]), STARS, epoch, 2, EUCLIDEAN, LENT(request), LENT(len)),
          CATALOGUE_STEP_WAIT);
 }
 

@@ -391,14 +391,13 @@ static void on_step(struct record *r)
     uint64_t epoch = take_u64(r);
     uint64_t peer = take_u64(r);
     uint8_t metric = take_u8(r);
-    uint8_t form = take_u8(r);
     if (!key.decodes) {
         refuse(CATALOGUE_UNDECODABLE);
         return;
     }
     uint32_t said =
         catalogue_step(n->header, sizeof n->header, n->stores, sizeof n->stores, key.name, key.length, key.shard, epoch,
-                       peer, metric, form, request, sizeof request, answer, sizeof answer);
+                       peer, metric, request, sizeof request, answer, sizeof answer);
     if (said > CATALOGUE_STEP_COPY) {
         refuse(said);
         return;
@@ -480,7 +479,7 @@ static const struct call calls[CALLS] = {
     [7] = {on_new_epoch, OF_NODE, 0, AT_LEAST},
     [8] = {on_copy, OF_NODE, 0, AT_LEAST},
     [9] = {on_wait, OF_NODE, CATALOGUE_KEY + 16, ALL},
-    [10] = {on_step, OF_NODE, CATALOGUE_KEY + 18, ALL},
+    [10] = {on_step, OF_NODE, CATALOGUE_KEY + 17, ALL},
     [11] = {on_ack, OF_NODE, CATALOGUE_KEY + 17, AT_LEAST},
     [12] = {on_outcome, OF_NODE, CATALOGUE_KEY + 18, ALL},
     [13] = {on_held, OF_NODE, CATALOGUE_KEY, ALL},

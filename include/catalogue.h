@@ -43,7 +43,7 @@ extern "C" {
 /* ---- version: MAJOR.MINOR.PATCH (CHANGELOG.md). A later one is the larger number */
 
 #define CATALOGUE_VERSION_MAJOR 0
-#define CATALOGUE_VERSION_MINOR 2
+#define CATALOGUE_VERSION_MINOR 3
 #define CATALOGUE_VERSION_PATCH 0
 #define CATALOGUE_VERSION 2000u /* MAJOR * 1,000,000 + MINOR * 1,000 + PATCH */
 
@@ -214,13 +214,12 @@ uint32_t catalogue_copy(uint8_t *header, size_t header_len, uint8_t *stores, siz
 #define CATALOGUE_STEP_COPY 4u
 
 /* The step of the worker for a peer, as it was started: one of the five numbers above. Of the last three the request
- * stands in `request` and its length in `answer`, which is 0 beside wait and stop. `form` 0 sends one entry as
- * Replicate; 1 sends a lone entry of an older epoch as CopyShard, as the rules of a run ask. 21 the name, the metric or
- * the form; 23, 24. */
+ * stands in `request` and its length in `answer`, which is 0 beside wait and stop. One entry of the primary's epoch goes
+ * as Replicate; one of another epoch, which keeps it that way, and several go as CopyShard. 21 the name or the metric;
+ * 23, 24. */
 uint32_t catalogue_step(const uint8_t *header, size_t header_len, const uint8_t *stores, size_t stores_len,
                         const uint8_t *name, size_t name_len, uint32_t shard, uint64_t epoch, uint64_t peer,
-                        uint8_t metric, uint8_t form, uint8_t *request, size_t request_len, uint8_t *answer,
-                        size_t answer_len);
+                        uint8_t metric, uint8_t *request, size_t request_len, uint8_t *answer, size_t answer_len);
 
 /* A peer's reply to the request of a step, CATALOGUE_STEP_ALIGN, .._REPLICATE or .._COPY. 0 noted; 1 an Expand is to be
  * proposed for the peer; 21, 24, 26. */

@@ -658,7 +658,7 @@ static void for_step(void)
 static uint32_t call_step(uint8_t *base)
 {
     return catalogue_step(GIVEN(header), lent_stores(base), lent_length, GIVEN(name), shard, numbers[0], numbers[1],
-                          (uint8_t)numbers[2] & 1, (uint8_t)numbers[3] & 1, GIVEN(wide), GIVEN(answer));
+                          (uint8_t)numbers[2] & 1, GIVEN(wide), GIVEN(answer));
 }
 
 static void for_ack(void)

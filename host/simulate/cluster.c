@@ -11,7 +11,7 @@
 #include "catalogue_images.h"
 #include "catalogue_words.h"
 
-enum { INCARNATION = 1, LEASE = 200, ACK_TIMEOUT = 20, CLOCK_MOST = 15, OLDER_AS_COPY = 1, IDS = 12, K_MOST = 8 };
+enum { INCARNATION = 1, LEASE = 200, ACK_TIMEOUT = 20, CLOCK_MOST = 15, IDS = 12, K_MOST = 8 };
 
 /* Client numbers all differ: who promotes, and each node. */
 enum { PROMOTER = 1, NODE_CLIENT = 100 };
@@ -468,7 +468,7 @@ static const char *worker_steps(const struct event *e)
         return NULL;
     struct node *n = node_of(node);
     uint32_t said = catalogue_step(LENT(n->header), LENT(n->stores), NAMED(cluster.keys[shard]), w->epoch, peer,
-                                   w->metric, OLDER_AS_COPY, LENT(l->bytes), LENT(len));
+                                   w->metric, LENT(l->bytes), LENT(len));
     if (said > CATALOGUE_STEP_COPY)
         return unwanted("catalogue_step", said);
     w->runs = said != CATALOGUE_STEP_STOP;

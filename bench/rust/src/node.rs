@@ -277,7 +277,6 @@ impl Engine {
                 EPOCH,
                 2,
                 0,
-                1,
                 self.out.as_mut_ptr(),
                 self.out.len(),
                 self.answer.as_mut_ptr(),

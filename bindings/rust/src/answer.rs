@@ -170,13 +170,6 @@ pub enum Step {
     Send(Sent, Vec<u8>),
 }
 
-/// How a lone entry of an older epoch goes.
-#[derive(Clone, Copy, Debug, PartialEq, Eq)]
-pub enum Form {
-    Replicate,
-    OlderAsCopy,
-}
-
 /// What a primary proposes to the map.
 #[derive(Clone, Copy, Debug, PartialEq, Eq)]
 pub enum Proposal {

@@ -9,7 +9,7 @@ mod position;
 pub mod sys;
 
 pub use answer::{
-    Form, Key, Metric, Neighbor, Outcome, Proposal, Refusal, Sent, Step, Waited, Worker,
+    Key, Metric, Neighbor, Outcome, Proposal, Refusal, Sent, Step, Waited, Worker,
 };
 pub use map::{MAP, Map};
 pub use node::{HEADER, Node, STORES};

@@ -1,6 +1,6 @@
 //! A data node: its header, its eight stores, and the count of refused client calls.
 
-use crate::answer::{Form, Key, Metric, Neighbor, Proposal, Refusal, Sent, Step, Waited, Worker};
+use crate::answer::{Key, Metric, Neighbor, Proposal, Refusal, Sent, Step, Waited, Worker};
 use crate::map::{Map, numbers};
 use crate::{number, sys};
 
@@ -241,7 +241,7 @@ impl Node {
     }
 
     /// The next step of a worker, as [`Node::show_map`] started it.
-    pub fn step(&self, worker: &Worker, form: Form) -> Result<Step, Refusal> {
+    pub fn step(&self, worker: &Worker) -> Result<Step, Refusal> {
         let mut request = vec![0; 39472];
         let mut answer = [0; 8];
         // SAFETY: pointers and lengths are those of five slices that do not overlap.
@@ -257,7 +257,6 @@ impl Node {
                 worker.epoch,
                 worker.peer,
                 worker.metric.code(),
-                u8::from(form == Form::OlderAsCopy),
                 request.as_mut_ptr(),
                 request.len(),
                 answer.as_mut_ptr(),

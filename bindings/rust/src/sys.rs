@@ -136,7 +136,6 @@ unsafe extern "C" {
         epoch: u64,
         peer: u64,
         metric: u8,
-        form: u8,
         request: *mut u8,
         request_len: usize,
         answer: *mut u8,

@@ -1,6 +1,6 @@
 //! A write goes from a client to two nodes and is acknowledged; what is refused changes nothing.
 
-use catalogue::{Form, Key, Map, Neighbor, Node, Outcome, Refusal, Sent, Step, Worker};
+use catalogue::{Key, Map, Neighbor, Node, Outcome, Refusal, Sent, Step, Worker};
 
 const LEASE: u64 = 1_000;
 
@@ -108,7 +108,7 @@ fn dome() -> (Map, Node, Node, Worker) {
 
 /// The worker's steps until it has nothing to send.
 fn catch_up(from: &mut Node, to: &mut Node, worker: &Worker) {
-    while let Step::Send(sent, message) = from.step(worker, Form::OlderAsCopy).unwrap() {
+    while let Step::Send(sent, message) = from.step(worker).unwrap() {
         let reply = match sent {
             Sent::Align => to.new_epoch(&message),
             Sent::Replicate => to.replicate(&message),

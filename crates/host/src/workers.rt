@@ -10,11 +10,10 @@ pub extern "C" fn catalogue_step(
     epoch: u64,
     peer: u64,
     metric: u8,
-    form: u8,
     request: &mut [u8],
     answer: &mut [u8],
 ) -> u32
-    ensures { λ r. ⌜ StepsImage (now (header .entry)) (now (stores .entry)) (asking (now (name .entry)) shard epoch peer metric form)
+    ensures { λ r. ⌜ StepsImage (now (header .entry)) (now (stores .entry)) (asking (now (name .entry)) shard epoch peer metric)
         (outputs (now (request .entry)) (now (answer .entry))) (outputs (now (request .exit)) (now (answer .exit))) r ⌝ }
 {
     workercalls::step(
@@ -25,7 +24,6 @@ pub extern "C" fn catalogue_step(
         epoch,
         peer,
         metric,
-        form,
         request,
         answer,
     )
