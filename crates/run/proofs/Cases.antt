@@ -6,6 +6,7 @@ pub mod Promotion
 pub mod ShrinkExpand
 pub mod Loss
 pub mod OlderEntry
+pub mod LoneEntry
 pub mod OutcomeOnce
 pub mod Lost
 pub mod SeqOnce

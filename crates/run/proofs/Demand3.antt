@@ -24,6 +24,7 @@ use Rattle.run.proofs.Protocol.Base.{all-nth}
 use Rattle.run.proofs.Protocol.Sets.{In}
 use Rattle.run.proofs.Protocol.State as proto
 use Rattle.run.proofs.Protocol.Run as protocol
+use Rattle.run.proofs.Protocol.Written.{KnownAt, known-run, known-first}
 use Rattle.run.proofs.Simulation.Lists.{nth-map}
 use Rattle.run.proofs.Simulation.Relation.{World, HeldSim, WriteKey, acknowledgedOf, Sim}
 use Rattle.run.proofs.Simulation.AtNode.{shard-found, log-facts}
@@ -87,6 +88,7 @@ pub record Invariant (w : World) (s : State) : Type 0 where
   pub abstract : proto.State
   pub related : Sim w s abstract
   pub kept : protocol.Inv abstract
+  pub known : KnownAt abstract
 
 module _ (s : State) (f : Fresh s) where
   -- what never changes in the run: key, holders, metric
@@ -100,11 +102,12 @@ module _ (s : State) (f : Fresh s) where
       let i = f .shard in
       let c = f .created in
       let r = on-run worldOf s (start m i c) (at-start s f) es t in
+      let v = protocol.at-first (c .metric .0) (first m i c) (others m i c (i .replicas)) in
       record {
         abstract = proto.run (start m i c) (r .0);
         related = r .1;
-        kept =
-            protocol.on-run (start m i c) (r .0) (protocol.at-first (c .metric .0) (first m i c) (others m i c (i .replicas)));
+        kept = protocol.on-run (start m i c) (r .0) v;
+        known = known-run (start m i c) (r .0) v (known-first (c .metric .0) (first m i c) (others m i c (i .replicas)));
       }
 
 -- demand 3

@@ -1,20 +1,24 @@
 -- Demand 3 applied to a run that the checker computes: the write that node 1 acknowledged before the promotion stands in the log of node
 -- 2, and node 2's vectors are its log played. The run keeps the paper's rules to the letter, and the theorem about these is put to it too.
--- Assumes nothing.
-use mathlib.Core.Path.{_≡_, refl, sym, subst}
+-- Request 2.5 is applied to a run in which a lone entry of epoch 1 goes to node 2 at epoch 2. Assumes nothing.
+use mathlib.Core.Path.{_≡_, refl, sym, ap, subst}
 use mathlib.Core.Bool.{true}
+use mathlib.Core.List.{[], _∷_}
+use mathlib.Core.Option.{some}
 use Rattle.model.specs.Lists.{nth}
-use Rattle.model.specs.Log.{play}
+use Rattle.model.specs.Log.{Entry, Log, entryAt, play}
 use Rattle.model.specs.Map.Tables.{ShardInfo}
 use Rattle.run.specs.Rules.{allowedRun}
 use Rattle.run.specs.Paper.{freshHistory, paperRun}
-use Rattle.run.specs.Claim.{Durable, Stands, logOf, vectorsOf}
+use Rattle.run.specs.Claim.{Durable, Stands, Alike, Origin, Written, logOf, vectorsOf}
 use Rattle.run.proofs.Demand3.{durable}
-use Rattle.run.proofs.Cases.Start.{start, key, wrote}
+use Rattle.run.proofs.Entries.{alike, written}
+use Rattle.run.proofs.Cases.Start.{start, key, wrote, entry}
 use Rattle.run.proofs.Cases.Fresh.{start-fresh, start-shard}
 use Rattle.run.proofs.Cases.Promotion.{events, end, may-happen, acknowledged, in-sync}
-use Rattle.run.proofs.Cases.OfPaper.{seqs, seqs-rise, promotion-of-paper}
-use Rattle.run.proofs.Paper.Allowed.{paper-allowed, paper-durable}
+use Rattle.run.proofs.Cases.LoneEntry as lone
+use Rattle.run.proofs.Cases.OfPaper.{seqs, seqs-rise, promotion-of-paper, lone-of-paper}
+use Rattle.run.proofs.Paper.Allowed.{paper-allowed, paper-durable, paper-alike, paper-written}
 
 kept : Durable end
 unfolding end
@@ -25,6 +29,29 @@ first-stands = kept .stands (wrote 1 1 1 41) 0 (rw acknowledged (unfold nth in r
 
 pub played : vectorsOf (end .nodes 2) key ≡ play (logOf (end .nodes 2) key)
 played = kept .played key 2 in-sync
+
+-- ---- request 2.5
+
+-- the one entry of a log stands at offset 1
+one-entry : (l : Log) (x : Entry) → l ≡ x ∷ [] → entryAt l 1 ≡ some x
+unfolding entryAt nth
+one-entry l x e = ap (λ (v : Log). entryAt v 1) e
+
+at-first : entryAt (logOf (lone.end .nodes 1) key) 1 ≡ some (entry 1 1 41)
+at-first = one-entry (logOf (lone.end .nodes 1) key) (entry 1 1 41) lone.sent
+
+at-second : entryAt (logOf (lone.end .nodes 2) key) 1 ≡ some (entry 1 1 41)
+at-second = one-entry (logOf (lone.end .nodes 2) key) (entry 1 1 41) lone.stored
+
+-- the entry that came as CopyShard is that of the primary
+pub same-entry : (x : Entry) → entryAt (logOf (lone.end .nodes 2) key) 1 ≡ some x → x .epoch ≡ 1 → x ≡ entry 1 1 41
+unfolding lone.end
+same-entry x p e = alike start start-fresh lone.events lone.may-happen .entries key 2 1 1 x (entry 1 1 41) p at-first e
+
+-- and the Write that node 1 accepted at epoch 1
+pub first-written : Origin lone.end key 1 (entry 1 1 41)
+unfolding lone.end
+first-written = written start start-fresh lone.events lone.may-happen .entries key 2 1 (entry 1 1 41) at-second
 
 -- ---- the paper's rules
 
@@ -37,3 +64,15 @@ allowed-too = paper-allowed seqs seqs-rise start start-fresh events of-paper
 pub kept-too : Durable end
 unfolding end
 kept-too = paper-durable seqs seqs-rise start start-fresh events of-paper
+
+-- of the run with the lone entry too
+lone-paper : paperRun seqs start (freshHistory start (start-fresh .shard)) lone.events ≡ true
+lone-paper = subst (λ (i : ShardInfo). paperRun seqs start (freshHistory start i) lone.events ≡ true) (sym start-shard) lone-of-paper
+
+pub alike-too : Alike lone.end
+unfolding lone.end
+alike-too = paper-alike seqs seqs-rise start start-fresh lone.events lone-paper
+
+pub written-too : Written lone.end
+unfolding lone.end
+written-too = paper-written seqs seqs-rise start start-fresh lone.events lone-paper

@@ -22,3 +22,4 @@ pub mod OnHear
 pub mod OrderKept
 pub mod OrderNodes
 pub mod Run
+pub mod Written

@@ -55,3 +55,25 @@ pub record Durable (s : State) : Type 0 where
       → (n : ℕ) → inSyncAt (s .map) (w .key) n ≡ true → Stands w (logOf (s .nodes n) (w .key))
   pub played : (k : Key) (n : ℕ) → inSyncAt (s .map) k n ≡ true
       → vectorsOf (s .nodes n) k ≡ play (logOf (s .nodes n) k)
+
+-- request 2.5, of one state: entries of any two nodes with equal offset and epoch are equal, in sync or not. Who holds nothing has an empty
+-- log
+pub record Alike (s : State) : Type 0 where
+  pub entries : (k : Key) (n m o : ℕ) (x y : Entry) → entryAt (logOf (s .nodes n) k) o ≡ some x → entryAt (logOf (s .nodes m) k) o ≡ some y
+      → x .epoch ≡ y .epoch → x ≡ y
+
+-- the entry at an offset is an accepted Write
+pub record Origin (s : State) (k : Key) (o : ℕ) (x : Entry) : Type 0 where
+  pub place : ℕ
+  pub write : Write
+  pub found : nth (s .accepted) place ≡ some write
+  pub key : write .key ≡ k
+  pub epoch : write .epoch ≡ x .epoch
+  pub offset : write .offset ≡ o
+  pub numbered : x .offset ≡ o
+  pub op : write .op ≡ x .op
+
+-- request 2.5, of one state: an entry's epoch never changes on the way. Each entry of any log is a Write that was accepted in that epoch,
+-- at that offset, with that operation
+pub record Written (s : State) : Type 0 where
+  pub entries : (k : Key) (n o : ℕ) (x : Entry) → entryAt (logOf (s .nodes n) k) o ≡ some x → Origin s k o x

@@ -1,5 +1,6 @@
 pub mod State
 pub mod Event
+pub mod Source
 pub mod Step
 pub mod Rules
 pub mod Fresh

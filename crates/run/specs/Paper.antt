@@ -4,7 +4,7 @@
 --
 -- What the step does itself (Step.antt) is not said again: each call gets what the last one left, a shown map is the map of that moment, a
 -- request that arrives is the call of its kind, its answer goes back, what has arrived or is lost is under way no more, a timeout is the
--- outcome and none follows it, a lone older entry goes as CopyShard. That a worker has stopped since it was started is not asked.
+-- outcome and none follows it. How a lone older entry goes is no rule of a run since request 2.5. That a worker has stopped since it was started is not asked.
 use Prim.Native.Nat.{ℕ, suc, _<_}
 use mathlib.Core.Bool.{Bool, true, false, cond}
 use mathlib.Core.List.{List, [], _∷_, _++_, map}

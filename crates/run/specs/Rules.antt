@@ -4,7 +4,8 @@
 --
 -- In the step itself: each call gets what the last one left; a shown map is the map of that moment; a wait names an accepted write; a
 -- request that arrives is the call of its kind, and its answer goes back unless it is a refusal number; a proposal and its outcome each
--- arrive once or never, a timeout is that outcome, and none follows it; a lone older entry goes as CopyShard; nothing repeats.
+-- arrive once or never, a timeout is that outcome, and none follows it; nothing repeats. How a lone older entry goes is the worker's to choose
+-- (request 2.5) and no rule.
 --
 -- Dropped: indexes rise; seqs rise, and client numbers differ (kept of both: a proposal's seq is not the one that the map remembers for
 -- its client, so that the map never answers it from memory); Promote comes under a client number of its own; a worker's step names a

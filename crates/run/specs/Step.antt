@@ -20,7 +20,6 @@ use Rattle.model.specs.Node.Wire.{storedOp}
 use Rattle.model.specs.Node.Client as client
 use Rattle.model.specs.Node.Client.{WriteAnswer, WaitAnswer}
 use Rattle.model.specs.Node.Backup.{BackupAnswer, replied, backupRefused}
-use Rattle.model.specs.Node.Worker as worker
 use Rattle.model.specs.Node.Ack.{Sent, sentAlign, sentReplicate, sentCopy, AckAnswer, noted, expand, ackRefused, Proposal, shrink, grow}
 use Rattle.model.specs.Node.Calls.{callWrite, callSearch, callReplicate, callNewEpoch, callCopy, callGrant, callWait, callRequest, RequestAnswer, unsent, written, requestRefused, callAck, callOutcome, callShown}
 use Rattle.model.specs.declared.DataNodeId.{DataNodeId}
@@ -130,10 +129,10 @@ posted s n k epoch peer (written bytes) =
     setRequests s n peer
     (s .requests n peer ++ (record { sent = sentOf bytes; key = k; epoch = epoch; bytes = bytes } ∷ []))
 
--- 'Messages': an Align or Send puts its request under way; a lone entry with an epoch below the primary's goes as CopyShard
+-- 'Messages': an Align or Send puts its request under way
 unfoldable pub onWork : State → (node : ℕ) → Key → (epoch peer : ℕ) → Metric → (room : ℕ) → State
 onWork s n k epoch peer metric room =
-    posted s n k epoch peer (callRequest (s .nodes n) room k epoch peer metric worker.olderAsCopy)
+    posted s n k epoch peer (callRequest (s .nodes n) room k epoch peer metric)
 
 -- 'Messages': a request that arrives is the call of its kind
 unfoldable pub heard : Node → Sent → List ℕ → Result BackupAnswer Node

@@ -1,6 +1,6 @@
 -- What stands between a write and its loss: each of these, taken away, loses an acknowledged write in some run (docs/LOST-WRITES.md).
 -- Assumes nothing.
-use Prim.Native.Nat.{ℕ, _≤_, _<_}
+use Prim.Native.Nat.{ℕ, _≤_}
 use mathlib.Core.Path.{_≡_, refl, ap}
 use mathlib.Core.Bool.{Bool, true, false, not}
 use borrow.Author.Tests.{ne-eqb, leb-true}

@@ -1,4 +1,5 @@
--- Every run that keeps the paper's rules to the letter is one that Rules.antt allows, and so demand 3 holds of it. Assumes nothing.
+-- Every run that keeps the paper's rules to the letter is one that Rules.antt allows, and so demand 3 and request 2.5 hold of it. Assumes
+-- nothing.
 use Prim.Native.Nat.{ℕ, _≤_}
 use mathlib.Core.Path.{_≡_, refl, sym, ap, subst, _∙_}
 use mathlib.Core.Bool.{Bool, true, false, not}
@@ -27,7 +28,7 @@ use Rattle.run.specs.Step.{removed, unawaited}
 use Rattle.run.specs.Rules as rules
 use Rattle.run.specs.Rules.{isBytes, isU64, isPromote, notLast, freshSeq, allowed, allowedRun}
 use Rattle.run.specs.Fresh.{Fresh}
-use Rattle.run.specs.Claim.{Durable}
+use Rattle.run.specs.Claim.{Durable, Alike, Written}
 use Rattle.run.specs.Paper.{Turn, Commanded, History, Seqs, Rising, before, startsOf, startedAt, freshHistory, promoted, taken, made, remember, noNodes, ownOf, promotes, proposes, isWorker, sameMetric, oldest, paper, paperRun}
 use Rattle.run.specs.Event.{
   Event,
@@ -60,6 +61,7 @@ use Rattle.run.proofs.Simulation.Commands as commands
 use Rattle.run.proofs.Simulation.Start.{start, at-start}
 use Rattle.run.proofs.Simulation.Steps.{on-event}
 use Rattle.run.proofs.Demand3.{worldOf, durable}
+use Rattle.run.proofs.Entries.{alike, written}
 use Rattle.run.proofs.Paper.Workers.{all-append, Other, OtherPeer, own-number, no-shard, started-other, first-other}
 use Rattle.run.proofs.Paper.Turns.{Known}
 use Rattle.run.proofs.Paper.Kept.{Inv, unused, promoted-known, taken-known, taken-counted, quiet, makes, renamed}
@@ -299,3 +301,10 @@ module _ (q : Seqs) (rising : Rising q) (s : real.State) (f : Fresh s) where
   -- so demand 3 holds of it
   pub paper-durable : (es : List Event) → paperRun q s (freshHistory s (f .shard)) es ≡ true → Durable (step.run s es)
   paper-durable es t = durable s f es (paper-allowed es t)
+
+  -- and request 2.5
+  pub paper-alike : (es : List Event) → paperRun q s (freshHistory s (f .shard)) es ≡ true → Alike (step.run s es)
+  paper-alike es t = alike s f es (paper-allowed es t)
+
+  pub paper-written : (es : List Event) → paperRun q s (freshHistory s (f .shard)) es ≡ true → Written (step.run s es)
+  paper-written es t = written s f es (paper-allowed es t)

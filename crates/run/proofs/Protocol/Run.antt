@@ -273,6 +273,17 @@ module _ (s : State) (v : Inv s) where
       at-agree (w .offset) (h .book (w .epoch)) (s .nodes m .replica .log) d
       (covers (w .epoch) (w .offset) m (r .0) (r .1) (c .under) (f .0) (rw (k .map .sync) j)) (c .stands)
 
+  -- an entry of any log is that of its own epoch's at that place
+  in-book : (n i : ℕ) (x : Entry) → nth (s .nodes n .replica .log) i ≡ some x → nth (h .book (x .epoch)) i ≡ some x
+  in-book n i x q = k .book .own (s .nodes n .replica .epoch) i x (k .nodes n .within i x q)
+
+  pub entries-alike : (n m o : ℕ) (x y : Entry) → entryAt (s .nodes n .replica .log) o ≡ some x → entryAt (s .nodes m .replica .log) o ≡ some y
+      → x .epoch ≡ y .epoch → x ≡ y
+  unfolding entryAt
+  entries-alike n m zero x y p q same = none-some p
+  entries-alike n m (suc i) x y p q same =
+      nth-same (h .book (y .epoch)) i x y (subst (λ (d : ℕ). nth (h .book d) i ≡ some x) same (in-book n i x p)) (in-book m i y q)
+
   pub vectors-played : (m : ℕ) → s .nodes m .replica .vectors ≡ play (s .nodes m .replica .log)
   vectors-played m = k .nodes m .played
 

@@ -103,6 +103,13 @@ module _ {A B : Type 0} (f : A → B) where
   nth-map (y ∷ ys) zero x e = ap (λ (z : A). some (f z)) (some-same e)
   nth-map (y ∷ ys) (suc i) x e = nth-map ys i x e
 
+  -- and back: what it was made from
+  pub nth-made : (l : List A) (i : ℕ) (y : B) → nth (map f l) i ≡ some y → (x : A) × (nth l i ≡ some x) × (f x ≡ y)
+  unfolding nth
+  nth-made [] i y e = nth-nil i y e
+  nth-made (x ∷ xs) zero y e = (x, refl, some-same e)
+  nth-made (x ∷ xs) (suc i) y e = nth-made xs i y e
+
   pub removed-map : (l : List A) (i : ℕ) → map f (removed l i) ≡ removeAt (map f l) i
   unfolding removed removeAt
   removed-map [] i = refl

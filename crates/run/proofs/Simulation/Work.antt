@@ -9,7 +9,7 @@ use mathlib.Core.Option.{Option, some}
 use native.Mathlib.Omega.{arith}
 use lib.Dec.{eqb, ltb}
 use lib.ListN.{length, take, drop, length-take}
-use borrow.Author.Tests.{eqb-false, not-true, not-false, ltb-false}
+use borrow.Author.Tests.{eqb-true, eqb-false, not-true, not-false}
 use Rattle.model.specs.Keys.{Key}
 use Rattle.model.specs.Limits.{maxU64, maxEntries, maxBatch, maxTable}
 use Rattle.model.specs.Lists.{nth, any, find}
@@ -24,7 +24,7 @@ use Rattle.model.specs.Node.Held.{Held}
 use Rattle.model.specs.Node.Shards.{leadsAt, ofNode, onNode}
 use Rattle.model.specs.Node.Wire.{wireOp, wireEntry}
 use Rattle.model.specs.Node.Worker as worker
-use Rattle.model.specs.Node.Worker.{Step, sendOf, stepRow, stepHeld, stepAt, onStep, olderAsCopy, Message, newEpochMessage, messageBytes, endOffset, copies, copyOf, loneOf, sending, requestHeld, requestAt, onRequest}
+use Rattle.model.specs.Node.Worker.{Step, sendOf, stepRow, stepHeld, stepAt, onStep, Message, newEpochMessage, messageBytes, endOffset, copies, copyOf, loneOf, sending, requestHeld, requestAt, onRequest}
 use Rattle.model.specs.Node.Calls.{RequestAnswer, unsent, written, writtenIn, requestOf, requestWith, callRequest}
 use Rattle.model.specs.Node.WellFormed.{wellFormedLent}
 use Rattle.model.specs.declared.Metric.{Metric}
@@ -107,7 +107,7 @@ module _ (w : World) (s : real.State) (a : State) (k : Sim w s a) (n : ℕ) (key
     abbrev aligning : message.NewEpoch
     aligning = worker.alignment h epoch metric
 
-    aligns : l .aligned peer ≡ false → Goal (writtenIn room (requestHeld olderAsCopy epoch metric h worker.align))
+    aligns : l .aligned peer ≡ false → Goal (writtenIn room (requestHeld epoch metric h worker.align))
     unfolding requestHeld messageBytes
     aligns loose = fits-in (newEpochMessage aligning)
         (puts (encodeNewEpoch aligning) (proto.align epoch (l .end) (l .table)) (proto.alignment n peer) moved sim)
@@ -225,13 +225,13 @@ module _ (w : World) (s : real.State) (a : State) (k : Sim w s a) (n : ℕ) (key
           }))
 
       -- one entry of the epoch itself
-      goes-alone : (e : Entry) → es ≡ e ∷ [] → copies olderAsCopy epoch (e .epoch) ≡ false → Goal (writtenIn room (some (loneOf (h .key) epoch e)))
+      goes-alone : (e : Entry) → es ≡ e ∷ [] → copies epoch (e .epoch) ≡ false → Goal (writtenIn room (some (loneOf (h .key) epoch e)))
       unfolding messageBytes step.sentOf encodeReplicate
       goes-alone e q t =
           let o : Batch epoch (e ∷ []) = subst (Batch epoch) q ok in
           let rd : Ready epoch e = subst (All (Ready epoch)) q all-ready .0 in
           let back = op-back (e .op) (rd .formed) (rd .id) in
-          let level : e .epoch ≡ epoch = (let u = rd .upto in let v = ltb-false (e .epoch) epoch t in omega arith) in
+          let level : e .epoch ≡ epoch = eqb-true (e .epoch) epoch (not-false (eqb (e .epoch) epoch) t) in
           let m : message.Replicated = record { key = h .key; epoch = epoch; offset = e .offset; op = wireOp (e .op) } in
           let low = rd .offset in
           let good : GoodReplicated m = (good-key, u64-of epoch upto, omega arith, back .good) in
@@ -260,27 +260,27 @@ module _ (w : World) (s : real.State) (a : State) (k : Sim w s a) (n : ℕ) (key
           one : ℕ → Op → Log
           one d v = record { epoch = d; offset = e .offset; op = v } ∷ []
 
-      sends : (v : Log) → es ≡ v → Goal (writtenIn room (sending olderAsCopy (h .key) epoch v))
+      sends : (v : Log) → es ≡ v → Goal (writtenIn room (sending (h .key) epoch v))
       unfolding sending
       sends [] q = idle
       sends (e ∷ []) q =
-          by-test (λ (m : Message). Goal (writtenIn room (some m))) (copies olderAsCopy epoch (e .epoch)) (λ t. copies-out e [] q)
+          by-test (λ (m : Message). Goal (writtenIn room (some m))) (copies epoch (e .epoch)) (λ t. copies-out e [] q)
           (λ t. goes-alone e q t)
       sends (e ∷ d ∷ r) q = copies-out e (d ∷ r) q
 
     -- ---- the step of an aligned row
 
     row-step : (p : Peer) → find (ofNode peer) (h .peers) ≡ some p
-        → Goal (writtenIn room (requestHeld olderAsCopy epoch metric h (stepRow log (some p))))
+        → Goal (writtenIn room (requestHeld epoch metric h (stepRow log (some p))))
     unfolding stepRow
     row-step p here =
         let row = c .rows .row peer p here in
-        by-test (λ (z : Step). Goal (writtenIn room (requestHeld olderAsCopy epoch metric h z))) (p .aligned)
+        by-test (λ (z : Step). Goal (writtenIn room (requestHeld epoch metric h z))) (p .aligned)
         (λ t. go (p .acked .0 + 1) (entriesFrom log (p .acked .0 + 1) maxBatch) refl (sym (row .aligned) ∙ t))
         (λ t. aligns (sym (row .aligned) ∙ t))
       where
         go : (first : ℕ) (v : Log) → entriesFrom log first maxBatch ≡ v → l .aligned peer ≡ true
-            → Goal (writtenIn room (requestHeld olderAsCopy epoch metric h (sendOf first v)))
+            → Goal (writtenIn room (requestHeld epoch metric h (sendOf first v)))
         go first [] q t = unfold requestHeld in idle
         go first (e ∷ r) q t =
             unfold requestHeld in
@@ -291,18 +291,18 @@ module _ (w : World) (s : real.State) (a : State) (k : Sim w s a) (n : ℕ) (key
                 subst (λ (v : Log). length v ≤ maxBatch) q
                 (unfold entriesFrom in (let p = length-take maxBatch (drop (max first 1 - 1) log) in omega arith))
 
-    steps : Goal (writtenIn room (requestHeld olderAsCopy epoch metric h (stepRow log (find (ofNode peer) (h .peers)))))
+    steps : Goal (writtenIn room (requestHeld epoch metric h (stepRow log (find (ofNode peer) (h .peers)))))
     steps =
         let r = any-find (ofNode peer) (h .peers) (c .rows .has peer holder (λ e. eqb-false n peer ne (sym e))) in
-        subst (λ (o : Option Peer). Goal (writtenIn room (requestHeld olderAsCopy epoch metric h (stepRow log o)))) (sym (r .1))
+        subst (λ (o : Option Peer). Goal (writtenIn room (requestHeld epoch metric h (stepRow log o)))) (sym (r .1))
         (row-step (r .0) (r .1))
 
   -- the step at the held shard
   at-held : (h : Held) → x .held ≡ h ∷ [] → HeldSim w top n h b → key ≡ w .key
-      → Goal (writtenIn room (requestHeld olderAsCopy epoch metric h (stepHeld epoch peer h)))
+      → Goal (writtenIn room (requestHeld epoch metric h (stepHeld epoch peer h)))
   unfolding stepHeld requestHeld holds
   at-held h is hs same =
-      let P : Step → Type 0 = λ z. Goal (writtenIn room (requestHeld olderAsCopy epoch metric h z)) in
+      let P : Step → Type 0 = λ z. Goal (writtenIn room (requestHeld epoch metric h z)) in
       by-test P (not (leadsAt (h .role) epoch)) (λ t. idle)
       (λ t. by-test P (not (any (onNode peer) (h .holders))) (λ u. idle)
       (λ u. let c = leads w top n (h .role) (h .replica) (h .peers) (b .role) (hs .role) epoch (not-false (leadsAt (h .role) epoch) t) in
@@ -313,7 +313,7 @@ module _ (w : World) (s : real.State) (a : State) (k : Sim w s a) (n : ℕ) (key
   unfolding step.onWork callRequest requestWith requestOf onRequest onStep
   worked =
       by-test Goal (not (wellFormedLent x key)) (λ t. unfold step.posted in stays w s a k)
-      (λ t. shard-cases w top n x b (k .nodes n) (λ o. Goal (writtenIn room (requestAt olderAsCopy epoch metric (stepAt epoch peer o) o))) key idle
+      (λ t. shard-cases w top n x b (k .nodes n) (λ o. Goal (writtenIn room (requestAt epoch metric (stepAt epoch peer o) o))) key idle
       (λ y h is hs same. at-held h is hs same))
 
 pub on-work : (w : World) (s : real.State) (a : State) → Sim w s a → (n : ℕ) (key : Key) (epoch peer : ℕ) (metric : Metric) (room : ℕ)
