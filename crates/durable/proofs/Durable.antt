@@ -1,6 +1,7 @@
 -- Demand 3, of the calls themselves: in every run of the engine's calls that the rules allow, from every engine that is read as fresh, each
 -- acknowledged write stands in the log of every node that the map lists in sync, with its offset and its operation, and that node's
--- vectors are its log played from the start. Assumes nothing.
+-- vectors are its log played from the start. Request 2.5 too: entries of equal offset and epoch are equal, and every entry is a Write that
+-- was accepted in its epoch. Assumes nothing.
 use mathlib.Core.Path.{_≡_, refl, sym, ap, subst, _∙_}
 use mathlib.Core.Bool.{true, false}
 use mathlib.Core.List.{List, [], _∷_}
@@ -28,11 +29,12 @@ use Rattle.run.specs.Event.{
   outcomeLost,
   outcomeTimesOut,
 }
-use Rattle.run.specs.Rules.{allowed}
-use Rattle.run.specs.Step.{step, onRequestLost, onReplyLost, onOfferLost, givenUp, onOfferTimeout, onOutcomeLost, late, onOutcomeTimeout}
+use Rattle.run.specs.Rules.{allowed, allowedRun}
+use Rattle.run.specs.Step.{step, run, onRequestLost, onReplyLost, onOfferLost, givenUp, onOfferTimeout, onOutcomeLost, late, onOutcomeTimeout}
 use Rattle.run.specs.Fresh.{Fresh}
-use Rattle.run.specs.Claim.{Durable}
+use Rattle.run.specs.Claim.{Durable, Alike, Written}
 use Rattle.run.proofs.Demand3 as model
+use Rattle.run.proofs.Entries as entries
 use Rattle.durable.specs.Engine.{Engine, seen, host}
 use Rattle.durable.specs.Calls.{Called, Calls}
 use Rattle.durable.proofs.Simulated.{Simulated, nothing, one, then}
@@ -97,8 +99,18 @@ runs e f (v ∷ vs) c =
     let g = c .0 in
     then (seen e) (seen g) (seen f) (simulated e g v (c .1) (c .2)) (runs g f vs (c .3))
 
--- demand 3
-pub durable : (e f : Engine) (vs : List Event) → Fresh (seen e) → Calls e vs f → Durable (seen f)
-durable e f vs fresh c =
-    let r = runs e f vs c in
-    subst Durable (r .ends) (model.durable (seen e) fresh (r .events) (r .may))
+-- what every run of `run` leaves, a run of the calls leaves
+module _ (e f : Engine) (vs : List Event) (fresh : Fresh (seen e)) (c : Calls e vs f) where
+  left : (P : State → Type 0) → ((es : List Event) → allowedRun (seen e) es ≡ true → P (run (seen e) es)) → P (seen f)
+  left P g = let r = runs e f vs c in subst P (r .ends) (g (r .events) (r .may))
+
+  -- demand 3
+  pub durable : Durable (seen f)
+  durable = left Durable (model.durable (seen e) fresh)
+
+  -- request 2.5
+  pub alike : Alike (seen f)
+  alike = left Alike (entries.alike (seen e) fresh)
+
+  pub written : Written (seen f)
+  written = left Written (entries.written (seen e) fresh)

@@ -12,7 +12,7 @@ use lib.Ieee.{nan}
 use borrow.Author.Tests.{ne-eqb}
 use Rattle.model.specs.Keys.{Key}
 use Rattle.model.specs.Lists.{nth, any}
-use Rattle.model.specs.Log.{Log}
+use Rattle.model.specs.Log.{Log, Entry, entryAt}
 use Rattle.model.specs.Map.Tables.{NodeInfo, ShardInfo}
 use Rattle.model.specs.Map.Change.{holds}
 use Rattle.model.specs.Layout.Parts.{wireDelete}
@@ -27,7 +27,7 @@ use Rattle.model.proofs.Lists.{none-some, some-same, not-both, and-true}
 use Rattle.run.specs.State.{Write}
 use Rattle.run.specs.Event.{Event, leaseGranted, clientWrites, nodeWaits}
 use Rattle.run.specs.Fresh.{Created, Fresh}
-use Rattle.run.specs.Claim.{inSyncAt, Durable, Stands}
+use Rattle.run.specs.Claim.{inSyncAt, Durable, Stands, Origin}
 use Rattle.run.specs.Claim as claim
 use Rattle.run.proofs.Cases.Opened.{opened}
 use Rattle.run.proofs.Cases.Start as run
@@ -72,10 +72,11 @@ use Rattle.clientwrites.specs.declared.WriteAnswer.{WriteAnswer}
 use Rattle.clientwrites.specs.declared.WriteReply.the-variants as C
 use Rattle.clientwrites.specs.ClientWrites.{writeWord, WriteNames, WriteSlot, SameWrite, WritesAt}
 use Rattle.model.specs.Node.Refused as refused
-use Rattle.durable.specs.Engine.{Engine, seen, withNode, withStore, host}
+use Rattle.durable.specs.Engine.{Engine, storesOf, seen, withNode, withStore, host}
 use Rattle.durable.specs.Calls.{writeSaid, waitSaid, Waits, Called, Calls}
 use Rattle.durable.specs.Start.{New, ShownFirst, Begun}
 use Rattle.durable.proofs.Start.{begun-fresh}
+use Rattle.durable.proofs.Durable as theorem
 use Rattle.durable.proofs.Durable.{durable}
 
 -- an array: the rows in use, and the rest filled up
@@ -434,3 +435,14 @@ in-sync = refl
 
 pub stands : Stands (run.wrote 1 1 1 41) (claim.logOf (seen last .nodes 1) run.key)
 stands = kept .stands (run.wrote 1 1 1 41) 0 (rw acknowledged (unfold nth in refl)) 1 in-sync
+
+-- request 2.5: its entry is the Write that was accepted at epoch 1, and nothing else stands there under that epoch
+at-first : entryAt (claim.logOf (seen last .nodes 1) run.key) 1 ≡ some (run.entry 1 1 41)
+unfolding opened fill withNode withStore host seen first leased written last storesOf logOf firsts entryOf opOf
+at-first = refl
+
+pub origin : Origin (seen last) run.key 1 (run.entry 1 1 41)
+origin = theorem.written first last events first-fresh calls-made .entries run.key 1 1 (run.entry 1 1 41) at-first
+
+pub same-entry : (x : Entry) → entryAt (claim.logOf (seen last .nodes 1) run.key) 1 ≡ some x → x .epoch ≡ 1 → x ≡ run.entry 1 1 41
+same-entry x p e = theorem.alike first last events first-fresh calls-made .entries run.key 1 1 1 x (run.entry 1 1 41) p at-first e

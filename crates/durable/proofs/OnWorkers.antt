@@ -12,7 +12,6 @@ use lib.Seq.{sets-eq, take-append-seam}
 use borrow.Author.Tests.{ltb-false}
 use Rattle.model.specs.Keys.{Key}
 use Rattle.model.specs.Refusals.{noRoom, malformed}
-use Rattle.model.specs.Node.Worker as worker
 use Rattle.model.specs.Node.Worker.{Message, messageBytes}
 use Rattle.model.specs.Node.Calls.{RequestAnswer, unsent, written, requestRefused, writtenIn, requestOf, requestWith, callRequest}
 use Rattle.model.specs.Node.WellFormed.{wellFormedLent}
@@ -83,8 +82,8 @@ module _ (e f : Engine) where
       let x = e .nodes n in
       let v = viewNode t x in
       let slot = slotOf x k in
-      let o = requestOf v k epoch peer metric worker.olderAsCopy in
-      let z = requestWith (lentFor t x (l slot)) v (length before) k epoch peer metric worker.olderAsCopy in
+      let o = requestOf v k epoch peer metric in
+      let z = requestWith (lentFor t x (l slot)) v (length before) k epoch peer metric in
       let end : seen f ≡ posted (seen e) n k epoch peer z =
       ap seen (c .5)
       ∙ hosted e (λ u. requestSaid u n k epoch peer r out) (request-beside (seen e) n k epoch peer r out)
@@ -95,6 +94,6 @@ module _ (e f : Engine) where
       (λ q.
       one (seen e) (seen f) (workerSteps n k epoch peer metric space) may
       (sym (end ∙ ap (posted (seen e) n k epoch peer) q
-      ∙ ap (λ (i : ℕ). posted (seen e) n k epoch peer (callRequest v i k epoch peer metric worker.olderAsCopy)) (c .3))))
+      ∙ ap (λ (i : ℕ). posted (seen e) n k epoch peer (callRequest v i k epoch peer metric)) (c .3))))
       (λ q. nothing (seen e) (seen f) (sym (end ∙ ap (posted (seen e) n k epoch peer) q)))
       (request-as (lentFor t x (l slot) k) (wellFormedLent v k) (length before) o (lent-well t slot (l slot) x k (lots-lend l slot) refl))

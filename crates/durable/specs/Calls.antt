@@ -12,7 +12,6 @@ use Rattle.model.specs.Lists.{nth}
 use Rattle.model.specs.Layout.Message as message
 use Rattle.model.specs.Node.Client as client
 use Rattle.model.specs.Node.Backup.{replied}
-use Rattle.model.specs.Node.Worker as worker
 use Rattle.model.specs.Node.Calls as calls
 use Rattle.model.specs.Node.Ack as ack
 use Rattle.model.specs.declared.DataNodeId.{DataNodeId}
@@ -126,7 +125,7 @@ requestSaid s n k epoch peer (Q.Refused r) out = s
 abbrev pub Asks : Engine → (node : ℕ) → Key → (epoch peer : ℕ) → Metric → (space : ℕ) → Engine → Type 0
 Asks e n k epoch peer metric space f =
     (before after : List ℕ) × (r : outgoing.Request) × (length before ≡ space)
-    × Requests (e .nodes n) (e .lots n (slotOf (e .nodes n) k)) k epoch peer metric worker.olderAsCopy before after r
+    × Requests (e .nodes n) (e .lots n (slotOf (e .nodes n) k)) k epoch peer metric before after r
     × (f ≡ host e (λ s. requestSaid s n k epoch peer r after))
 
 -- a reply goes under way, and a refusal does not
