@@ -1,6 +1,7 @@
 -- Demand 3, of the entry points for C: in every run of their calls that the rules allow, from all images that are read as fresh, each
 -- acknowledged write stands in the log of every node that the map lists in sync, with its offset and its operation, and that node's vectors
--- are its log played from the start. Assumes nothing.
+-- are its log played from the start. Request 2.5 too: entries of equal offset and epoch are equal, and every entry is a Write that was
+-- accepted in its epoch. Assumes nothing.
 use mathlib.Core.Path.{_≡_, refl, sym, ap, subst, _∙_}
 use mathlib.Core.Bool.{true}
 use mathlib.Core.List.{List, [], _∷_}
@@ -27,11 +28,12 @@ use Rattle.run.specs.Event.{
   outcomeLost,
   outcomeTimesOut,
 }
-use Rattle.run.specs.Rules.{allowed}
-use Rattle.run.specs.Step.{step, onRequestLost, onReplyLost, onOfferLost, onOfferTimeout, onOutcomeLost, onOutcomeTimeout}
+use Rattle.run.specs.Rules.{allowed, allowedRun}
+use Rattle.run.specs.Step.{step, run, onRequestLost, onReplyLost, onOfferLost, onOfferTimeout, onOutcomeLost, onOutcomeTimeout}
 use Rattle.run.specs.Fresh.{Fresh}
-use Rattle.run.specs.Claim.{Durable}
+use Rattle.run.specs.Claim.{Durable, Alike, Written}
 use Rattle.run.proofs.Demand3 as model
+use Rattle.run.proofs.Entries as entries
 use Rattle.durable.proofs.Simulated.{Simulated, nothing, one, then}
 use Rattle.durable.proofs.Seen.{Beside}
 use Rattle.durable.proofs.Durable.{given-beside, late-beside}
@@ -87,8 +89,18 @@ runs d f (v ∷ vs) c =
     let g = c .0 in
     then (seen d) (seen g) (seen f) (simulated d g (c .1) v (c .2) (c .3)) (runs g f vs (c .4))
 
--- demand 3
-pub durable : (d f : Cluster) (vs : List Event) → Fresh (seen d) → Calls d vs f → Durable (seen f)
-durable d f vs fresh c =
-    let r = runs d f vs c in
-    subst Durable (r .ends) (model.durable (seen d) fresh (r .events) (r .may))
+-- what every run of `run` leaves, a run of the entry points leaves
+module _ (d f : Cluster) (vs : List Event) (fresh : Fresh (seen d)) (c : Calls d vs f) where
+  left : (P : State → Type 0) → ((es : List Event) → allowedRun (seen d) es ≡ true → P (run (seen d) es)) → P (seen f)
+  left P g = let r = runs d f vs c in subst P (r .ends) (g (r .events) (r .may))
+
+  -- demand 3
+  pub durable : Durable (seen f)
+  durable = left Durable (model.durable (seen d) fresh)
+
+  -- request 2.5
+  pub alike : Alike (seen f)
+  alike = left Alike (entries.alike (seen d) fresh)
+
+  pub written : Written (seen f)
+  written = left Written (entries.written (seen d) fresh)

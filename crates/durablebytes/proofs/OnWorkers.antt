@@ -134,7 +134,7 @@ module _ (d f : Cluster) (mem : InMemory d) (n : ℕ) (k : Key) (epoch peer : �
   r = c .4
 
   abbrev w : Asking
-  w = asking (k .collection) (k .shard) epoch peer (metricCode metric) 1
+  w = asking (k .collection) (k .shard) epoch peer (metricCode metric)
 
   to-end : seen f ≡ posted (seen d) n k epoch peer (sentBy r) (c .1) (c .3)
   to-end =
@@ -150,15 +150,15 @@ module _ (d f : Cluster) (mem : InMemory d) (n : ℕ) (k : Key) (epoch peer : �
   -- the definition's request with the contract's test, on the stores with the columns lent
   abbrev lent : Metric → RequestAnswer
   lent m =
-      requestWith (lentFor (before h s k) (nodeAt h) (columns h s k)) (viewNode (before h s k) (nodeAt h)) (length q) k epoch peer m worker.olderAsCopy
+      requestWith (lentFor (before h s k) (nodeAt h) (columns h s k)) (viewNode (before h s k) (nodeAt h)) (length q) k epoch peer m
 
   asks : lendsState h s k ≡ true → 8 ≤ length (c .2)
-      → Tells (nodeAt h) (columns h s k) k epoch peer (metricOf (metricCode metric)) worker.olderAsCopy (outputs q (c .2)) (outputs (c .1) (c .3)) r
+      → Tells (nodeAt h) (columns h s k) k epoch peer (metricOf (metricCode metric)) (outputs q (c .2)) (outputs (c .1) (c .3)) r
       → Simulated (seen d) (seen f)
   unfolding requestWith callRequest step onWork seen run.posted
   asks lends room t =
       let v = stateAt h s in
-      let o = requestOf (viewNode (before h s k) (nodeAt h)) k epoch peer metric worker.olderAsCopy in
+      let o = requestOf (viewNode (before h s k) (nodeAt h)) k epoch peer metric in
       let z = lent metric in
       let is : lent (metricOf (metricCode metric)) ≡ z = ap lent (metric-code metric) in
       let x = calls.stepWith (λ _. lentNode (storesIn s) (nodeAt h)) v k epoch peer in
@@ -179,11 +179,11 @@ module _ (d f : Cluster) (mem : InMemory d) (n : ℕ) (k : Key) (epoch peer : �
       (let size = c .5 in let most = c .6 in omega arith) room in
       by-case (test h s k k)
       (λ p.
-      let same : z ≡ callRequest v space k epoch peer metric worker.olderAsCopy =
+      let same : z ≡ callRequest v space k epoch peer metric =
       ap (λ (b : Bool). cond (not b) (requestRefused malformed) (writtenIn (length q) o)) (ap (λ (g : Key → Bool). g k) (same-test h s k) ∙ p)
-      ∙ ap (λ (y : held.Node). writtenIn (length q) (requestOf y k epoch peer metric worker.olderAsCopy)) (entry h s k lends (mem .stores n) p)
-      ∙ ap (λ (i : ℕ). writtenIn i (requestOf v k epoch peer metric worker.olderAsCopy)) (c .5)
-      ∙ ap (λ (b : Bool). cond (not b) (requestRefused malformed) (writtenIn space (requestOf v k epoch peer metric worker.olderAsCopy)))
+      ∙ ap (λ (y : held.Node). writtenIn (length q) (requestOf y k epoch peer metric)) (entry h s k lends (mem .stores n) p)
+      ∙ ap (λ (i : ℕ). writtenIn i (requestOf v k epoch peer metric)) (c .5)
+      ∙ ap (λ (b : Bool). cond (not b) (requestRefused malformed) (writtenIn space (requestOf v k epoch peer metric)))
       (sym (state-well h s k lends (mem .stores n) p)) in
       one (seen d) (seen f) (workerSteps n k epoch peer metric space) may (sym (end ∙ ap (run.posted (seen d) n k epoch peer) same)))
       (λ p.

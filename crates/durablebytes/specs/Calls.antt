@@ -119,11 +119,11 @@ posted s n k epoch peer (some sent) request answer =
     setRequests s n peer
     (s .requests n peer ++ (record { sent = sent; key = k; epoch = epoch; bytes = take (beside answer) request } ∷ []))
 
--- `catalogue_step` with form 1, and a `request` (q, then p) of so many bytes, a `size_t`: header and stores are lent for reading, and stay
+-- `catalogue_step`, with a `request` (q, then p) of so many bytes, a `size_t`: header and stores are lent for reading, and stay
 abbrev pub Asks : Cluster → (node : ℕ) → Key → (epoch peer : ℕ) → Metric → (space : ℕ) → Cluster → Type 0
 Asks d n k epoch peer metric space f =
     (q p a b : List ℕ) × (r : ℕ) × (length q ≡ space) × (space < 256 ^ 8)
-    × StepsImage (d .headers n) (d .stores n) (asking (k .collection) (k .shard) epoch peer (metricCode metric) 1) (outputs q a) (outputs p b) r
+    × StepsImage (d .headers n) (d .stores n) (asking (k .collection) (k .shard) epoch peer (metricCode metric)) (outputs q a) (outputs p b) r
     × (f ≡ host d (λ s. posted s n k epoch peer (sentBy r) p b))
 
 -- a reply goes under way back, as bytes

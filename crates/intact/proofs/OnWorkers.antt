@@ -23,7 +23,7 @@ use Rattle.lentimage.specs.Lent.{lotIn}
 use Rattle.lentimage.specs.State.{storesIn, stateAt}
 use Rattle.lentimage.proofs.OfFamily.{lentIn, lent-changes}
 use Rattle.workercalls.specs.Steps as steps
-use Rattle.workercalls.specs.Steps.{Asking, decodes, keyOf, metricOf, formOf, sentNumber, quietNumber, Outputs, StepsImage}
+use Rattle.workercalls.specs.Steps.{Asking, decodes, keyOf, metricOf, sentNumber, quietNumber, Outputs, StepsImage}
 use Rattle.intact.specs.Intact.{Intact}
 use Rattle.intact.proofs.Lent.{lent-node, lends, lent-for}
 use Rattle.intact.proofs.Refused.{Fine, stepNumber, requestNumber, step-fine, request-fine}
@@ -64,7 +64,7 @@ module _ (h s : List ℕ) (i : Intact h s) (w : Asking) (o p : Outputs) (r : ℕ
       ∙ step-fine (stateAt h s) (λ y. lentNode (storesIn s) n) k (lent-node h s i (storesIn s)) (w .epoch) (w .peer) in
       let g : Fine (requestNumber (t .sent)) =
       ap (λ (y : Request). eqb (requestNumber y) 24) (t .requests .answer x (lent-changes (storesIn s) (slotOf n k) (lotIn s n k) (lotIn s n k) .before))
-      ∙ request-fine (viewNode x n) (lentFor x n (lotIn s n k)) k (lent-for h s i x k) (w .epoch) (w .peer) (length (o .request)) (metricOf (w .metric)) (formOf (w .form)) in
+      ∙ request-fine (viewNode x n) (lentFor x n (lotIn s n k)) k (lent-for h s i x k) (w .epoch) (w .peer) (length (o .request)) (metricOf (w .metric)) in
       eqb-false _ 24 (told-fine (t .step) (t .sent) (p .request) f g) (sym (t .number) ∙ z))
       (λ d.
       let t = a .short d .answer (storesIn s) ∙ ap (λ (b : Bool). cond b 23 24) (lent-for h s i (storesIn s) k) in

@@ -37,7 +37,7 @@ use Rattle.model.specs.Node.Wire.{opInDomain, patternsInDomain, entryInDomain, 
 use Rattle.model.specs.Node.Lease.{GrantAnswer}
 use Rattle.model.specs.Node.Client.{WriteAnswer, ackCount, overfull, writeHeld, onWrite, SearchAnswer, searchHeld, onSearch, WaitAnswer, hasAcked, waitHeld, onWait}
 use Rattle.model.specs.Node.Backup.{BackupAnswer, replied, leadsFrom, isEmpty, replyOf, replicateHeld, onReplicate, newEpochHeld, newEpochAt, onNewEpoch, copyHeld, onCopy}
-use Rattle.model.specs.Node.Worker.{Form, Message, messageBytes}
+use Rattle.model.specs.Node.Worker.{Message, messageBytes}
 use Rattle.model.specs.Node.Ack.{AckAnswer, Sent, badReply, Deed, nothing, stepDown, unalign, recordAck, deedOf, joins, doDeed, deedAt, ackHeld, onAck, OutcomeAnswer, Proposal, onOutcome}
 use Rattle.model.specs.Node.Shown.{ShownAnswer, deadAs, tooMany, showings, takeMap, onMap}
 use Rattle.model.specs.Node.Calls.{
@@ -345,7 +345,7 @@ module _ (v : Node) (lent : Key → Bool) where
     written-fine room (some m) =
         by-test (λ (a : RequestAnswer). Fine (requestNumber (answerOf a))) (ltb room (length (messageBytes m))) (λ q. refl) (λ q. refl)
 
-    pub request-fine : (room : ℕ) (metric : Metric) (form : Form) → Fine (requestNumber (answerOf (requestWith lent v room k epoch peer metric form)))
+    pub request-fine : (room : ℕ) (metric : Metric) → Fine (requestNumber (answerOf (requestWith lent v room k epoch peer metric)))
     unfolding requestWith
-    request-fine room metric form =
-        tested (λ a. requestNumber (answerOf a)) (lent k) e _ _ (written-fine room (requestOf v k epoch peer metric form))
+    request-fine room metric =
+        tested (λ a. requestNumber (answerOf a)) (lent k) e _ _ (written-fine room (requestOf v k epoch peer metric))

@@ -8,7 +8,7 @@ use mathlib.Core.List.{List, [], _∷_}
 use mathlib.Core.Option.{Option, some}
 use lib.Dec.{eqb}
 use Rattle.model.specs.Lists.{nth}
-use Rattle.model.specs.Log.{upsert}
+use Rattle.model.specs.Log.{Log, Entry, upsert, entryAt}
 use Rattle.model.specs.Map.Tables as tables
 use Rattle.model.specs.Layout.Format.{Bytes}
 use Rattle.model.specs.Layout.Message as message
@@ -18,7 +18,7 @@ use Rattle.run.specs.State.{Write, at}
 use Rattle.run.specs.Event.{Event, leaseGranted, clientWrites, nodeWaits}
 use Rattle.run.specs.Rules.{allowed}
 use Rattle.run.specs.Fresh.{Fresh}
-use Rattle.run.specs.Claim.{inSyncAt, Durable, Stands}
+use Rattle.run.specs.Claim.{inSyncAt, Durable, Stands, Origin}
 use Rattle.run.specs.Claim as claim
 use Rattle.run.proofs.Cases.Opened.{opened}
 use Rattle.onenode.specs.Images as images
@@ -32,6 +32,7 @@ use Rattle.onenode.proofs.WriteImages.{writes-images, state-written}
 use Rattle.onenode.proofs.Wait.{waits}
 use Rattle.durablebytes.specs.Cluster.{Cluster, seen, InMemory, withHeader, withNode, host}
 use Rattle.durablebytes.specs.Calls.{offsetIn, writeSaid, waitSaid, Waits, Called, Calls}
+use Rattle.durablebytes.proofs.Durable as theorem
 use Rattle.durablebytes.proofs.Durable.{durable}
 use Rattle.durablebytes.proofs.Start.{begun-fresh}
 use Rattle.durablebytes.proofs.Instance.Start.{headers, first, first-begun, first-in-memory}
@@ -135,3 +136,14 @@ node-read = state-written
 pub log-read : claim.logOf (seen last .nodes 1) key ≡ entry ∷ []
 unfolding opened
 log-read = ap (λ (n : held.Node). claim.logOf n key) node-read
+
+-- request 2.5: its entry is the Write that was accepted at epoch 1, and nothing else stands there under that epoch
+at-first : entryAt (claim.logOf (seen last .nodes 1) key) 1 ≡ some entry
+unfolding entryAt nth
+at-first = ap (λ (l : Log). entryAt l 1) log-read
+
+pub origin : Origin (seen last) key 1 entry
+origin = theorem.written first last events first-fresh calls-made .entries key 1 1 entry at-first
+
+pub same-entry : (x : Entry) → entryAt (claim.logOf (seen last .nodes 1) key) 1 ≡ some x → x .epoch ≡ 1 → x ≡ entry
+same-entry x p e = theorem.alike first last events first-fresh calls-made .entries key 1 1 1 x entry p at-first e
