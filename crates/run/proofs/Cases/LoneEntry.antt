@@ -15,7 +15,6 @@ use Rattle.run.specs.Event.{Event, mapShown, leaseGranted, requestArrive
 use Rattle.run.specs.Step.{posted, run}
 use Rattle.run.specs.Rules.{allowedRun}
 use Rattle.run.specs.Claim.{logOf, Written}
-use Rattle.run.specs.Source as source
 use Rattle.run.specs.Source.{sourceRequest}
 use Rattle.run.proofs.Created.{started}
 use Rattle.run.proofs.Cases.Opened.{opened}
@@ -62,11 +61,11 @@ changed =
     run (posted s 1 key 2 2 (sourceRequest (s .nodes 1) 1000 key 2 2 Euclidean)) (requestArrives 1 2 0 ∷ [])
 
 pub accepted : changed .accepted ≡ wrote 1 1 1 41 ∷ []
-unfolding opened start started created before changed source.sending sourceRequest
+unfolding opened start started created before changed
 accepted = refl
 
 pub stored-newer : entryAt (logOf (changed .nodes 2) key) 1 ≡ some (entry 2 1 41)
-unfolding opened start started created before changed source.sending sourceRequest
+unfolding opened start started created before changed
 stored-newer = refl
 
 -- of epoch 1 all that was accepted
