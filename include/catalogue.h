@@ -45,7 +45,7 @@ extern "C" {
 #define CATALOGUE_VERSION_MAJOR 0
 #define CATALOGUE_VERSION_MINOR 3
 #define CATALOGUE_VERSION_PATCH 0
-#define CATALOGUE_VERSION 2000u /* MAJOR * 1,000,000 + MINOR * 1,000 + PATCH */
+#define CATALOGUE_VERSION 3000u /* MAJOR * 1,000,000 + MINOR * 1,000 + PATCH */
 
 /* The version of the library that is linked. If it is not CATALOGUE_VERSION, the header is another one's. */
 uint32_t catalogue_version(void);
