@@ -160,9 +160,9 @@ unfoldable pub keep : ℕ → List End → Log → Log
 keep end table [] = []
 keep end table (e ∷ es) = let r = keep end table es in cond (agrees end table e) (e ∷ r) []
 
--- shard.rs, adopt, past its test of the epoch: the log is cut, and the vectors are played anew where it was
-unfoldable pub adopted : ShardReplica → ℕ → ℕ → List End → ShardReplica
-adopted r epoch end table =
+-- shard.rs, adopt, at a higher epoch: the log is cut, and the vectors are played anew where it was
+unfoldable pub cutTo : ShardReplica → ℕ → ℕ → List End → ShardReplica
+cutTo r epoch end table =
     let kept = keep end table (r .log) in
     record {
       epoch = epoch;
@@ -170,6 +170,10 @@ adopted r epoch end table =
       log = kept;
       vectors = cond (ltb (length kept) (lastOffset r)) (play kept) (r .vectors);
     }
+
+-- shard.rs, adopt, past its test for a lower epoch; request 2.3: at the replica's own epoch the whole log stays
+unfoldable pub adopted : ShardReplica → ℕ → ℕ → List End → ShardReplica
+adopted r epoch end table = cond (eqb epoch (r .epoch)) r (cutTo r epoch end table)
 
 -- shard.rs, promote: the whole log stays
 unfoldable pub promote : ShardReplica → ℕ → ShardReplica

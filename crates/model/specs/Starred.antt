@@ -88,13 +88,13 @@ rowHolds (distant metric q v bits) = eqb (toBits binary32 (distance metric (floa
 rowHolds (nearest metric q vs k count) = eqb (length (hits metric (floats q) (numbered 1 vs) k)) count
 rowHolds (shard id shards number) = eqb (shardOf id shards) number
 
--- 'Starred cases', in the paper's order. 3F800000 is 1, 40400000 is 3, 40800000 is 4, 40A00000 is 5
+-- 'Starred cases', in the paper's order; that of an equal epoch is request 2.3's, with a log that the source would cut. 3F800000 is 1, 40400000 is 3, 40800000 is 4, 40A00000 is 5
 unfoldable pub starred : List Row
 starred =
     newEpoch 2 (1 ∷ 1 ∷ 2 ∷ []) 3 5 (upTo 1 2 ∷ upTo 3 5 ∷ []) (replyAdopted 2)
     ∷ newEpoch 2 (1 ∷ 1 ∷ 2 ∷ []) 3 1 (upTo 1 2 ∷ upTo 3 5 ∷ []) (replyAdopted 1)
     ∷ newEpoch 2 (1 ∷ 1 ∷ 2 ∷ []) 3 5 [] (replyAdopted 0)
-    ∷ newEpoch 2 (1 ∷ 1 ∷ 2 ∷ []) 2 5 (upTo 1 2 ∷ upTo 2 5 ∷ []) (replyAdopted 3)
+    ∷ newEpoch 2 (1 ∷ 1 ∷ 2 ∷ []) 2 1 [] (replyAdopted 3)
     ∷ newEpoch 2 (1 ∷ 1 ∷ 2 ∷ []) 1 5 (upTo 1 2 ∷ upTo 2 5 ∷ []) (replyStale 2)
     ∷ replicate 2 (1 ∷ 1 ∷ 2 ∷ []) 3 4 (replyStale 2)
     ∷ distant Euclidean (0 ∷ 0 ∷ []) (0x40400000 ∷ 0x40800000 ∷ []) 0x40A00000

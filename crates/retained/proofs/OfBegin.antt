@@ -5,15 +5,15 @@ use mathlib.Core.Bool.{Bool, true, false, cond, not}
 use mathlib.Core.Logic.{_⊎_, inl, inr}
 use mathlib.Core.List.{List, [], _∷_}
 use mathlib.Core.Option.{Option, none, some}
-use lib.Dec.{leb}
+use lib.Dec.{eqb, leb}
 use lib.ListN.{length}
 use Rattle.model.specs.Lists.{nth, lead, put}
 use Rattle.model.specs.Limits.{maxHeld}
 use Rattle.model.specs.Keys.{Key, keyBelow}
-use Rattle.model.specs.Log.{End, keep, adopted}
+use Rattle.model.specs.Log.{End, ShardReplica, keep, cutTo, adopted}
 use Rattle.model.specs.Layout.Message.{NewEpoch, decodeNewEpoch}
 use Rattle.model.specs.Node.Held.{Held, Node}
-use Rattle.model.specs.Node.Shards.{Result, gives, heldShard, withHeld, heldBelow, begun}
+use Rattle.model.specs.Node.Shards.{Result, gives, heldShard, withHeld, withReplica, demoted, heldBelow, begun}
 use Rattle.model.specs.Node.Backup.{BackupAnswer, newEpochHeld, beginEpoch, newEpochAt, onNewEpoch}
 use Rattle.model.specs.Node.Calls.{newEpochOf, newEpochWith}
 use Rattle.model.specs.declared.Metric.{Metric}
@@ -28,10 +28,11 @@ pub record Fresh (k : Key) (g : Held) : Type 0 where
   pub vectors : g .replica .vectors ≡ []
 
 fresh-epoch : (k : Key) (m : Metric) (epoch end : ℕ) (t : List End) → Fresh k (newEpochHeld epoch end t (begun k m) .after)
-unfolding adopted keep
+unfolding adopted cutTo keep
 fresh-epoch k m epoch end t =
     new-epoch-after (Fresh k) (begun k m) (record { key = refl; log = refl; vectors = refl }) epoch end t
-    (λ p q. record { key = refl; log = refl; vectors = refl })
+    (λ p q. by-test (λ (v : ShardReplica). Fresh k (demoted (withReplica (begun k m) v))) (eqb epoch 0)
+    (λ u. record { key = refl; log = refl; vectors = refl }) (λ u. record { key = refl; log = refl; vectors = refl }))
 
 -- n with such a shard put in, or as it was
 abbrev pub PutIn : Node → Key → Node → Type 0

@@ -5,14 +5,14 @@ use mathlib.Core.Bool.{true, false}
 use mathlib.Core.List.{List, _∷_, []}
 use native.Mathlib.Omega.{arith}
 use native.Mathlib.Nat.{min-eq-left, min-eq-right}
-use lib.Dec.{ltb}
+use lib.Dec.{eqb, ltb}
 use lib.ListN.{length, take}
 use lib.Seq.{take-all}
 use borrow.Author.Tests.{ltb-false}
 use Rattle.model.specs.Limits.{maxEntries}
-use Rattle.model.specs.Log.{Op, Entry, End, Log, ShardReplica, lastOffset, push, append, store, storeAll, keep, adopted}
+use Rattle.model.specs.Log.{Op, Entry, End, Log, ShardReplica, lastOffset, push, append, store, storeAll, keep, cutTo, adopted}
 use Rattle.model.specs.Node.Client.{overfull}
-use Rattle.model.proofs.Lists.{Within, within-length, within-take, within-append}
+use Rattle.model.proofs.Lists.{by-test, Within, within-length, within-take, within-append}
 use Rattle.model.proofs.Log.Keep.{keep-length, keep-within}
 use Rattle.model.proofs.Log.Store.{store-holds, store-all-holds}
 use Rattle.retained.specs.Retained.{Retains}
@@ -43,8 +43,10 @@ pub store-all-retains : (r : ShardReplica) (epoch : ℕ) (es : List Entry) → R
 store-all-retains r epoch es = retains-longer (r .log) _ (store-all-holds epoch r es)
 
 pub adopted-retains : (r : ShardReplica) (epoch end : ℕ) (t : List End) → Retains (r .log) (adopted r epoch end t .log)
-unfolding adopted
-adopted-retains r epoch end t = retains-cut (r .log) (keep end t (r .log)) (keep-within end t (r .log))
+unfolding adopted cutTo
+adopted-retains r epoch end t =
+    by-test (λ (v : ShardReplica). Retains (r .log) (v .log)) (eqb epoch (r .epoch)) (λ p. retains-cut (r .log) (r .log) (λ i x q. q))
+    (λ p. retains-cut (r .log) (keep end t (r .log)) (keep-within end t (r .log)))
 
 -- ---- within the limit
 
@@ -52,5 +54,6 @@ pub not-over : (r : ShardReplica) → overfull r ≡ false → lastOffset r ≤ 
 not-over r e = ltb-false maxEntries (lastOffset r) e
 
 pub adopted-length : (r : ShardReplica) (epoch end : ℕ) (t : List End) → lastOffset (adopted r epoch end t) ≤ lastOffset r
-unfolding adopted
-adopted-length r epoch end t = keep-length end t (r .log)
+unfolding adopted cutTo
+adopted-length r epoch end t =
+    by-test (λ (v : ShardReplica). lastOffset v ≤ lastOffset r) (eqb epoch (r .epoch)) (λ p. omega arith) (λ p. keep-length end t (r .log))

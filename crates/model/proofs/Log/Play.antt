@@ -8,7 +8,7 @@ use lib.Dec.{eqb, ltb}
 use lib.ListN.{length}
 use borrow.Author.Tests.{ltb-false}
 use Rattle.model.specs.declared.Metric.{Metric}
-use Rattle.model.specs.Log.{Entry, End, Log, Op, Vectors, applyOp, playFrom, play, ShardReplica, emptyReplica, lastOffset, push, append, store, storeAll, keep, adopted, promote}
+use Rattle.model.specs.Log.{Entry, End, Log, Op, Vectors, applyOp, playFrom, play, ShardReplica, emptyReplica, lastOffset, push, append, store, storeAll, keep, cutTo, adopted, promote}
 use Rattle.model.proofs.Lists.{by-test, within-same}
 use Rattle.model.proofs.Log.Store.{store-cases}
 use Rattle.model.proofs.Log.Keep.{keep-within}
@@ -52,12 +52,16 @@ in-step-store-all r epoch [] h = h
 in-step-store-all r epoch (e ∷ es) h =
     in-step-store-all (store r epoch e .replica) epoch es (in-step-store r epoch e h)
 
-pub in-step-adopted : (r : ShardReplica) (epoch end : ℕ) (t : List End) → InStep r → InStep (adopted r epoch end t)
-unfolding adopted
-in-step-adopted r epoch end t h =
+pub in-step-cut : (r : ShardReplica) (epoch end : ℕ) (t : List End) → InStep r → InStep (cutTo r epoch end t)
+unfolding cutTo
+in-step-cut r epoch end t h =
     by-test (λ v. v ≡ play (keep end t (r .log))) (ltb (length (keep end t (r .log))) (lastOffset r))
     (λ q. refl)
     (λ q. h ∙ ap play (sym (within-same (keep end t (r .log)) (r .log) (keep-within end t (r .log)) (ltb-false (length (keep end t (r .log))) (lastOffset r) q))))
+
+pub in-step-adopted : (r : ShardReplica) (epoch end : ℕ) (t : List End) → InStep r → InStep (adopted r epoch end t)
+unfolding adopted
+in-step-adopted r epoch end t h = by-test InStep (eqb epoch (r .epoch)) (λ p. h) (λ p. in-step-cut r epoch end t h)
 
 pub in-step-promote : (r : ShardReplica) (epoch : ℕ) → InStep r → InStep (promote r epoch)
 unfolding promote

@@ -11,7 +11,7 @@ use lib.Dec.{eqb, ltb}
 use lib.ListN.{length, length-append}
 use borrow.Author.Tests.{eqb-true, eqb-false, eq-eqb, ne-eqb}
 use Rattle.model.specs.Lists.{nth}
-use Rattle.model.specs.Log.{Entry, End, Log, entryAt, ShardReplica, lastOffset, push, append, Op, Stored, through, gap, stale, StoreResult, store, storeAll, keep, adopted, promote}
+use Rattle.model.specs.Log.{Entry, End, Log, entryAt, ShardReplica, lastOffset, push, append, Op, Stored, through, gap, stale, StoreResult, store, storeAll, keep, cutTo, adopted, promote}
 use Rattle.model.proofs.Lists.{by-test, nth-snoc, Within, within-append, within-length, within-trans}
 use Rattle.model.proofs.Log.Numbered.{Numbered, numbered-snoc}
 use Rattle.model.proofs.Log.Keep.{keep-numbered}
@@ -168,8 +168,9 @@ module _ (epoch : ℕ) where
 
 -- adopt: what is kept is numbered; the length of the log that is left
 pub adopted-numbered : (r : ShardReplica) (epoch end : ℕ) (t : List End) → Numbered (r .log) → Numbered (adopted r epoch end t .log)
-unfolding adopted
-adopted-numbered r epoch end t h = keep-numbered end t (r .log) h
+unfolding adopted cutTo
+adopted-numbered r epoch end t h =
+    by-test (λ (v : ShardReplica). Numbered (v .log)) (eqb epoch (r .epoch)) (λ p. h) (λ p. keep-numbered end t (r .log) h)
 
 pub promote-log : (r : ShardReplica) (epoch : ℕ) → promote r epoch .log ≡ r .log
 unfolding promote

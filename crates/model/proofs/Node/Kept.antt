@@ -12,7 +12,7 @@ use borrow.Author.Tests.{leb-true, leb-false, le-leb, ltb-false, eqb-true}
 use Rattle.model.specs.Lists.{_and_, _or_, every, rising}
 use Rattle.model.specs.Limits.{maxEntries, maxHeld, maxTime}
 use Rattle.model.specs.Keys.{Key, keyBelow}
-use Rattle.model.specs.Log.{Op, Entry, End, ShardReplica, emptyReplica, lastOffset, append, store, storeAll, adopted, keep}
+use Rattle.model.specs.Log.{Op, Entry, End, ShardReplica, emptyReplica, lastOffset, append, store, storeAll, cutTo, adopted, keep}
 use Rattle.model.specs.Layout.Message.{Reply, replyStored, replyGap, replyStale, replyAdopted}
 use Rattle.model.specs.Map.Apply.{update}
 use Rattle.model.specs.Map.WellFormed.{nameFits}
@@ -163,8 +163,9 @@ unfolding onReplicate
 replicate-kept n k epoch offset op p x = at-formed n k unheld (replicateHeld epoch offset op) (replicate-keeps epoch offset op p) x
 
 adopted-length : (r : ShardReplica) (epoch end : ℕ) (t : List End) → lastOffset (adopted r epoch end t) ≤ lastOffset r
-unfolding adopted
-adopted-length r epoch end t = keep-length end t (r .log)
+unfolding adopted cutTo
+adopted-length r epoch end t =
+    by-test (λ (v : ShardReplica). lastOffset v ≤ lastOffset r) (eqb epoch (r .epoch)) (λ p. omega arith) (λ p. keep-length end t (r .log))
 
 pub new-epoch-keeps : (epoch end : ℕ) (t : List End) → Keeps (λ h. newEpochHeld epoch end t h .after)
 new-epoch-keeps epoch end t = record {

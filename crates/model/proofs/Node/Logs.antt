@@ -14,7 +14,7 @@ use lib.Ieee.{Float, nan, inf, fin}
 use borrow.Author.Tests.{eqb-true, eq-eqb}
 use Rattle.model.specs.Lists.{_and_, nth, every, rising}
 use Rattle.model.specs.Nearest.Search.{Vector}
-use Rattle.model.specs.Log.{Op, Entry, End, Log, Vectors, vectorBelow, play, playFrom, ShardReplica, emptyReplica, lastOffset, push, append, store, storeAll, agrees, keep, adopted, promote}
+use Rattle.model.specs.Log.{Op, Entry, End, Log, Vectors, vectorBelow, play, playFrom, ShardReplica, emptyReplica, lastOffset, push, append, store, storeAll, agrees, keep, cutTo, adopted, promote}
 use Rattle.model.specs.Node.WellFormed.{numberedFrom, wellFormedOp, wellFormedEntry, sameInt, sameFloat, sameFloats, sameVectors, wellFormedLog}
 use Rattle.model.specs.declared.Metric.{Metric}
 use Rattle.model.proofs.Lists.{by-test, not-both, and-true, and-left, and-right}
@@ -204,10 +204,10 @@ every-keep end t (e ∷ es) h =
     (λ q. every-cons wellFormedEntry e (keep end t es) (r .0) more) (λ q. refl)
 
 pub formed-adopted : (r : ShardReplica) (epoch end : ℕ) (t : List End) → FormedLog r → FormedLog (adopted r epoch end t)
-unfolding adopted
+unfolding adopted cutTo
 formed-adopted r epoch end t h = record {
   numbered = adopted-numbered r epoch end t (h .numbered);
-  entries = every-keep end t (r .log) (h .entries);
+  entries = by-test (λ (v : ShardReplica). every wellFormedEntry (v .log) ≡ true) (eqb epoch (r .epoch)) (λ p. h .entries) (λ p. every-keep end t (r .log) (h .entries));
   played = in-step-adopted r epoch end t (h .played);
 }
 
