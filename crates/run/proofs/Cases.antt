@@ -7,6 +7,7 @@ pub mod ShrinkExpand
 pub mod Loss
 pub mod OlderEntry
 pub mod LoneEntry
+pub mod LateAlignment
 pub mod OutcomeOnce
 pub mod Lost
 pub mod SeqOnce

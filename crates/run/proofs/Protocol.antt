@@ -4,7 +4,6 @@ pub mod State
 pub mod Example
 pub mod Ghost
 pub mod Inv
-pub mod Order
 pub mod Frame
 pub mod OnPropose
 pub mod OnSend
@@ -19,7 +18,6 @@ pub mod Entering
 pub mod OnShow
 pub mod OnAdopt
 pub mod OnHear
-pub mod OrderKept
-pub mod OrderNodes
+pub mod Reached
 pub mod Run
 pub mod Written

@@ -18,11 +18,13 @@ pub data Event : Type 0 where
   nodeWaits : (place now timeout : ℕ) → Event
   -- 'At a node': a worker's step, whose request fits into `room` bytes
   workerSteps : (node : ℕ) → Key → (epoch peer : ℕ) → Metric → (room : ℕ) → Event
-  -- 'Messages'
+  -- 'Messages'; request 2.3: one under way repeats, and stands there once more
   requestArrives : (from to place : ℕ) → Event
   requestLost : (from to place : ℕ) → Event
+  requestRepeats : (from to place : ℕ) → Event
   replyArrives : (place : ℕ) → Event
   replyLost : (place : ℕ) → Event
+  replyRepeats : (place : ℕ) → Event
   -- 'Commands': proposals and their outcomes
   offerArrives : (place index seq : ℕ) → Event
   offerLost : (place : ℕ) → Event

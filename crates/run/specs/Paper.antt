@@ -1,12 +1,12 @@
--- Paper 01, 'Rules of a run', read to the letter: which events may happen, sentence by sentence, with the history that the sentences speak of
--- and the state of a run does not hold. Rules.antt allows more; that it allows every run of the paper is `Paper.Allowed.paper-allowed` in
+-- Paper 01, 'Rules of a run', with requests 2.3 and 2.5 of paper 02, read to the letter: which events may happen, sentence by sentence, with the
+-- history that the sentences speak of and the state of a run does not hold. Rules.antt allows more; that it allows every run of the paper is `Paper.Allowed.paper-allowed` in
 -- proofs. Definitions only.
 --
 -- What the step does itself (Step.antt) is not said again: each call gets what the last one left, a shown map is the map of that moment, a
 -- request that arrives is the call of its kind, its answer goes back, what has arrived or is lost is under way no more, a timeout is the
 -- outcome and none follows it. How a lone older entry goes is no rule of a run since request 2.5. That a worker has stopped since it was started is not asked.
 use Prim.Native.Nat.{ℕ, suc, _<_}
-use mathlib.Core.Bool.{Bool, true, false, cond}
+use mathlib.Core.Bool.{Bool, true, false}
 use mathlib.Core.List.{List, [], _∷_, _++_, map}
 use mathlib.Core.Option.{Option, none, some}
 use lib.Dec.{eqb, ltb, leb}
@@ -38,8 +38,10 @@ use Rattle.run.specs.Event.{
   workerSteps,
   requestArrives,
   requestLost,
+  requestRepeats,
   replyArrives,
   replyLost,
+  replyRepeats,
   offerArrives,
   offerLost,
   offerTimesOut,
@@ -73,7 +75,7 @@ pub record Started : Type 0 where
   pub node : ℕ
   pub worker : Worker
 
--- 'Messages': a request that a worker put under way, with its number among all messages
+-- 'Messages': a request that a worker put under way, with its number among all of them
 pub record Posted : Type 0 where
   pub node : ℕ
   pub key : Key
@@ -81,17 +83,12 @@ pub record Posted : Type 0 where
   pub peer : ℕ
   pub number : ℕ
 
--- 'Messages': a reply under way, by its own number and that of the request which it answers
-pub record Answering : Type 0 where
-  pub number : ℕ
-  pub request : ℕ
-
--- 'Messages': how many there have been; the numbers of those under way, in the places of `requests` and of `replies`; every request of a
--- worker, the latest first
+-- 'Messages': how many requests there have been; the numbers of those under way, in the places of `requests`; of each reply under way, in the
+-- places of `replies`, the number of the request which it answers; every request of a worker, the latest first
 pub record Mail : Type 0 where
   pub count : ℕ
   pub requests : ℕ → ℕ → List ℕ
-  pub replies : List Answering
+  pub replies : List ℕ
   pub posted : List Posted
 
 pub record History : Type 0 where
@@ -189,20 +186,30 @@ withoutRequest m from to i = record {
   posted = m .posted;
 }
 
+-- request 2.3: a request that comes once more is the one that it was
+abbrev pub requestAgain : Mail → (from to : ℕ) → Option ℕ → Mail
+requestAgain m from to none = m
+requestAgain m from to (some k) = record {
+  count = m .count;
+  requests = at (m .requests) from (at (m .requests from) to (m .requests from to ++ (k ∷ [])));
+  replies = m .replies;
+  posted = m .posted;
+}
+
 -- a reply to the request of a number, if there is one
 abbrev pub replying : Mail → Option ℕ → List Reply → Mail
 replying m none qs = m
 replying m (some k) [] = m
-replying m (some k) (q ∷ qs) = record {
-  count = suc (m .count);
-  requests = m .requests;
-  replies = m .replies ++ (record { number = m .count; request = k } ∷ []);
-  posted = m .posted;
-}
+replying m (some k) (q ∷ qs) = record { count = m .count; requests = m .requests; replies = m .replies ++ (k ∷ []); posted = m .posted }
 
 -- a reply that is under way no more
 abbrev pub withoutReply : Mail → (place : ℕ) → Mail
 withoutReply m i = record { count = m .count; requests = m .requests; replies = removed (m .replies) i; posted = m .posted }
+
+-- request 2.3: a reply that comes once more answers what it did
+abbrev pub replyAgain : Mail → Option ℕ → Mail
+replyAgain m none = m
+replyAgain m (some k) = record { count = m .count; requests = m .requests; replies = m .replies ++ (k ∷ []); posted = m .posted }
 
 -- the history with another part
 abbrev pub setCommanded : History → Commanded → History
@@ -235,12 +242,14 @@ remember s h (requestArrives from to i) =
     (replying (withoutRequest (h .mail) from to i) (nth (h .mail .requests from to) i)
     (drop (length (s .replies)) (step s (requestArrives from to i) .replies)))
 remember s h (requestLost from to i) = setMail h (withoutRequest (h .mail) from to i)
+remember s h (requestRepeats from to i) = setMail h (requestAgain (h .mail) from to (nth (h .mail .requests from to) i))
 remember s h (replyArrives i) = record {
   commanded = proposing (h .commanded) (made s (replyArrives i));
   workers = h .workers;
   mail = withoutReply (h .mail) i;
 }
 remember s h (replyLost i) = setMail h (withoutReply (h .mail) i)
+remember s h (replyRepeats i) = setMail h (replyAgain (h .mail) (nth (h .mail .replies) i))
 remember s h (offerArrives i index seq) = setCommanded h (taken s (h .commanded) i index (nth (s .offers) i))
 remember s h (offerLost i) = setCommanded h (without (h .commanded) i)
 remember s h (offerTimesOut i) = h
@@ -299,19 +308,6 @@ isWorker n k epoch peer metric w =
     eqb (w .node) n and eqb (w .worker .peer .0) peer and sameKey (w .worker .key) k and eqb (w .worker .epoch) epoch
     and sameMetric (w .worker .metric) metric
 
--- 'Messages': the numbers of the replies under way from one node to another
-unfoldable pub repliesFrom : (from to : ℕ) → List Reply → List Answering → List ℕ
-repliesFrom from to [] rs = []
-repliesFrom from to (q ∷ qs) [] = []
-repliesFrom from to (q ∷ qs) (r ∷ rs) =
-    let rest = repliesFrom from to qs rs in
-    cond (eqb (q .peer) from and eqb (q .node) to) (r .number ∷ rest) rest
-
--- 'Messages': between two nodes, order holds: of all that is under way from one to the other, requests and replies, this is the oldest
-abbrev pub oldest : State → Mail → (from to : ℕ) → Option ℕ → Bool
-oldest s m from to none = false
-oldest s m from to (some k) = every (λ j. leb k j) (m .requests from to ++ repliesFrom from to (s .replies) (m .replies))
-
 abbrev pub isPost : Reply → Posted → Bool
 isPost q p = eqb (p .node) (q .node) and eqb (p .peer) (q .peer) and sameKey (p .key) (q .key) and eqb (p .epoch) (q .epoch)
 
@@ -319,12 +315,11 @@ abbrev pub isRequest : ℕ → Option Posted → Bool
 isRequest k none = false
 isRequest k (some p) = eqb (p .number) k
 
--- 'Messages': a reply counts only for its worker's latest request, and in order
-abbrev pub counts : State → Mail → Option Reply → Option Answering → Bool
-counts s m none a = false
-counts s m (some q) none = false
-counts s m (some q) (some a) =
-    isRequest (a .request) (find (isPost q) (m .posted)) and oldest s m (q .peer) (q .node) (some (a .number))
+-- 'Messages': a reply counts only for its worker's latest request
+abbrev pub counts : Mail → Option Reply → Option ℕ → Bool
+counts m none k = false
+counts m (some q) none = false
+counts m (some q) (some k) = isRequest k (find (isPost q) (m .posted))
 
 -- 'Commands': a timeout is the outcome of a proposal that is awaited
 abbrev pub isAwaited : Option Offer → Bool
@@ -341,11 +336,13 @@ paper q s h (clientSearches n now room bytes) = isBytes bytes
 -- 'a Write which that node accepted'
 paper q s h (nodeWaits i now timeout) = isThere (nth (s .accepted) i)
 paper q s h (workerSteps n k epoch peer metric room) = any (isWorker n k epoch peer metric) (h .workers)
--- requests stand oldest first, so that the first alone may arrive
-paper q s h (requestArrives from to i) = eqb i 0 and oldest s (h .mail) from to (nth (h .mail .requests from to) i)
+-- request 2.3: messages between nodes change their order, and repeat
+paper q s h (requestArrives from to i) = isThere (nth (s .requests from to) i)
 paper q s h (requestLost from to i) = isThere (nth (s .requests from to) i)
-paper q s h (replyArrives i) = counts s (h .mail) (nth (s .replies) i) (nth (h .mail .replies) i)
+paper q s h (requestRepeats from to i) = isThere (nth (s .requests from to) i)
+paper q s h (replyArrives i) = counts (h .mail) (nth (s .replies) i) (nth (h .mail .replies) i)
 paper q s h (replyLost i) = isThere (nth (s .replies) i)
+paper q s h (replyRepeats i) = isThere (nth (s .replies) i)
 paper q s h (offerArrives i index seq) =
     isU64 index and isU64 seq and proposes q s (h .commanded) index seq (nth (s .offers) i) (nth (h .commanded .turns) i)
 paper q s h (offerLost i) = isThere (nth (s .offers) i)

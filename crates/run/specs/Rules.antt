@@ -4,13 +4,16 @@
 --
 -- In the step itself: each call gets what the last one left; a shown map is the map of that moment; a wait names an accepted write; a
 -- request that arrives is the call of its kind, and its answer goes back unless it is a refusal number; a proposal and its outcome each
--- arrive once or never, a timeout is that outcome, and none follows it; nothing repeats. How a lone older entry goes is the worker's to choose
--- (request 2.5) and no rule.
+-- arrive once or never, a timeout is that outcome, and none follows it. How a lone older entry goes is the worker's to choose (request 2.5)
+-- and no rule.
+--
+-- Lifted by request 2.3: between two nodes order holds, and nothing repeats. Any request or reply under way may arrive next, may be lost, and
+-- may be doubled, any number of times.
 --
 -- Dropped: indexes rise; seqs rise, and client numbers differ (kept of both: a proposal's seq is not the one that the map remembers for
 -- its client, so that the map never answers it from memory); Promote comes under a client number of its own; a worker's step names a
--- worker that was started, with its metric (kept: no worker is for the node itself); replies keep their order, and count only for their
--- worker's latest request. Clocks, leases, timeouts and min_in_sync are arguments of the events and free.
+-- worker that was started, with its metric (kept: no worker is for the node itself); replies count only for their worker's latest
+-- request. Clocks, leases, timeouts and min_in_sync are arguments of the events and free.
 use Prim.Native.Nat.{ℕ, _^_}
 use mathlib.Core.Bool.{Bool, true, false, not, cond}
 use mathlib.Core.List.{List, [], _∷_}
@@ -35,8 +38,10 @@ use Rattle.run.specs.Event.{
   workerSteps,
   requestArrives,
   requestLost,
+  requestRepeats,
   replyArrives,
   replyLost,
+  replyRepeats,
   offerArrives,
   offerLost,
   offerTimesOut,
@@ -90,8 +95,9 @@ allowed s (clientWrites n now least bytes) = isBytes bytes
 allowed s (clientSearches n now room bytes) = isBytes bytes
 allowed s (nodeWaits i now timeout) = true
 allowed s (workerSteps n k epoch peer metric room) = not (eqb n peer)
--- 'Messages': between two nodes, order holds
-allowed s (requestArrives from to i) = eqb i 0
+allowed s (requestArrives from to i) = true
+allowed s (requestRepeats from to i) = true
+allowed s (replyRepeats i) = true
 allowed s (requestLost from to i) = true
 allowed s (replyArrives i) = true
 allowed s (replyLost i) = true

@@ -1,18 +1,23 @@
--- node.rs, replicate_to, as the source has it: a lone entry goes as Replicate whatever its epoch, and takes the primary's. Request 2.5
--- took this away; proofs/Cases/LoneEntry.antt has the run in which such a worker changes an entry's epoch. Definitions only.
+-- Two functions of node.rs and shard.rs as the source has them, which requests 2.5 and 2.3 changed; what the changes prevent is computed in
+-- proofs/Cases/LoneEntry.antt and LateAlignment.antt. Definitions only.
 use Prim.Native.Nat.{ℕ}
 use mathlib.Core.Bool.{cond, not}
-use mathlib.Core.List.{[], _∷_}
+use mathlib.Core.List.{List, [], _∷_}
 use mathlib.Core.Option.{Option, none, some}
+use lib.Dec.{ltb}
 use Rattle.model.specs.Keys.{Key}
-use Rattle.model.specs.Refusals.{malformed}
-use Rattle.model.specs.Log.{Log, entriesFrom}
+use Rattle.model.specs.Refusals.{undecodable, malformed}
+use Rattle.model.specs.Log.{Log, End, lastOffset, entriesFrom, cutTo}
+use Rattle.model.specs.Layout.Message.{NewEpoch, decodeNewEpoch, replyStale, replyAdopted}
 use Rattle.model.specs.Node.Held.{Held, Node}
-use Rattle.model.specs.Node.Shards.{heldShard}
+use Rattle.model.specs.Node.Shards.{Result, gives, heldShard, atShard, withReplica, demoted}
+use Rattle.model.specs.Node.Backup.{BackupAnswer, replied, backupRefused, unheld, leadsFrom, beginEpoch}
 use Rattle.model.specs.Node.Worker.{Step, stop, wait, align, send, onStep, Message, newEpochMessage, alignment, copyOf, loneOf}
 use Rattle.model.specs.Node.Calls.{RequestAnswer, requestRefused, writtenIn}
 use Rattle.model.specs.Node.WellFormed.{wellFormedLent}
 use Rattle.model.specs.declared.Metric.{Metric}
+
+-- ---- node.rs, replicate_to: a lone entry goes as Replicate whatever its epoch, and takes the primary's
 
 -- one entry as Replicate, several as CopyShard
 unfoldable pub sending : Key → (epoch : ℕ) → Log → Option Message
@@ -33,3 +38,27 @@ unfoldable pub sourceRequest : Node → (room : ℕ) → Key → (epoch peer : �
 sourceRequest n room k epoch peer metric =
     cond (not (wellFormedLent n k)) (requestRefused malformed)
     (writtenIn room (requestAt epoch metric (onStep n k epoch peer) (heldShard n k)))
+
+-- ---- shard.rs, adopt: the log is cut at the replica's own epoch too
+
+-- at a held shard
+unfoldable pub alignHeld : (epoch end : ℕ) → List End → Held → Result BackupAnswer Held
+alignHeld epoch end table h =
+    let r = cutTo (h .replica) epoch end table in
+    let own = h .replica .epoch in
+    cond (leadsFrom (h .role) epoch) (gives (replied (replyStale own)) h)
+    (cond (ltb epoch own) (gives (replied (replyStale own)) h)
+    (gives (replied (replyAdopted (lastOffset r))) (demoted (withReplica h r))))
+
+-- one that begins has nothing to cut
+abbrev pub alignAt : Node → NewEpoch → Option Held → Result BackupAnswer Node
+alignAt n m none = beginEpoch n (m .key) (m .epoch) (m .end) (m .table) (m .metric)
+alignAt n m (some h) = atShard n (m .key) unheld (alignHeld (m .epoch) (m .end) (m .table))
+
+abbrev pub alignOf : Node → Option NewEpoch → Result BackupAnswer Node
+alignOf n none = gives (backupRefused undecodable) n
+alignOf n (some m) = cond (not (wellFormedLent n (m .key))) (gives (backupRefused malformed) n) (alignAt n m (heldShard n (m .key)))
+
+-- NewEpoch, as `Calls.callNewEpoch` answers it
+unfoldable pub sourceNewEpoch : Node → List ℕ → Result BackupAnswer Node
+sourceNewEpoch n bytes = alignOf n (decodeNewEpoch bytes)

@@ -36,8 +36,10 @@ use Rattle.run.specs.Event.{
   workerSteps,
   requestArrives,
   requestLost,
+  requestRepeats,
   replyArrives,
   replyLost,
+  replyRepeats,
   offerArrives,
   offerLost,
   offerTimesOut,
@@ -158,6 +160,24 @@ arrives s from to i (some q) =
 -- 'Messages': a request arrives
 unfoldable pub onArrival : State → (from to place : ℕ) → State
 onArrival s from to i = arrives s from to i (nth (s .requests from to) i)
+
+-- request 2.3: a request under way comes once more
+unfoldable pub doubled : State → (from to : ℕ) → Option Request → State
+doubled s from to none = s
+doubled s from to (some q) = setRequests s from to (s .requests from to ++ (q ∷ []))
+
+-- request 2.3: requests repeat
+unfoldable pub onRequestRepeats : State → (from to place : ℕ) → State
+onRequestRepeats s from to i = doubled s from to (nth (s .requests from to) i)
+
+-- request 2.3: a reply under way comes once more
+unfoldable pub replyDoubled : State → Option Reply → State
+replyDoubled s none = s
+replyDoubled s (some q) = setReplies s (s .replies ++ (q ∷ []))
+
+-- request 2.3: replies repeat
+unfoldable pub onReplyRepeats : State → (place : ℕ) → State
+onReplyRepeats s i = replyDoubled s (nth (s .replies) i)
 
 -- 'Messages': loss is allowed
 unfoldable pub onRequestLost : State → (from to place : ℕ) → State
@@ -305,7 +325,9 @@ step s (nodeWaits i now timeout) = onWait s i now timeout
 step s (workerSteps n k epoch peer metric room) = onWork s n k epoch peer metric room
 step s (requestArrives from to i) = onArrival s from to i
 step s (requestLost from to i) = onRequestLost s from to i
+step s (requestRepeats from to i) = onRequestRepeats s from to i
 step s (replyArrives i) = onReply s i
+step s (replyRepeats i) = onReplyRepeats s i
 step s (replyLost i) = onReplyLost s i
 step s (offerArrives i index seq) = onOffer s i index seq
 step s (offerLost i) = onOfferLost s i

@@ -9,5 +9,5 @@ use Rattle.model.proofs.Opened as model
 use Prim.Native.Nat.{ℕ}
 
 unfoldable pub opened : ℕ
-unfolding model.opened state.at state.setMap state.setNode state.setRequests state.setReplies state.setOffers state.setOutcomes state.setWrites source.sending source.sourceRequest step.removed step.replaced step.onCommand step.onShown step.onGrant step.recordWrite step.onWrite step.onSearch step.waited step.waitFor step.onWait step.sentOf step.posted step.onWork step.heard step.answered step.arrives step.onArrival step.onRequestLost step.acked step.replies step.onReply step.onReplyLost step.offerBytes step.told step.offered step.onOffer step.onOfferLost step.givenUp step.onOfferTimeout step.learnt step.onOutcome step.onOutcomeLost step.late step.onOutcomeTimeout step.step step.run rules.isBytes rules.isU64 rules.freshSeq rules.allowed rules.allowedRun claim.inSyncAt claim.logOf claim.vectorsOf
+unfolding model.opened state.at state.setMap state.setNode state.setRequests state.setReplies state.setOffers state.setOutcomes state.setWrites source.sending source.sourceRequest source.alignHeld source.sourceNewEpoch step.removed step.replaced step.onCommand step.onShown step.onGrant step.recordWrite step.onWrite step.onSearch step.waited step.waitFor step.onWait step.sentOf step.posted step.onWork step.heard step.answered step.arrives step.onArrival step.onRequestLost step.doubled step.onRequestRepeats step.acked step.replies step.onReply step.onReplyLost step.replyDoubled step.onReplyRepeats step.offerBytes step.told step.offered step.onOffer step.onOfferLost step.givenUp step.onOfferTimeout step.learnt step.onOutcome step.onOutcomeLost step.late step.onOutcomeTimeout step.step step.run rules.isBytes rules.isU64 rules.freshSeq rules.allowed rules.allowedRun claim.inSyncAt claim.logOf claim.vectorsOf
 opened = 0

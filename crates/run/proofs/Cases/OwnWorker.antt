@@ -1,7 +1,6 @@
--- A run with a worker's step that is for the node itself. A primary refuses its own alignment; but node 1, deposed when the request arrives and
--- still at the epoch that it led, adopts the log with which it began that epoch, and what it wrote since is cut. It is out of sync by then,
--- so that no write is lost; that nothing cuts a node in an epoch which it led is what the proof of demand 3 builds on. The rule that forbids
--- the step is in `Rules.allowed`, of `workerSteps`. Assumes nothing.
+-- A run with a worker's step that is for the node itself. Node 1 is deposed when the request arrives, and still at the epoch that it led: since
+-- request 2.3 its own alignment cuts nothing (before, it cut what node 1 wrote in that epoch). The rule that forbids the step is in
+-- `Rules.allowed`, of `workerSteps`: the proof of demand 3 takes every request to be for another node. Assumes nothing.
 use mathlib.Core.Path.{_≡_, refl}
 use mathlib.Core.Bool.{false}
 use mathlib.Core.List.{List, [], _∷_, _++_}
@@ -43,9 +42,9 @@ pub breaks-once : BreaksOnce start before own after
 unfolding opened start started created before own after
 breaks-once = record { first = refl; breaks = refl; then = refl }
 
-pub cut : logOf (end .nodes 1) key ≡ []
+pub uncut : logOf (end .nodes 1) key ≡ entry 1 1 41 ∷ []
 unfolding opened start started created before own after end
-cut = refl
+uncut = refl
 
 pub out-of-sync : inSyncAt (end .map) key 1 ≡ false
 unfolding opened start started created before own after end

@@ -29,7 +29,7 @@ use Rattle.run.specs.Rules as rules
 use Rattle.run.specs.Rules.{isBytes, isU64, isPromote, notLast, freshSeq, allowed, allowedRun}
 use Rattle.run.specs.Fresh.{Fresh}
 use Rattle.run.specs.Claim.{Durable, Alike, Written}
-use Rattle.run.specs.Paper.{Turn, Commanded, History, Seqs, Rising, before, startsOf, startedAt, freshHistory, promoted, taken, made, remember, noNodes, ownOf, promotes, proposes, isWorker, sameMetric, oldest, paper, paperRun}
+use Rattle.run.specs.Paper.{Turn, Commanded, History, Seqs, Rising, before, startsOf, startedAt, freshHistory, promoted, taken, made, remember, noNodes, ownOf, promotes, proposes, isWorker, sameMetric, paper, paperRun}
 use Rattle.run.specs.Event.{
   Event,
   command,
@@ -41,8 +41,10 @@ use Rattle.run.specs.Event.{
   workerSteps,
   requestArrives,
   requestLost,
+  requestRepeats,
   replyArrives,
   replyLost,
+  replyRepeats,
   offerArrives,
   offerLost,
   offerTimesOut,
@@ -187,10 +189,12 @@ module _ (q : Seqs) (rising : Rising q) (w : World) (s : real.State) (a : proto.
   may (clientSearches n now room bytes) t = t
   may (nodeWaits i now timeout) t = refl
   may (workerSteps n key epoch peer metric room) t = not-itself n key epoch peer metric t
-  may (requestArrives from to i) t = and-left (eqb i 0) (oldest s (h .mail) from to (nth (h .mail .requests from to) i)) t
+  may (requestArrives from to i) t = refl
   may (requestLost from to i) t = refl
+  may (requestRepeats from to i) t = refl
   may (replyArrives i) t = refl
   may (replyLost i) t = refl
+  may (replyRepeats i) t = refl
   may (offerArrives i index seq) t =
       let z = arriving i index seq t in
       let f : freshSeq s seq (nth (s .offers) i) ≡ true = ap (freshSeq s seq) (z .found) ∙ fresh i index seq z in
@@ -253,8 +257,10 @@ module _ (q : Seqs) (rising : Rising q) (w : World) (s : real.State) (a : proto.
   kept (workerSteps n key epoch peer metric room) t = stays _ (events.work-same s n key epoch peer metric room)
   kept (requestArrives from to i) t = stays _ (events.arrival-same s from to i)
   kept (requestLost from to i) t = stays _ (events.request-lost-same s from to i)
+  kept (requestRepeats from to i) t = stays _ (events.request-again-same s from to i)
   kept (replyArrives i) t = let e = events.reply-more s i in makes q s (step.onReply s i) c (h .workers) (e .new) (e .map) (e .offers) v
   kept (replyLost i) t = stays _ (events.reply-lost-same s i)
+  kept (replyRepeats i) t = stays _ (events.reply-again-same s i)
   kept (offerArrives i index seq) t =
       let z = arriving i index seq t in
       subst (λ (o : Option Offer). Inv q (step.offered s i index seq o .map .sessions) (step.offered s i index seq o .offers) (taken s c i index o) (h .workers))

@@ -17,7 +17,7 @@ use Rattle.model.specs.Node.Client.{WriteAnswer, WaitAnswer}
 use Rattle.model.specs.Node.Backup.{BackupAnswer, replied, backupRefused}
 use Rattle.model.specs.Node.Ack.{AckAnswer, noted, expand, ackRefused}
 use Rattle.model.specs.Node.Calls.{RequestAnswer, unsent, written, requestRefused}
-use Rattle.model.proofs.Lists.{by-test, not-both, none-some, and-right}
+use Rattle.model.proofs.Lists.{by-test, not-both, none-some}
 use Rattle.run.specs.State.{State, Request, Reply, Offer, Outcome, Write, at, setMap, setNode, setRequests, setReplies, setOffers, setOutcomes, setWrites}
 use Rattle.run.specs.Event.{
   Event,
@@ -30,8 +30,10 @@ use Rattle.run.specs.Event.{
   workerSteps,
   requestArrives,
   requestLost,
+  requestRepeats,
   replyArrives,
   replyLost,
+  replyRepeats,
   offerArrives,
   offerLost,
   offerTimesOut,
@@ -40,10 +42,10 @@ use Rattle.run.specs.Event.{
   outcomeTimesOut,
 }
 use Rattle.run.specs.Step as step
-use Rattle.run.specs.Step.{removed, onCommand, onShown, onGrant, recordWrite, onWrite, onSearch, waited, waitFor, onWait, posted, onWork, answered, arrives, onArrival, onRequestLost, acked, replies, onReply, onReplyLost, told, offered, onOffer, onOfferLost, givenUp, onOfferTimeout, learnt, onOutcome, onOutcomeLost, late, onOutcomeTimeout}
+use Rattle.run.specs.Step.{removed, onCommand, onShown, onGrant, recordWrite, onWrite, onSearch, waited, waitFor, onWait, posted, onWork, answered, arrives, onArrival, onRequestLost, doubled, onRequestRepeats, acked, replies, onReply, onReplyLost, replyDoubled, onReplyRepeats, told, offered, onOffer, onOfferLost, givenUp, onOfferTimeout, learnt, onOutcome, onOutcomeLost, late, onOutcomeTimeout}
 use Rattle.run.proofs.Paper.Turns.{at-same}
 use Rattle.run.specs.Fresh.{Fresh}
-use Rattle.run.specs.Paper.{Mail, History, Seqs, freshHistory, posting, replying, withoutRequest, withoutReply, remember, oldest, counts, paper}
+use Rattle.run.specs.Paper.{Mail, History, Seqs, freshHistory, posting, replying, withoutRequest, withoutReply, requestAgain, replyAgain, remember, isThere, counts, paper}
 
 -- as many numbers as messages
 pub record Beside (s : State) (m : Mail) : Type 0 where
@@ -213,7 +215,7 @@ module _ (s : State) (m : Mail) (b : Beside s m) where
       (record {
         requests = f;
         replies =
-            snoc-long (m .replies) (record { number = m .count; request = j })
+            snoc-long (m .replies) j
             ∙ ap suc (b .replies ∙ ap (λ (l : List Reply). length l) (sym e)) ∙ sym (snoc-long (t .replies) x);
       })
 
@@ -225,20 +227,54 @@ module _ (s : State) (m : Mail) (b : Beside s m) where
       link-long (m .requests) (s .requests) from to (removed (m .requests from to) i) (removed (s .requests from to) i) (b .requests)
       (removed-long (m .requests from to) (s .requests from to) i (b .requests from to))
 
-  heard : (from to i : ℕ) → oldest s m from to (nth (m .requests from to) i) ≡ true
+  heard : (from to i : ℕ) → isThere (nth (s .requests from to) i) ≡ true
       → Beside (onArrival s from to i)
       (replying (withoutRequest m from to i) (nth (m .requests from to) i) (drop (length (s .replies)) (onArrival s from to i .replies)))
   unfolding onArrival arrives setRequests setNode
-  heard from to i t = go (nth (m .requests from to) i) refl t
+  heard from to i t = go (nth (s .requests from to) i) refl t
     where
-      go : (o : Option ℕ) → nth (m .requests from to) i ≡ o → oldest s m from to o ≡ true
-          → Beside (onArrival s from to i) (replying (withoutRequest m from to i) o (drop (length (s .replies)) (onArrival s from to i .replies)))
+      go : (o : Option Request) → nth (s .requests from to) i ≡ o → isThere o ≡ true
+          → Beside (arrives s from to i o)
+          (replying (withoutRequest m from to i) (nth (m .requests from to) i) (drop (length (s .replies)) (arrives s from to i o .replies)))
       go none e p = not-both false p refl
-      go (some j) e p =
-          let q = there (m .requests from to) (s .requests from to) i j e (b .requests from to) in
-          subst (λ (o : Option Request). Beside (arrives s from to i o)
-          (replying (withoutRequest m from to i) (some j) (drop (length (s .replies)) (arrives s from to i o .replies)))) (sym (q .1))
-          (arrival from to i j (q .0) _ _ refl (without-long from to i))
+      go (some q) e p =
+          let j = there (s .requests from to) (m .requests from to) i q e (sym (b .requests from to)) in
+          subst (λ (o : Option ℕ). Beside (arrives s from to i (some q))
+          (replying (withoutRequest m from to i) o (drop (length (s .replies)) (arrives s from to i (some q) .replies)))) (sym (j .1))
+          (arrival from to i (j .0) q _ _ refl (without-long from to i))
+
+  -- a request that comes once more
+  request-again : (from to i : ℕ) → Beside (onRequestRepeats s from to i) (requestAgain m from to (nth (m .requests from to) i))
+  unfolding onRequestRepeats doubled setRequests
+  request-again from to i = go (nth (s .requests from to) i) (nth (m .requests from to) i) refl refl
+    where
+      go : (o : Option Request) (u : Option ℕ) → nth (s .requests from to) i ≡ o → nth (m .requests from to) i ≡ u
+          → Beside (doubled s from to o) (requestAgain m from to u)
+      go none none e f = b
+      go none (some k) e f =
+          none-some (sym e ∙ there (m .requests from to) (s .requests from to) i k f (b .requests from to) .1)
+      go (some q) none e f =
+          none-some (sym f ∙ there (s .requests from to) (m .requests from to) i q e (sym (b .requests from to)) .1)
+      go (some q) (some k) e f = record {
+        requests =
+            link-long (m .requests) (s .requests) from to (m .requests from to ++ (k ∷ [])) (s .requests from to ++ (q ∷ [])) (b .requests)
+            (snoc-long (m .requests from to) k ∙ ap suc (b .requests from to) ∙ sym (snoc-long (s .requests from to) q));
+        replies = b .replies;
+      }
+
+  -- a reply that comes once more
+  reply-again : (i : ℕ) → Beside (onReplyRepeats s i) (replyAgain m (nth (m .replies) i))
+  unfolding onReplyRepeats replyDoubled setReplies
+  reply-again i = go (nth (s .replies) i) (nth (m .replies) i) refl refl
+    where
+      go : (o : Option Reply) (u : Option ℕ) → nth (s .replies) i ≡ o → nth (m .replies) i ≡ u → Beside (replyDoubled s o) (replyAgain m u)
+      go none none e f = b
+      go none (some k) e f = none-some (sym e ∙ there (m .replies) (s .replies) i k f (b .replies) .1)
+      go (some q) none e f = none-some (sym f ∙ there (s .replies) (m .replies) i q e (sym (b .replies)) .1)
+      go (some q) (some k) e f = record {
+        requests = b .requests;
+        replies = snoc-long (m .replies) k ∙ ap suc (b .replies) ∙ sym (snoc-long (s .replies) q);
+      }
 
   -- a reply that arrives
   acks : (i : ℕ) (t : State) → t .requests ≡ s .requests → t .replies ≡ removed (s .replies) i → (q : Reply) (a : AckAnswer)
@@ -257,11 +293,11 @@ module _ (s : State) (m : Mail) (b : Beside s m) where
       go (ackRefused r) = here
       go expand = record { requests = here .requests; replies = here .replies }
 
-  counted : (i : ℕ) → counts s m (nth (s .replies) i) (nth (m .replies) i) ≡ true → Beside (onReply s i) (withoutReply m i)
+  counted : (i : ℕ) → counts m (nth (s .replies) i) (nth (m .replies) i) ≡ true → Beside (onReply s i) (withoutReply m i)
   unfolding onReply replies setReplies setNode
   counted i t = go (nth (s .replies) i) t
     where
-      go : (o : Option Reply) → counts s m o (nth (m .replies) i) ≡ true → Beside (replies s i o) (withoutReply m i)
+      go : (o : Option Reply) → counts m o (nth (m .replies) i) ≡ true → Beside (replies s i o) (withoutReply m i)
       go none p = not-both false p refl
       go (some q) p = acks i _ refl refl q _
 
@@ -277,13 +313,15 @@ stays-beside q s h (clientSearches n now room bytes) t b = record { requests = b
 stays-beside q s h (nodeWaits i now timeout) t b = same s (h .mail) b _ (wait-mail s i now timeout)
 stays-beside q s h (workerSteps n k epoch peer metric room) t b = work s (h .mail) b n k epoch peer _
 stays-beside q s h (requestArrives from to i) t b =
-    heard s (h .mail) b from to i (and-right (eqb i 0) (oldest s (h .mail) from to (nth (h .mail .requests from to) i)) t)
+    heard s (h .mail) b from to i t
 stays-beside q s h (requestLost from to i) t b = record { requests = without-long s (h .mail) b from to i; replies = b .replies }
+stays-beside q s h (requestRepeats from to i) t b = request-again s (h .mail) b from to i
 stays-beside q s h (replyArrives i) t b = counted s (h .mail) b i t
 stays-beside q s h (replyLost i) t b = record {
   requests = b .requests;
   replies = removed-long (h .mail .replies) (s .replies) i (b .replies);
 }
+stays-beside q s h (replyRepeats i) t b = reply-again s (h .mail) b i
 stays-beside q s h (offerArrives i index seq) t b = same s (h .mail) b _ (offer-mail s i index seq)
 stays-beside q s h (offerLost i) t b = record { requests = b .requests; replies = b .replies }
 stays-beside q s h (offerTimesOut i) t b = same s (h .mail) b _ (late-mail s i)

@@ -15,7 +15,7 @@ use Rattle.model.specs.Node.Calls.{RequestAnswer, unsent, written, requestRefus
 use Rattle.model.specs.declared.Metric.{Metric}
 use Rattle.model.proofs.Lists.{by-test}
 use Rattle.run.specs.State.{State, Request, Reply, Offer, Outcome, Write, setNode, setRequests, setReplies, setOffers, setOutcomes, setWrites}
-use Rattle.run.specs.Step.{onShown, onGrant, recordWrite, onWrite, onSearch, shrinkOf, waited, waitFor, onWait, posted, onWork, answered, arrives, onArrival, onRequestLost, acked, replies, onReply, onReplyLost, told, learnt, onOutcome, onOutcomeLost, late, onOutcomeTimeout}
+use Rattle.run.specs.Step.{onShown, onGrant, recordWrite, onWrite, onSearch, shrinkOf, waited, waitFor, onWait, posted, onWork, answered, arrives, onArrival, onRequestLost, doubled, onRequestRepeats, replyDoubled, onReplyRepeats, acked, replies, onReply, onReplyLost, told, learnt, onOutcome, onOutcomeLost, late, onOutcomeTimeout}
 
 -- the map and the proposals as they were
 pub record Same (s s′ : State) : Type 0 where
@@ -123,6 +123,22 @@ module _ (s : State) where
   pub reply-lost-same : (i : ℕ) → Same s (onReplyLost s i)
   unfolding onReplyLost setReplies
   reply-lost-same i = record { map = refl; offers = refl }
+
+  pub request-again-same : (from to i : ℕ) → Same s (onRequestRepeats s from to i)
+  unfolding onRequestRepeats doubled setRequests
+  request-again-same from to i = go (nth (s .requests from to) i)
+    where
+      go : (o : Option Request) → Same s (doubled s from to o)
+      go none = record { map = refl; offers = refl }
+      go (some q) = record { map = refl; offers = refl }
+
+  pub reply-again-same : (i : ℕ) → Same s (onReplyRepeats s i)
+  unfolding onReplyRepeats replyDoubled setReplies
+  reply-again-same i = go (nth (s .replies) i)
+    where
+      go : (o : Option Reply) → Same s (replyDoubled s o)
+      go none = record { map = refl; offers = refl }
+      go (some q) = record { map = refl; offers = refl }
 
   -- whether or not its outcome is awaited
   pub told-same : (o : Offer) (applied : Bool) → Same s (told s o applied)

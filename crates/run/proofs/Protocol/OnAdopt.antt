@@ -9,7 +9,7 @@ use lib.Dec.{eqb, leb, ltb}
 use lib.ListN.{length, length-append}
 use borrow.Author.Tests.{eqb-true, eqb-false, eq-eqb, ne-eqb, leb-true, leb-false, le-leb, lt-leb, ltb-true, ltb-false}
 use Rattle.model.specs.Lists.{_and_, _or_, nth, every}
-use Rattle.model.specs.Log.{Op, Entry, Log, End, entryAt, epochEnds, keep, ShardReplica, append, push, adopted, storeAll, promote, entriesFrom, Vectors, play}
+use Rattle.model.specs.Log.{Op, Entry, Log, End, entryAt, epochEnds, keep, ShardReplica, append, push, cutTo, storeAll, promote, entriesFrom, Vectors, play}
 use Rattle.model.proofs.Lists.{by-test, not-both, and-left, and-right, none-some, some-same, nth-nil, nth-same, nth-lt, lt-nth, nth-last, nth-snoc, Within, within-length, within-append}
 use Rattle.model.proofs.Log.Numbered.{Numbered, numbered-snoc, numbered-within}
 use Rattle.model.proofs.Log.Play.{InStep}
@@ -20,7 +20,7 @@ use Rattle.run.proofs.Protocol.Ghost.{History, Agree}
 use Rattle.run.proofs.Protocol.Inv.{BookOk, LeadOk, RoleOk, NodeAt, NodeOk, Leading, MapOk, At, RequestOk, AnswerOk, ReplyOk, ProposalOk, OutcomeOk, Stands, AcceptedOk, AcknowledgedOk, WayOk, expands, shrinks, tokens, TokenOk, TokensOk, Took, CoverOk, Clauses}
 use Rattle.run.proofs.Protocol.Frame.{is-lead, not-lead, lead-same, at-within, agree-sym, agree-trans, agree-grow, agree-in, Grown, still, request-grown, reply-grown, proposal-grown, way-grown, role-more, cover-same, rerole}
 use Rattle.model.proofs.Log.Keep.{SameByEpoch, kept-within, kept-common, keep-within}
-use Rattle.model.proofs.Log.Play.{in-step-adopted}
+use Rattle.model.proofs.Log.Play.{in-step-cut}
 use Rattle.run.proofs.Protocol.State.{adopting}
 use Rattle.run.proofs.Protocol.OnPropose.{lead-of}
 use Rattle.run.proofs.Protocol.OnTake.{agree-length}
@@ -86,14 +86,14 @@ module _ (h : History) (s : State) (k : Clauses h s) (a p e end : ℕ) (t : List
   grown = record { pr = λ d b. refl; st = λ d b. b; start = λ d b. refl; book = λ d i x q. q; held = more; cmt = λ d. omega arith }
 
   mine : NodeOk new p (adopting (s .nodes p) e end t)
-  unfolding adopting adopted
+  unfolding adopting cutTo
   mine = record {
     begun = ok .begun;
     within = cut-in;
     whole = λ q. absurd (ok .other (sym (ok .owner) ∙ q));
     here = upd2-same (h .held) e p (length cut);
     ahead = λ d lt. held-at d p (λ q _. omega arith) ∙ k .nodes p .ahead d (omega arith);
-    played = in-step-adopted (s .nodes p .replica) e end t (k .nodes p .played);
+    played = in-step-cut (s .nodes p .replica) e end t (k .nodes p .played);
     role = tt;
   }
 
@@ -109,11 +109,11 @@ module _ (h : History) (s : State) (k : Clauses h s) (a p e end : ℕ) (t : List
   }
 
   pub ep : (m : ℕ) → s .nodes m .replica .epoch ≤ nodes m .replica .epoch
-  unfolding adopting adopted
+  unfolding adopting cutTo
   ep = upd-all (λ m (z : Node). s .nodes m .replica .epoch ≤ z .replica .epoch) (omega arith) (λ m ne. omega arith)
 
   epoch-mine : nodes p .replica .epoch ≡ e
-  unfolding adopting adopted
+  unfolding adopting cutTo
   epoch-mine = ap (λ (z : Node). z .replica .epoch) (upd-same (s .nodes) p (adopting (s .nodes p) e end t))
 
   took : (d o : ℕ) → Took new nodes d o → Took h (s .nodes) d o
@@ -132,7 +132,7 @@ module _ (h : History) (s : State) (k : Clauses h s) (a p e end : ℕ) (t : List
       agree-trans o (h .book d) log cut b (agree-in o log cut log (λ j x q. q) (keep-within end t log) (n .0) le)
 
   holds : (d m o : ℕ) → 1 ≤ d → d < top → In m (h .ins top) → d < nodes m .replica .epoch → Took new nodes d o → Agree o (h .book d) (nodes m .replica .log)
-  unfolding adopting adopted
+  unfolding adopting cutTo
   holds d m o lo lt i over u =
       upd-all (λ y (z : Node). y ≡ m → d < z .replica .epoch → Agree o (h .book d) (z .replica .log))
       (λ q over. kept d o lo lt (rw q i) over u)

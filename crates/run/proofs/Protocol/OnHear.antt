@@ -9,7 +9,7 @@ use lib.Dec.{eqb, leb, ltb}
 use lib.ListN.{length, length-append}
 use borrow.Author.Tests.{eqb-true, eqb-false, eq-eqb, ne-eqb, leb-true, leb-false, le-leb, lt-leb, ltb-true, ltb-false}
 use Rattle.model.specs.Lists.{_and_, _or_, nth, every}
-use Rattle.model.specs.Log.{Op, Entry, Log, End, entryAt, epochEnds, keep, ShardReplica, append, push, adopted, storeAll, promote, entriesFrom, Vectors, play}
+use Rattle.model.specs.Log.{Op, Entry, Log, End, entryAt, epochEnds, keep, ShardReplica, append, push, cutTo, storeAll, promote, entriesFrom, Vectors, play}
 use Rattle.model.proofs.Lists.{by-test, not-both, and-left, and-right, none-some, some-same, nth-nil, nth-same, nth-lt, lt-nth, nth-last, nth-snoc, Within, within-length, within-append}
 use Rattle.model.proofs.Log.Numbered.{Numbered, numbered-snoc, numbered-within}
 use Rattle.model.proofs.Log.Play.{InStep}
@@ -21,20 +21,13 @@ use Rattle.run.proofs.Protocol.Inv.{BookOk, LeadOk, RoleOk, NodeAt, Nod
 use Rattle.run.proofs.Protocol.Frame.{is-lead, not-lead, lead-same, at-within, agree-sym, agree-trans, agree-grow, agree-in, Grown, still, request-grown, reply-grown, proposal-grown, way-grown, role-more, cover-same, rerole}
 use Rattle.model.proofs.Log.Keep.{kept-prefix, keep-within}
 use Rattle.model.proofs.Log.Store.{store-all-epoch, store-all-holds, store-all-within}
-use Rattle.model.proofs.Log.Play.{in-step-adopted, in-step-store-all}
-use Rattle.run.proofs.Protocol.State.{leadsFrom, replied, adopting, storing, hearOne, hearAs, onHear}
-use Rattle.run.proofs.Protocol.Order.{TimelyOk, LinkOk, OrderOk}
+use Rattle.model.proofs.Log.Play.{in-step-cut, in-step-store-all}
+use Rattle.run.proofs.Protocol.State.{withRole, leadsFrom, replied, adopting, storing, hearOne, hearAs, onHear}
+use Rattle.run.proofs.Protocol.OnReply.{rerole-only}
 use Rattle.run.proofs.Protocol.OnPropose.{lead-of}
 use Rattle.run.proofs.Protocol.OnSend.{add-reply}
 use Rattle.run.proofs.Protocol.Grow as grow
 use Rattle.run.proofs.Protocol.OnAdopt as adopt
-
--- of two parts of one log, the shorter is a part of the longer
-pub within-both : (l m g : Log) → Within l g → Within m g → length l ≤ length m → Within l m
-within-both l m g u v le i x q =
-    let lt : i < length l = nth-lt l i x q in
-    let f = lt-nth m i (omega arith) in
-    f .1 ∙ ap some (nth-same g i (f .0) x (v i (f .0) (f .1)) (u i x q))
 
 -- a node that is not the primary of its epoch gets more of that epoch's log, and answers with its length
 module _ (h : History) (s : State) (k : Clauses h s) (a p : ℕ) (r : Role) (x : ShardReplica) where
@@ -82,47 +75,32 @@ module _ (h : History) (s : State) (k : Clauses h s) (a p e : ℕ) (es : Log) (o
       (λ q. ok .other (sym (ok .owner) ∙ ap (h .pr) same ∙ q)))
       (store-all-epoch e (s .nodes p .replica) es) e same (stores (length (x .log))) (omega arith, omega arith)
 
--- an alignment at the own epoch: nothing is cut, since the log has not grown past the primary's start
+-- an alignment at the own epoch: the whole log stays
 module _ (h : History) (s : State) (k : Clauses h s) (a p e end : ℕ) (t : List End) (ok : RequestOk (h .pr) (h .st) (h .book) (h .start) a p (align e end t))
-    (same : s .nodes p .replica .epoch ≡ e) (short : length (s .nodes p .replica .log) ≤ length (h .start e)) (none-later : leadsFrom (s .nodes p .role) e ≡ false) where
-  abbrev log : Log
-  log = s .nodes p .replica .log
-
-  log-in : Within log (h .book e)
-  log-in = subst (λ (d : ℕ). Within log (h .book d)) same (k .nodes p .within)
-
-  pub uncut : keep end t log ≡ log
+    (same : e ≡ s .nodes p .replica .epoch) where
+  uncut : Clauses h (replied (setNode s p (withRole (s .nodes p) backup)) a p e (adopts (length (s .nodes p .replica .log))))
+  unfolding replied setNode withRole
   uncut =
-      rw (ok .upto, ok .table)
-      (kept-prefix log (h .start e) (numbered-within log (h .book e) log-in (k .book .numbered e))
-      (numbered-within (h .start e) (h .book e) (k .book .begin e) (k .book .numbered e))
-      (within-both log (h .start e) (h .book e) log-in (k .book .begin e) short))
-
-  is-backup : s .nodes p .role ≡ backup
-  unfolding leadsFrom
-  is-backup = go (s .nodes p .role) refl none-later
+      add-reply h (setNode s p (withRole (s .nodes p) backup))
+      (rerole-only h s k p backup tt (λ st w. absurd (ok .other (sym (ok .owner) ∙ ap (h .pr) (same ∙ top-is st w) ∙ k .map .primary ∙ w))) tt)
+      (record { node = a; peer = p; epoch = e; answer = adopts (length (s .nodes p .replica .log)) }) (
+        omega (arith, (ap (λ (d : ℕ). h .held d p) same ∙ k .nodes p .here)),
+        omega (arith, same, (ap (λ (z : Node). z .replica .epoch) (upd-same (s .nodes) p (withRole (s .nodes p) backup)))),
+      )
     where
-      go : (r : Role) → s .nodes p .role ≡ r → leadsFrom r e ≡ false → s .nodes p .role ≡ backup
-      go backup q z = q
-      go (lead l) q z = absurd (omega (arith, leb-false e (l .epoch) z, lead-of h s k p l q .epoch, same))
-
-  aligned : Clauses (longer-history h s k a p backup (adopted (s .nodes p .replica) e end t))
-      (replied (setNode s p (adopting (s .nodes p) e end t)) a p e (adopts (length (adopted (s .nodes p .replica) e end t .log))))
-  unfolding adopting adopted
-  aligned =
-      answered h s k a p backup (adopted (s .nodes p .replica) e end t)
-      (fuller h s k a p backup (adopted (s .nodes p .replica) e end t) is-backup (sym same) (λ i y q. rw uncut q)
-      (in-step-adopted (s .nodes p .replica) e end t (k .nodes p .played))
-      (λ i y q. k .nodes p .within i y (keep-within end t log i y q))
-      (λ q. ok .other (sym (ok .owner) ∙ ap (h .pr) (sym same) ∙ q)))
-      (sym same) e (sym same) (adopts (length (keep end t log))) (omega arith, omega arith)
+      -- were it the map's primary, it would lead at the map's epoch, and be the primary of its own
+      top-is : h .st (s .map .epoch) ≡ true → s .map .primary ≡ p → s .nodes p .replica .epoch ≡ s .map .epoch
+      top-is st w =
+          let f = k .map .now st in
+          let c = lead-of h s k (s .map .primary) (f .0) (f .1) in
+          ap (λ (m : ℕ). s .nodes m .replica .epoch) (sym w) ∙ sym (c .epoch) ∙ f .2
 
 -- an alignment of a later epoch
 module _ (h : History) (s : State) (k : Clauses h s) (a p e end : ℕ) (t : List End) (ok : RequestOk (h .pr) (h .st) (h .book) (h .start) a p (align e end t))
     (later : s .nodes p .replica .epoch < e) where
   adopted-later : Clauses (adopt.new h s k a p e end t ok later)
-      (replied (setNode s p (adopting (s .nodes p) e end t)) a p e (adopts (length (adopted (s .nodes p .replica) e end t .log))))
-  unfolding replied setNode adopting adopted
+      (replied (setNode s p (adopting (s .nodes p) e end t)) a p e (adopts (length (cutTo (s .nodes p .replica) e end t .log))))
+  unfolding replied setNode adopting cutTo
   adopted-later =
       add-reply (adopt.new h s k a p e end t ok later) (setNode s p (adopting (s .nodes p) e end t)) (adopt.adopts-ok h s k a p e end t ok later)
       (record { node = a; peer = p; epoch = e; answer = adopts (length (keep end t (s .nodes p .replica .log))) }) (
@@ -135,33 +113,31 @@ stale : (h : History) (s : State) → Clauses h s → (a p e : ℕ) (v : Answer)
 unfolding replied
 stale h s k a p e v f = add-reply h s k (record { node = a; peer = p; epoch = e; answer = v }) (f (h .held e p) (s .nodes p .replica .epoch))
 
-pub on-hear : (h : History) (s : State) → Clauses h s → OrderOk (h .start) s → (a p : ℕ) → (h′ : History) × (h′ .start ≡ h .start) × Clauses h′ (onHear s a p)
+pub on-hear : (h : History) (s : State) → Clauses h s → (a p i : ℕ) → (h′ : History) × (h′ .start ≡ h .start) × Clauses h′ (onHear s a p i)
 unfolding onHear hearAs hearOne
-on-hear h s k o a p = go (s .requests a p) refl
+on-hear h s k a p i = go (nth (s .requests a p) i) refl
   where
     le-top : s .nodes p .replica .epoch ≤ s .map .epoch
     le-top = k .book .range (s .nodes p .replica .epoch) (k .nodes p .begun)
 
-    go : (l : List Request) → s .requests a p ≡ l → (h′ : History) × (h′ .start ≡ h .start) × Clauses h′ (hearAs s a p l)
-    go [] q = (h, refl, k)
-    go (align e end t ∷ rs) q =
-        let w : All (RequestOk (h .pr) (h .st) (h .book) (h .start) a p) (align e end t ∷ rs) = rw q at (k .way .requests a p) in
-        let ok = w .0 in
-        let z : All (TimelyOk (h .start) (s .nodes p .replica .epoch) (length (s .nodes p .replica .log))) (align e end t ∷ rs) =
-        rw q at (o .links a p (λ y. ok .other (sym y)) .timely) in
-        by-test (λ v. (h′ : History) × (h′ .start ≡ h .start) × Clauses h′ v) (leadsFrom (s .nodes p .role) e)
-        (λ u. (h, refl, stale h s k a p e (staleAlign (s .nodes p .replica .epoch)) (λ held own. le-top)))
-        (λ u. by-test (λ v. (h′ : History) × (h′ .start ≡ h .start) × Clauses h′ v) (ltb e (s .nodes p .replica .epoch))
-        (λ y. (h, refl, stale h s k a p e (staleAlign (s .nodes p .replica .epoch)) (λ held own. le-top)))
-        (λ y. same-or ((h′ : History) × (h′ .start ≡ h .start) × Clauses h′ (replied (setNode s p (adopting (s .nodes p) e end t)) a p e (adopts (length (adopted (s .nodes p .replica) e end t .log)))))
-        (s .nodes p .replica .epoch) e
-        (λ same. (longer-history h s k a p backup (adopted (s .nodes p .replica) e end t), refl, aligned h s k a p e end t ok same (z .0 same) u))
-        (λ ne. let le = ltb-false e (s .nodes p .replica .epoch) y in
-        let lt : s .nodes p .replica .epoch < e = omega (arith, ne) in (adopt.new h s k a p e end t ok lt, refl, adopted-later h s k a p e end t ok lt))))
-    go (send e es ∷ rs) q =
-        let w : All (RequestOk (h .pr) (h .st) (h .book) (h .start) a p) (send e es ∷ rs) = rw q at (k .way .requests a p) in
-        let ok = w .0 in
-        by-test (λ v. (h′ : History) × (h′ .start ≡ h .start) × Clauses h′ v) (eqb e (s .nodes p .replica .epoch))
+    After : State → Type 0
+    After v = (h′ : History) × (h′ .start ≡ h .start) × Clauses h′ v
+
+    go : (o : Option Request) → nth (s .requests a p) i ≡ o → After (hearAs s a p o)
+    go none q = (h, refl, k)
+    go (some (align e end t)) q =
+        let ok = all-nth (RequestOk (h .pr) (h .st) (h .book) (h .start) a p) (s .requests a p) i (align e end t) (k .way .requests a p) q in
+        let old = stale h s k a p e (staleAlign (s .nodes p .replica .epoch)) (λ held own. le-top) in
+        by-test After (leadsFrom (s .nodes p .role) e) (λ u. (h, refl, old))
+        (λ u. by-test After (ltb e (s .nodes p .replica .epoch)) (λ y. (h, refl, old))
+        (λ y. by-test After (eqb e (s .nodes p .replica .epoch))
+        (λ z. (h, refl, uncut h s k a p e end t ok (eqb-true e (s .nodes p .replica .epoch) z)))
+        (λ z. let le = ltb-false e (s .nodes p .replica .epoch) y in
+        let lt : s .nodes p .replica .epoch < e = omega (arith, eqb-false e (s .nodes p .replica .epoch) z) in
+        (adopt.new h s k a p e end t ok lt, refl, adopted-later h s k a p e end t ok lt))))
+    go (some (send e es)) q =
+        let ok = all-nth (RequestOk (h .pr) (h .st) (h .book) (h .start) a p) (s .requests a p) i (send e es) (k .way .requests a p) q in
+        by-test After (eqb e (s .nodes p .replica .epoch))
         (λ u. let same = eqb-true e (s .nodes p .replica .epoch) u in
         (longer-history h s k a p (s .nodes p .role) (storeAll (s .nodes p .replica) e es), refl, stored h s k a p e es ok same))
         (λ u. (h, refl, stale h s k a p e (staleSend (s .nodes p .replica .epoch)) (λ held own. le-top)))

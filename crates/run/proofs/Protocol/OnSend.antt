@@ -9,7 +9,7 @@ use lib.Dec.{eqb, leb, ltb}
 use lib.ListN.{length, length-append}
 use borrow.Author.Tests.{eqb-true, eqb-false, eq-eqb, ne-eqb, leb-true, leb-false, le-leb, lt-leb, ltb-true, ltb-false}
 use Rattle.model.specs.Lists.{_and_, _or_, nth, every}
-use Rattle.model.specs.Log.{Op, Entry, Log, End, entryAt, epochEnds, keep, ShardReplica, append, push, adopted, storeAll, promote, entriesFrom}
+use Rattle.model.specs.Log.{Op, Entry, Log, End, entryAt, epochEnds, keep, ShardReplica, append, push, cutTo, storeAll, promote, entriesFrom}
 use Rattle.model.proofs.Lists.{by-test, not-both, and-left, and-right, none-some, some-same, nth-nil, nth-same, nth-lt, lt-nth, nth-last, nth-snoc, Within, within-length, within-append}
 use Rattle.model.proofs.Log.Numbered.{Numbered, numbered-snoc, numbered-within}
 use Rattle.model.proofs.Log.Play.{InStep}
@@ -20,7 +20,7 @@ use Rattle.run.proofs.Protocol.Ghost.{History, Agree}
 use Rattle.run.proofs.Protocol.Inv.{BookOk, LeadOk, RoleOk, NodeOk, Leading, MapOk, At, RequestOk, AnswerOk, ReplyOk, ProposalOk, OutcomeOk, Stands, AcceptedOk, AcknowledgedOk, WayOk, expands, shrinks, tokens, TokenOk, TokensOk, Took, CoverOk, Clauses}
 use Rattle.run.proofs.Protocol.Frame.{is-lead, not-lead, lead-same, at-within, agree-sym, agree-trans, agree-grow, agree-in, Grown, still, request-grown, reply-grown, proposal-grown, way-grown, role-more, cover-same, rerole}
 use Rattle.model.proofs.Log.Numbered.{from-own}
-use Rattle.run.proofs.Protocol.State.{post, alignAs, onAlign, sendBatch, sendAs, onSend, onLose}
+use Rattle.run.proofs.Protocol.State.{post, alignAs, onAlign, sendBatch, sendAs, onSend}
 use Rattle.run.proofs.Protocol.OnPropose.{lead-of}
 
 pub relink : (h : History) (s : State) → Clauses h s → (a p : ℕ) (l : List Request)
@@ -41,12 +41,6 @@ relink h s k a p l ok = record {
     acknowledged = w .acknowledged;
   };
 }
-
-pub on-lose : (h : History) (s : State) → Clauses h s → (a p i : ℕ) → Clauses h (onLose s a p i)
-unfolding onLose
-on-lose h s k a p i =
-    relink h s k a p (removeAt (s .requests a p) i)
-    (all-remove (RequestOk (h .pr) (h .st) (h .book) (h .start) a p) (s .requests a p) i (k .way .requests a p))
 
 posted : (h : History) (s : State) → Clauses h s → (a p : ℕ) (r : Request) → RequestOk (h .pr) (h .st) (h .book) (h .start) a p r → Clauses h (post s a p r)
 unfolding post

@@ -10,7 +10,7 @@ use lib.Dec.{eqb, leb, ltb}
 use lib.ListN.{length, length-append}
 use borrow.Author.Tests.{eqb-true, eqb-false, eq-eqb, ne-eqb, leb-true, leb-false, le-leb, lt-leb, ltb-true, ltb-false}
 use Rattle.model.specs.Lists.{_and_, _or_, nth, every}
-use Rattle.model.specs.Log.{Op, Entry, Log, End, entryAt, epochEnds, keep, ShardReplica, append, push, adopted, storeAll, promote, entriesFrom, Vectors, play}
+use Rattle.model.specs.Log.{Op, Entry, Log, End, entryAt, epochEnds, keep, ShardReplica, append, push, cutTo, storeAll, promote, entriesFrom, Vectors, play}
 use Rattle.model.proofs.Lists.{by-test, not-both, and-left, and-right, none-some, some-same, nth-nil, nth-same, nth-lt, lt-nth, nth-last, nth-snoc, Within, within-length, within-append}
 use Rattle.model.proofs.Log.Numbered.{Numbered, numbered-snoc, numbered-within}
 use Rattle.model.proofs.Log.Play.{InStep}
@@ -23,10 +23,10 @@ use Rattle.run.proofs.Protocol.Frame.{is-lead, not-lead, lead-same, at-
 use Rattle.model.specs.declared.Metric.{Metric}
 use Rattle.model.specs.Log.{emptyReplica, playFrom}
 use Rattle.model.proofs.Log.Numbered.{entry-lt}
-use Rattle.run.proofs.Protocol.State.{Move, promotion, decision, rejection, outcome, silence, showing, writing, alignment, batch, arrival, departure, counting, joining, suspicion, waiting, step, run, fresh, withRole, leadAt, leader, showAs, onShow, promoted, onPromote, expanded, shrunk, mayTake, resized, takeAs, onTake, onForget, onUntell, suspectAs, onSuspect, allAcked, ackLead, ackAs, onAcknowledge}
-use Rattle.run.proofs.Protocol.Order.{AlignedOk, LateOk, OrderOk}
+use Rattle.run.proofs.Protocol.State.{Move, promotion, decision, rejection, outcome, silence, showing, writing, alignment, batch, arrival, counting, joining, suspicion, waiting, step, run, fresh, withRole, leadAt, leader, showAs, onShow, promoted, onPromote, expanded, shrunk, mayTake, resized, takeAs, onTake, onForget, onUntell, suspectAs, onSuspect, allAcked, ackLead, ackAs, onAcknowledge}
+use Rattle.run.proofs.Protocol.Reached.{ReachedOk, Reached, reached-promote, reached-take, reached-suspect, reached-wait, reached-align, reached-send, reached-join, reached-tell, reached-write, reached-show, reached-hear, reached-count}
 use Rattle.run.proofs.Protocol.OnPropose.{on-forget, on-untell, on-suspect}
-use Rattle.run.proofs.Protocol.OnSend.{on-align, on-send, on-lose}
+use Rattle.run.proofs.Protocol.OnSend.{on-align, on-send}
 use Rattle.run.proofs.Protocol.OnReply.{on-count, on-join, rerole-only}
 use Rattle.run.proofs.Protocol.OnTell.{on-tell}
 use Rattle.run.proofs.Protocol.OnWait.{on-wait}
@@ -35,111 +35,55 @@ use Rattle.run.proofs.Protocol.OnTake.{on-take}
 use Rattle.run.proofs.Protocol.OnWrite.{on-write}
 use Rattle.run.proofs.Protocol.OnHear.{on-hear}
 use Rattle.run.proofs.Protocol.OnShow as show
-use Rattle.run.proofs.Protocol.OrderKept.{order-lose, order-align, order-send}
-use Rattle.run.proofs.Protocol.OrderNodes.{order-count, order-join, order-tell, order-write, order-hear, order-drop, order-started}
 use Rattle.run.proofs.Protocol.Entering.{brings}
 
 -- the invariant: some history of which all clauses hold
 pub record Inv (s : State) : Type 0 where
   pub history : History
   pub clauses : Clauses history s
-  pub order : OrderOk (history .start) s
+  pub reached : Reached (s .nodes)
 
--- moves that leave nodes and messages leave their order
-order-promote : (start : ℕ → Log) (s : State) (q : ℕ) → OrderOk start s → OrderOk start (onPromote s q)
-unfolding onPromote setMap
-order-promote start s q o = by-test (OrderOk start) (member q (s .map .insync)) (λ t. record { links = o .links; late = o .late }) (λ t. o)
+with-reached : (h : History) (t : State) → Reached (t .nodes) → (h′ : History) × (h′ .start ≡ h .start) × Clauses h′ t → Inv t
+with-reached h t o f = record { history = f .0; clauses = f .2; reached = o }
 
-order-take : (start : ℕ → Log) (s : State) (i : ℕ) (told : Bool) → OrderOk start s → OrderOk start (onTake s i told)
-unfolding onTake takeAs expanded shrunk setMap setProposals setOutcomes
-order-take start s i told o = go (nth (s .proposals) i)
-  where
-    go : (v : Option Proposal) → OrderOk start (takeAs s i told v)
-    go none = o
-    go (some v) =
-        by-test (OrderOk start) (mayTake (s .map) v)
-        (λ t. by-test (OrderOk start) (v .expand) (λ u. record { links = o .links; late = o .late }) (λ u. record { links = o .links; late = o .late }))
-        (λ t. o)
-
-order-suspect : (start : ℕ → Log) (s : State) (a p : ℕ) → OrderOk start s → OrderOk start (onSuspect s a p)
-unfolding onSuspect suspectAs setProposals
-order-suspect start s a p o = go (s .nodes a .role)
-  where
-    go : (r : Role) → OrderOk start (suspectAs s a p r)
-    go backup = o
-    go (lead l) = record { links = o .links; late = o .late }
-
-order-forget : (start : ℕ → Log) (s : State) (i : ℕ) → OrderOk start s → OrderOk start (onForget s i)
-unfolding onForget setProposals
-order-forget start s i o = record { links = o .links; late = o .late }
-
-order-untell : (start : ℕ → Log) (s : State) (i : ℕ) → OrderOk start s → OrderOk start (onUntell s i)
-unfolding onUntell setOutcomes
-order-untell start s i o = record { links = o .links; late = o .late }
-
-order-wait : (start : ℕ → Log) (s : State) (i : ℕ) → OrderOk start s → OrderOk start (onAcknowledge s i)
-unfolding onAcknowledge ackAs ackLead addAcknowledged
-order-wait start s i o = go (nth (s .accepted) i)
-  where
-    act : (w : Accepted) → (v : Option Lead) → OrderOk start (ackLead s w v)
-    act w none = o
-    act w (some l) = by-test (OrderOk start) (allAcked (w .node) (w .offset) l) (λ t. record { links = o .links; late = o .late }) (λ t. o)
-
-    go : (v : Option Accepted) → OrderOk start (ackAs s v)
-    go none = o
-    go (some w) = act w (leadAt (s .nodes (w .node) .role) (w .epoch))
-
--- the history changes, but not what its epochs began with
-with-start : (h : History) (t : State) → OrderOk (h .start) t → (h′ : History) × (h′ .start ≡ h .start) × Clauses h′ t → Inv t
-with-start h t o f = record { history = f .0; clauses = f .2; order = subst (λ (w : ℕ → Log). OrderOk w t) (sym (f .1)) o }
-
-on-show : (s : State) (n : ℕ) → Inv s → Inv (onShow s n)
+on-show : (h : History) (s : State) → Clauses h s → (n : ℕ) → (h′ : History) × Clauses h′ (onShow s n)
 unfolding onShow showAs
-on-show s n v =
-    by-test Inv (eqb (s .map .primary) n)
+on-show h s k n =
+    by-test After (eqb (s .map .primary) n)
     (λ t. named (eqb-true (s .map .primary) n t) (leadAt (s .nodes n .role) (s .map .epoch)) refl)
-    (λ t. record {
-      history = v .history;
-      clauses = rerole-only (v .history) s (v .clauses) n backup tt (λ _ q. absurd (eqb-false (s .map .primary) n t q)) tt;
-      order = order-drop (v .history) s (v .clauses) (v .order) n;
-    })
+    (λ t. (h, rerole-only h s k n backup tt (λ _ q. absurd (eqb-false (s .map .primary) n t q)) tt))
   where
-    h : History
-    h = v .history
+    After : State → Type 0
+    After v = (h′ : History) × Clauses h′ v
 
-    begins : s .map .primary ≡ n → leadAt (s .nodes n .role) (s .map .epoch) ≡ none → (b : Bool) → h .st (s .map .epoch) ≡ b → Inv (setNode s n (leader (s .nodes n) (s .map)))
+    begins : s .map .primary ≡ n → leadAt (s .nodes n .role) (s .map .epoch) ≡ none → (b : Bool) → h .st (s .map .epoch) ≡ b → After (setNode s n (leader (s .nodes n) (s .map)))
     begins is q true z =
-        let f = v .clauses .map .now z in
+        let f = k .map .now z in
         absurd (not-lead (s .nodes n .role) (s .map .epoch) q (f .0) (ap (λ (m : ℕ). s .nodes m .role) (sym is) ∙ f .1) (f .2))
-    begins is q false z = record {
-      history = show.new h s (v .clauses) n is z;
-      clauses = show.started h s (v .clauses) n is z;
-      order = order-started h s (v .clauses) (v .order) n is z;
-    }
+    begins is q false z = (show.new h s k n is z, show.started h s k n is z)
 
-    named : s .map .primary ≡ n → (w : Option Lead) → leadAt (s .nodes n .role) (s .map .epoch) ≡ w → Inv (showAs s n w)
-    named is (some l) q = v
+    named : s .map .primary ≡ n → (w : Option Lead) → leadAt (s .nodes n .role) (s .map .epoch) ≡ w → After (showAs s n w)
+    named is (some l) q = (h, k)
     named is none q =
-        by-test Inv (leb (s .nodes n .replica .epoch) (s .map .epoch)) (λ t. begins is q (h .st (s .map .epoch)) refl) (λ t. v)
+        by-test After (leb (s .nodes n .replica .epoch) (s .map .epoch)) (λ t. begins is q (h .st (s .map .epoch)) refl) (λ t. (h, k))
 
 -- every move keeps it
 pub on-move : (s : State) (v : Move) → Inv s → Inv (step s v)
-unfolding step
-on-move s (promotion q) v = with-start (v .history) (onPromote s q) (order-promote (v .history .start) s q (v .order)) (on-promote (v .history) s (v .clauses) q)
-on-move s (decision i told) v = with-start (v .history) (onTake s i told) (order-take (v .history .start) s i told (v .order)) (on-take (v .history) s (v .clauses) i told)
-on-move s (rejection i) v = record { history = v .history; clauses = on-forget (v .history) s (v .clauses) i; order = order-forget (v .history .start) s i (v .order) }
-on-move s (outcome i) v = record { history = v .history; clauses = on-tell (v .history) s (v .clauses) i; order = order-tell (v .history) s (v .clauses) (v .order) i }
-on-move s (silence i) v = record { history = v .history; clauses = on-untell (v .history) s (v .clauses) i; order = order-untell (v .history .start) s i (v .order) }
-on-move s (showing n) v = on-show s n v
-on-move s (writing n op) v = with-start (v .history) _ (order-write (v .history) s (v .clauses) (v .order) n op) (on-write (v .history) s (v .clauses) n op)
-on-move s (alignment a p) v = record { history = v .history; clauses = on-align (v .history) s (v .clauses) a p; order = order-align (v .history .start) s (v .order) a p }
-on-move s (batch a p from size) v = record { history = v .history; clauses = on-send (v .history) s (v .clauses) a p from size; order = order-send (v .history .start) s (v .order) a p from size }
-on-move s (arrival a p) v = with-start (v .history) _ (order-hear (v .history) s (v .clauses) (v .order) a p) (on-hear (v .history) s (v .clauses) (v .order) a p)
-on-move s (departure a p i) v = record { history = v .history; clauses = on-lose (v .history) s (v .clauses) a p i; order = order-lose (v .history .start) s (v .order) a p i }
-on-move s (counting i) v = record { history = v .history; clauses = on-count (v .history) s (v .clauses) i; order = order-count (v .history) s (v .clauses) (v .order) i }
-on-move s (joining i) v = record { history = v .history; clauses = on-join (v .history) s (v .clauses) i; order = order-join (v .history) s (v .clauses) (v .order) i }
-on-move s (suspicion a p) v = record { history = v .history; clauses = on-suspect (v .history) s (v .clauses) a p; order = order-suspect (v .history .start) s a p (v .order) }
-on-move s (waiting i) v = with-start (v .history) (onAcknowledge s i) (order-wait (v .history .start) s i (v .order)) (on-wait (v .history) s (v .clauses) i)
+unfolding step onForget onUntell setProposals setOutcomes
+on-move s (promotion q) v = with-reached (v .history) (onPromote s q) (reached-promote s (v .reached) q) (on-promote (v .history) s (v .clauses) q)
+on-move s (decision i told) v = with-reached (v .history) (onTake s i told) (reached-take s (v .reached) i told) (on-take (v .history) s (v .clauses) i told)
+on-move s (rejection i) v = record { history = v .history; clauses = on-forget (v .history) s (v .clauses) i; reached = v .reached }
+on-move s (outcome i) v = record { history = v .history; clauses = on-tell (v .history) s (v .clauses) i; reached = reached-tell s (v .reached) i }
+on-move s (silence i) v = record { history = v .history; clauses = on-untell (v .history) s (v .clauses) i; reached = v .reached }
+on-move s (showing n) v = let f = on-show (v .history) s (v .clauses) n in record { history = f .0; clauses = f .1; reached = reached-show s (v .reached) n }
+on-move s (writing n op) v = with-reached (v .history) _ (reached-write s (v .reached) n op) (on-write (v .history) s (v .clauses) n op)
+on-move s (alignment a p) v = record { history = v .history; clauses = on-align (v .history) s (v .clauses) a p; reached = reached-align s (v .reached) a p }
+on-move s (batch a p from size) v = record { history = v .history; clauses = on-send (v .history) s (v .clauses) a p from size; reached = reached-send s (v .reached) a p from size }
+on-move s (arrival a p i) v = with-reached (v .history) _ (reached-hear s (v .reached) a p i) (on-hear (v .history) s (v .clauses) a p i)
+on-move s (counting i) v = record { history = v .history; clauses = on-count (v .history) s (v .clauses) i; reached = reached-count (v .history) s (v .clauses) (v .reached) i }
+on-move s (joining i) v = record { history = v .history; clauses = on-join (v .history) s (v .clauses) i; reached = reached-join s (v .reached) i }
+on-move s (suspicion a p) v = record { history = v .history; clauses = on-suspect (v .history) s (v .clauses) a p; reached = reached-suspect s (v .reached) a p }
+on-move s (waiting i) v = with-reached (v .history) (onAcknowledge s i) (reached-wait s (v .reached) i) (on-wait (v .history) s (v .clauses) i)
 
 -- .. and so does every list of moves
 pub on-run : (s : State) (vs : List Move) → Inv s → Inv (run s vs)
@@ -151,10 +95,6 @@ on-run s (v ∷ vs) i = on-run (step s v) vs (on-move s v i)
 module _ (metric : Metric) (p : ℕ) (others : List ℕ) where
   first : History
   first = record { pr = λ e. p; ins = λ e. p ∷ others; st = λ e. leb e 1; book = λ e. []; start = λ e. []; held = λ e m. 0; cmt = λ e. 0 }
-
-  no-log : (b : ℕ) → length (fresh metric p others .nodes b .replica .log) ≤ 0
-  unfolding fresh
-  no-log = upd-all (λ b (z : Node). length (z .replica .log) ≤ 0) (omega arith) (λ b ne. omega arith)
 
   pub at-first : Inv (fresh metric p others)
   unfolding first fresh epochEnds play playFrom tokens count
@@ -204,15 +144,7 @@ module _ (metric : Metric) (p : ℕ) (others : List ℕ) where
         holds = λ e m o lo lt i over t. absurd (omega arith);
       };
     };
-    order = record {
-      links = λ a b ne. record {
-        sorted = tt;
-        timely = tt;
-        aligned = upd-all (λ m (z : Node). AlignedOk (λ e. []) (fresh metric p others .nodes b .replica .epoch) (length (fresh metric p others .nodes b .replica .log)) b [] (z .role))
-            (record { reached = λ w. not-both false w refl; short = λ w q. no-log b; unsent = λ w. tt }) (λ m ne. tt) a;
-      };
-      late = tt;
-    };
+    reached = λ a b. upd-all (λ m (z : Node). ReachedOk (fresh metric p others .nodes b .replica .epoch) b (z .role)) (λ w. not-both false w refl) (λ m ne. tt) a;
   }
 
 -- what the invariant says of an acknowledged write and a node in sync

@@ -12,7 +12,7 @@ use lib.Dec.{eqb, leb, ltb}
 use lib.ListN.{length}
 use Rattle.model.specs.declared.Metric.{Metric}
 use Rattle.model.specs.Lists.{_and_, _or_, nth, every}
-use Rattle.model.specs.Log.{Op, Entry, Log, End, ShardReplica, emptyReplica, append, adopted, storeAll, promote, epochEnds, entriesFrom}
+use Rattle.model.specs.Log.{Op, Entry, Log, End, ShardReplica, emptyReplica, append, cutTo, storeAll, promote, epochEnds, entriesFrom}
 use Rattle.run.proofs.Protocol.Base.{upd, upd2, removeAt}
 use Rattle.run.proofs.Protocol.Sets.{member, without}
 
@@ -83,7 +83,7 @@ pub record Acknowledged : Type 0 where
   pub offset : ℕ
   pub op : Op
 
--- requests by sender and receiver, oldest first. Replies stay: each has its clause for good
+-- requests by sender and receiver. Requests and replies stay: each has its clause for good
 pub record State : Type 0 where
   pub map : Map
   pub nodes : ℕ → Node
@@ -104,8 +104,7 @@ pub data Move : Type 0 where
   writing : (node : ℕ) → Op → Move
   alignment : (node peer : ℕ) → Move
   batch : (node peer from size : ℕ) → Move
-  arrival : (node peer : ℕ) → Move
-  departure : (node peer place : ℕ) → Move
+  arrival : (node peer place : ℕ) → Move
   counting : (place : ℕ) → Move
   joining : (place : ℕ) → Move
   suspicion : (node peer : ℕ) → Move
@@ -346,7 +345,7 @@ unfoldable pub replied : State → ℕ → ℕ → ℕ → Answer → State
 replied s a p e v = addReply s (record { node = a; peer = p; epoch = e; answer = v })
 
 unfoldable pub adopting : Node → ℕ → ℕ → List End → Node
-adopting x e end t = record { replica = adopted (x .replica) e end t; role = backup }
+adopting x e end t = record { replica = cutTo (x .replica) e end t; role = backup }
 
 unfoldable pub storing : Node → ℕ → Log → Node
 storing x e es = record { replica = storeAll (x .replica) e es; role = x .role }
@@ -357,22 +356,21 @@ hearOne s a p x (align e end t) =
     (replied s a p e (staleAlign (x .replica .epoch)))
     (cond (ltb e (x .replica .epoch))
     (replied s a p e (staleAlign (x .replica .epoch)))
-    (replied (setNode s p (adopting x e end t)) a p e (adopts (length (adopted (x .replica) e end t .log)))))
+    (cond (eqb e (x .replica .epoch))
+    (replied (setNode s p (withRole x backup)) a p e (adopts (length (x .replica .log))))
+    (replied (setNode s p (adopting x e end t)) a p e (adopts (length (cutTo (x .replica) e end t .log))))))
 hearOne s a p x (send e es) =
     cond (eqb e (x .replica .epoch))
     (replied (setNode s p (storing x e es)) a p e (stores (length (storeAll (x .replica) e es .log))))
     (replied s a p e (staleSend (x .replica .epoch)))
 
-unfoldable pub hearAs : State → ℕ → ℕ → List Request → State
-hearAs s a p [] = s
-hearAs s a p (r ∷ rs) = hearOne s a p (s .nodes p) r
+unfoldable pub hearAs : State → ℕ → ℕ → Option Request → State
+hearAs s a p none = s
+hearAs s a p (some r) = hearOne s a p (s .nodes p) r
 
-unfoldable pub onHear : State → ℕ → ℕ → State
-onHear s a p = hearAs s a p (s .requests a p)
-
--- a request leaves its link: it has arrived, or is lost
-unfoldable pub onLose : State → ℕ → ℕ → ℕ → State
-onLose s a p i = setRequests s a p (removeAt (s .requests a p) i)
+-- any request that was ever put under way is heard, at any time, any number of times
+unfoldable pub onHear : State → ℕ → ℕ → ℕ → State
+onHear s a p i = hearAs s a p (nth (s .requests a p) i)
 
 -- node.rs, record_ack, step_down, unalign: what a reply makes of the record
 unfoldable pub withPeer : Lead → ℕ → ℕ → Bool → Lead
@@ -466,8 +464,7 @@ step s (showing n) = onShow s n
 step s (writing n op) = onWrite s n op
 step s (alignment a p) = onAlign s a p
 step s (batch a p from size) = onSend s a p from size
-step s (arrival a p) = onHear s a p
-step s (departure a p i) = onLose s a p i
+step s (arrival a p i) = onHear s a p i
 step s (counting i) = onCount s i
 step s (joining i) = onJoin s i
 step s (suspicion a p) = onSuspect s a p

@@ -9,15 +9,15 @@ use native.Mathlib.Omega.{arith}
 use lib.Dec.{eqb, leb, ltb}
 use lib.ListN.{length}
 use Rattle.model.specs.Lists.{nth}
-use Rattle.model.specs.Log.{Op, Entry, Log, End, ShardReplica, append, push, store, storeAll, keep, agrees, adopted, promote, entriesFrom}
+use Rattle.model.specs.Log.{Op, Entry, Log, End, ShardReplica, append, push, store, storeAll, keep, agrees, cutTo, promote, entriesFrom}
 use Rattle.model.proofs.Lists.{by-test, nth-lt, nth-append, nth-last}
 use Rattle.model.proofs.Log.Numbered.{from-at}
 use Rattle.model.proofs.Log.Store.{store-cases}
-use Rattle.run.proofs.Protocol.Base.{All, all-map, all-snoc, all-nth, nth-all, upd, upd-all, upd2, upd2-all, removeAt, all-remove}
+use Rattle.run.proofs.Protocol.Base.{All, all-map, all-snoc, all-nth, nth-all, upd, upd-all, upd2, upd2-all, removeAt}
 use Rattle.run.proofs.Protocol.Sets.{member, without}
 use Rattle.run.proofs.Protocol.State.{Lead, Role, backup, lead, Node, Request, align, send, Reply, Proposal, Outcome, Accepted, State, setMap, setNode, setRequests, addReply, setProposals, setOutcomes, addAccepted, addAcknowledged}
-use Rattle.run.proofs.Protocol.State.{Move, promotion, decision, rejection, outcome, silence, showing, writing, alignment, batch, arrival, departure, counting, joining, suspicion, waiting, step, run, fresh}
-use Rattle.run.proofs.Protocol.State.{withRole, withAck, leadAt, leader, showAs, onShow, onPromote, expanded, shrunk, mayTake, takeAs, onTake, onForget, onUntell, suspectAs, onSuspect, allAcked, ackLead, ackAs, onAcknowledge, post, alignAs, onAlign, sendBatch, sendAs, onSend, leadsFrom, replied, adopting, storing, hearOne, hearAs, onHear, onLose, countedAs, countRole, countAs, onCount, mayJoin, joinLead, joinAs, onJoin, toldAs, tellAs, onTell, writeAs, onWrite}
+use Rattle.run.proofs.Protocol.State.{Move, promotion, decision, rejection, outcome, silence, showing, writing, alignment, batch, arrival, counting, joining, suspicion, waiting, step, run, fresh}
+use Rattle.run.proofs.Protocol.State.{withRole, withAck, leadAt, leader, showAs, onShow, onPromote, expanded, shrunk, mayTake, takeAs, onTake, onForget, onUntell, suspectAs, onSuspect, allAcked, ackLead, ackAs, onAcknowledge, post, alignAs, onAlign, sendBatch, sendAs, onSend, leadsFrom, replied, adopting, storing, hearOne, hearAs, onHear, countedAs, countRole, countAs, onCount, mayJoin, joinLead, joinAs, onJoin, toldAs, tellAs, onTell, writeAs, onWrite}
 use Rattle.model.specs.declared.Metric.{Metric}
 use Rattle.run.proofs.Protocol.OnPropose.{lead-of}
 use Rattle.run.proofs.Protocol.Run.{Inv, on-move}
@@ -154,31 +154,23 @@ module _ (s : State) (v : Inv s) (k : KnownAt s) where
       (all-from (EntryIn (s .accepted)) (s .nodes a .replica .log) from size (k .logs a))) (λ u. k))
 
   hear-kept : (a p : ℕ) (r : Request) → RequestIn (s .accepted) r → KnownAt (hearOne s a p (s .nodes p) r)
-  unfolding hearOne replied addReply setNode adopting adopted storing
+  unfolding hearOne replied addReply setNode adopting cutTo storing
   hear-kept a p (align e end t) h =
       by-test KnownAt (leadsFrom (s .nodes p .role) e) (λ u. k)
       (λ u. by-test KnownAt (ltb e (s .nodes p .replica .epoch)) (λ y. k)
-      (λ y. on-node (s .accepted) (s .nodes) (s .requests) k p (adopting (s .nodes p) e end t)
-      (all-keep (EntryIn (s .accepted)) end t (s .nodes p .replica .log) (k .logs p))))
+      (λ y. by-test KnownAt (eqb e (s .nodes p .replica .epoch)) (λ z. role-only p backup)
+      (λ z. on-node (s .accepted) (s .nodes) (s .requests) k p (adopting (s .nodes p) e end t)
+      (all-keep (EntryIn (s .accepted)) end t (s .nodes p .replica .log) (k .logs p)))))
   hear-kept a p (send e es) h =
       by-test KnownAt (eqb e (s .nodes p .replica .epoch))
       (λ u. on-node (s .accepted) (s .nodes) (s .requests) k p (storing (s .nodes p) e es)
       (all-store-all (EntryIn (s .accepted)) (s .nodes p .replica) e es (k .logs p) h))
       (λ u. k)
 
-  hears-kept : (a p : ℕ) (q : List Request) → All (RequestIn (s .accepted)) q → KnownAt (hearAs s a p q)
+  hears-kept : (a p i : ℕ) (o : Option Request) → nth (s .requests a p) i ≡ o → KnownAt (hearAs s a p o)
   unfolding hearAs
-  hears-kept a p [] h = k
-  hears-kept a p (r ∷ rs) h = hear-kept a p r (h .0)
-
-  lose-kept : (a p i : ℕ) → KnownAt (onLose s a p i)
-  unfolding onLose setRequests
-  lose-kept a p i = record {
-    logs = k .logs;
-    batches =
-        upd2-all (λ c d v. All (RequestIn (s .accepted)) v)
-        (all-remove (RequestIn (s .accepted)) (s .requests a p) i (k .batches a p)) (λ c d ne. k .batches c d);
-  }
+  hears-kept a p i none q = k
+  hears-kept a p i (some r) q = hear-kept a p r (all-nth (RequestIn (s .accepted)) (s .requests a p) i r (k .batches a p) q)
 
   count-kept : (o : Option Reply) → KnownAt (countAs s o)
   unfolding countAs countRole
@@ -226,8 +218,7 @@ module _ (s : State) (v : Inv s) (k : KnownAt s) where
   known-move (writing n op) = write-kept n op (s .nodes n .role) refl
   known-move (alignment a p) = align-kept a p (s .nodes a .role)
   known-move (batch a p from size) = send-kept a p from size (s .nodes a .role)
-  known-move (arrival a p) = hears-kept a p (s .requests a p) (k .batches a p)
-  known-move (departure a p i) = lose-kept a p i
+  known-move (arrival a p i) = hears-kept a p i (nth (s .requests a p) i) refl
   known-move (counting i) = count-kept (nth (s .replies) i)
   known-move (joining i) = join-kept (nth (s .replies) i)
   known-move (suspicion a p) = suspect-kept a p (s .nodes a .role)

@@ -13,7 +13,8 @@ use borrow.Author.Tests.{eqb-true, eqb-false, ltb-false, le-leb}
 use Rattle.model.specs.Keys.{Key}
 use Rattle.model.specs.Limits.{maxEntries, maxName}
 use Rattle.model.specs.Lists.{nth, every}
-use Rattle.model.specs.Log.{Entry, Log, End, ShardReplica, Stored, through, gap, StoreResult, store, storeAll, adopted, lastOffset}
+use Rattle.model.specs.Log.{Entry, Log, End, ShardReplica, Stored, through, gap, StoreResult, store, storeAll, cutTo, lastOffset}
+use Rattle.model.specs.Log as log
 use Rattle.model.specs.Refusals.{Refusal}
 use Rattle.model.specs.Map.WellFormed.{nameFits}
 use Rattle.model.specs.Layout.Message as message
@@ -41,12 +42,12 @@ use Rattle.model.proofs.Node.Formed.{FormedNode}
 use Rattle.model.proofs.Node.Kept.{new-epoch-kept, copy-kept, replicate-kept}
 use Rattle.run.specs.State as real
 use Rattle.run.specs.Step as step
-use Rattle.run.proofs.Protocol.Base.{all-snoc, removeAt}
+use Rattle.run.proofs.Protocol.Base.{all-snoc, all-nth}
 use Rattle.run.proofs.Protocol.State as proto
-use Rattle.run.proofs.Protocol.State.{Role, lead, Node, Request, align, send, Answer, adopts, stores, staleAlign, staleSend, State, arrival, departure}
-use Rattle.run.proofs.Simulation.Lists.{each-head, each-removed}
-use Rattle.run.proofs.Simulation.Relation.{World, RoleSim, HeldSim, NodeSim, AlignSim, CopySim, LoneSim, SendSim, RequestSim, ReplySim, deedFor, Sim}
-use Rattle.run.proofs.Simulation.Frame.{Reaches, stays, moves, then-moves, on-node, on-nodes, on-links, on-answer, on-replies}
+use Rattle.run.proofs.Protocol.State.{Role, lead, Node, Request, align, send, Answer, adopts, stores, staleAlign, staleSend, State, arrival}
+use Rattle.run.proofs.Simulation.Lists.{all-removed}
+use Rattle.run.proofs.Simulation.Relation.{World, RoleSim, HeldSim, NodeSim, AlignSim, CopySim, LoneSim, SendSim, RequestSim, RequestAt, LogFits, ReplySim, deedFor, Sim}
+use Rattle.run.proofs.Simulation.Frame.{Reaches, stays, moves, on-node, on-nodes, on-requests, on-answer, on-replies}
 use Rattle.run.proofs.Simulation.Logs.{role-store, fits-store, fits-adopted}
 use Rattle.run.proofs.Simulation.AtNode.{at-own, node-with, shard-found, held-facts}
 use Rattle.run.proofs.Simulation.Commands.{u64-of}
@@ -58,7 +59,7 @@ unfolding proto.leadsFrom
 leads-from w top n r s ps proto.backup k e = ap (λ (v : role.Role). leadsFrom v e) k
 leads-from w top n r s ps (lead l) k e = ap (λ (v : role.Role). leadsFrom v e) (k .role)
 
-module _ (w : World) (s : real.State) (a : State) (k : Sim w s a) (from to : ℕ) (q : real.Request) (found : nth (s .requests from to) 0 ≡ some q)
+module _ (w : World) (s : real.State) (a : State) (k : Sim w s a) (from to : ℕ) (i place : ℕ) (q : real.Request)
     (mine : q .key ≡ w .key) where
   abbrev x : held.Node
   x = s .nodes to
@@ -70,7 +71,7 @@ module _ (w : World) (s : real.State) (a : State) (k : Sim w s a) (from to : ℕ
   top = a .map .epoch
 
   abbrev rest : List real.Request
-  rest = step.removed (s .requests from to) 0
+  rest = step.removed (s .requests from to) i
 
   abbrev next : held.Node → real.State
   next y = real.setRequests (real.setNode s to y) from to rest
@@ -79,25 +80,28 @@ module _ (w : World) (s : real.State) (a : State) (k : Sim w s a) (from to : ℕ
   abbrev Goal : Result BackupAnswer held.Node → Type 0
   Goal v = Reaches w (step.answered (next (v .after)) from to q (v .answer)) a
 
+  -- the others stay under way
+  leaves : (y : held.Node) (a₁ : State) → Sim w (real.setNode s to y) a₁ → Sim w (next y) a₁
+  unfolding real.setNode
+  leaves y a₁ k₁ =
+      on-requests w (real.setNode s to y) a₁ k₁ from to rest
+      (all-removed (RequestAt w to (a₁ .requests from to)) (s .requests from to) i (k₁ .requests from to))
+
   -- a refusal is a loss
   refused : (why : Refusal) (y : held.Node) → NodeSim w top to y b → Goal (gives (backupRefused why) y)
-  unfolding step.answered proto.step proto.onLose real.setNode
-  refused why y h =
-      let k₁ = on-node w s a k to y h in
-      moves w _ a (departure from to 0)
-      (on-links w (real.setNode s to y) a k₁ from to rest (removeAt (a .requests from to) 0)
-      (each-removed (RequestSim w to) (s .requests from to) 0 (a .requests from to) (k₁ .requests from to)))
+  unfolding step.answered
+  refused why y h = stays w _ a (leaves y a (on-node w s a k to y h))
 
   -- an answer goes back, from the protocol's state a₁
   answers : (y : held.Node) (a₁ : State) → Sim w (real.setNode s to y) a₁ → (v : Reply) (c : Answer) → GoodReply v
-      → ((e : ℕ) → deedOf (q .sent) v e ≡ deedFor w c e) → proto.step a (arrival from to) ≡ proto.replied a₁ from to (q .epoch) c
+      → ((e : ℕ) → deedOf (q .sent) v e ≡ deedFor w c e) → proto.step a (arrival from to place) ≡ proto.replied a₁ from to (q .epoch) c
       → Goal (gives (replied v) y)
-  unfolding step.answered proto.step proto.onLose proto.replied proto.addReply real.setReplies real.setRequests real.setNode
+  unfolding step.answered proto.replied proto.addReply real.setReplies real.setRequests real.setNode
   answers y a₁ k₁ v c good deed moved =
-      let s₁ : real.State = real.setNode s to y in
+      let s₁ : real.State = next y in
       let r : proto.Reply = record { node = from; peer = to; epoch = q .epoch; answer = c } in
       let a₂ : State = proto.addReply a₁ r in
-      let k₂ = on-answer w s₁ a₁ k₁ r in
+      let k₂ = on-answer w s₁ a₁ (leaves y a₁ k₁) r in
       let q₂ : real.Reply = record { node = from; peer = to; sent = q .sent; key = q .key; epoch = q .epoch; bytes = encodeReply v } in
       let new : ReplySim w (a₁ .replies ++ (r ∷ [])) q₂ = record {
         place = length (a₁ .replies);
@@ -109,38 +113,35 @@ module _ (w : World) (s : real.State) (a : State) (k : Sim w s a) (from to : ℕ
         deed = deed;
       } in
       let k₃ = on-replies w s₁ a₂ k₂ (s .replies ++ (q₂ ∷ [])) (all-snoc (ReplySim w (a₁ .replies ++ (r ∷ []))) (s .replies) q₂ (k₂ .replies) new) in
-      let k₄ = on-links w (real.setReplies s₁ (s .replies ++ (q₂ ∷ []))) a₂ k₃ from to rest (removeAt (a₁ .requests from to) 0)
-      (each-removed (RequestSim w to) (s .requests from to) 0 (a₁ .requests from to) (k₁ .requests from to)) in
-      then-moves w _ a (arrival from to) (subst (Reaches w _) (sym moved) (moves w _ a₂ (departure from to 0) k₄))
+      moves w _ a (arrival from to place) (subst (Sim w _) (sym moved) k₃)
 
-  -- the protocol hears the head of its link
-  hears : (r : Request) (l : List Request) → a .requests from to ≡ r ∷ l → proto.step a (arrival from to) ≡ proto.hearOne a from to b r
+  -- the protocol hears its request
+  hears : (r : Request) → nth (a .requests from to) place ≡ some r → proto.step a (arrival from to place) ≡ proto.hearOne a from to b r
   unfolding proto.step proto.onHear proto.hearAs
-  hears r l e = ap (proto.hearAs a from to) e
+  hears r e = ap (proto.hearAs a from to) e
 
   -- ---- NewEpoch
 
-  module _ (e end : ℕ) (t : List End) (l : List Request) (head : a .requests from to ≡ align e end t ∷ l) (c : AlignSim w to q e end t) where
+  module _ (e end : ℕ) (t : List End) (head : nth (a .requests from to) place ≡ some (align e end t)) (c : AlignSim w to q e end t) where
     module _ (h : Held) (is : x .held ≡ h ∷ []) (hs : HeldSim w top to h b) where
-      abbrev cut : ShardReplica
-      cut = adopted (h .replica) e end t
-
       abbrev AfterHeld : Result BackupAnswer Held → Type 0
       AfterHeld v = FormedNode (withHeld x (v .after ∷ [])) → Goal (gives (v .answer) (withHeld x (v .after ∷ [])))
 
       -- what the protocol makes of it, by the same tests
-      heard : proto.step a (arrival from to)
+      abbrev adopts-as : ShardReplica → (d : ℕ) → State
+      adopts-as r d = proto.replied (proto.setNode a to (record { replica = r; role = proto.backup })) from to d (adopts (lastOffset r))
+
+      heard : proto.step a (arrival from to place)
           ≡ cond (leadsFrom (h .role) e) (proto.replied a from to (q .epoch) (staleAlign (h .replica .epoch)))
           (cond (ltb e (h .replica .epoch)) (proto.replied a from to (q .epoch) (staleAlign (h .replica .epoch)))
-          (proto.replied (proto.setNode a to (record { replica = cut; role = proto.backup })) from to (q .epoch) (adopts (lastOffset cut))))
-      unfolding proto.hearOne proto.adopting
+          (cond (eqb e (h .replica .epoch)) (adopts-as (h .replica) (q .epoch)) (adopts-as (cutTo (h .replica) e end t) (q .epoch))))
+      unfolding proto.hearOne proto.adopting proto.withRole
       heard =
           let F : ShardReplica → Bool → ℕ → State = λ r f d.
           cond f (proto.replied a from to d (staleAlign (r .epoch)))
           (cond (ltb e (r .epoch)) (proto.replied a from to d (staleAlign (r .epoch)))
-          (proto.replied (proto.setNode a to (record { replica = adopted r e end t; role = proto.backup })) from to d
-          (adopts (lastOffset (adopted r e end t))))) in
-          hears (align e end t) l head
+          (cond (eqb e (r .epoch)) (adopts-as r d) (adopts-as (cutTo r e end t) d))) in
+          hears (align e end t) head
           ∙ ap (λ (f : Bool). F (b .replica) f e) (sym (leads-from w top to (h .role) (h .replica) (h .peers) (b .role) (hs .role) e))
           ∙ ap (λ (r : ShardReplica). F r (leadsFrom (h .role) e) e) (sym (hs .replica))
           ∙ ap (λ (d : ℕ). F (h .replica) (leadsFrom (h .role) e) d) (sym (c .epoch))
@@ -148,7 +149,7 @@ module _ (w : World) (s : real.State) (a : State) (k : Sim w s a) (from to : ℕ
       told : (v : Reply) (d : Answer) → ((z : ℕ) → deedOf sentAlign v z ≡ deedFor w d z) → (z : ℕ) → deedOf (q .sent) v z ≡ deedFor w d z
       told v d f z = ap (λ (u : Sent). deedOf u v z) (c .sent) ∙ f z
 
-      old : proto.step a (arrival from to) ≡ proto.replied a from to (q .epoch) (staleAlign (h .replica .epoch))
+      old : proto.step a (arrival from to place) ≡ proto.replied a from to (q .epoch) (staleAlign (h .replica .epoch))
           → AfterHeld (gives (replied (replyStale (h .replica .epoch))) h)
       unfolding deedOf
       old moved f =
@@ -156,38 +157,38 @@ module _ (w : World) (s : real.State) (a : State) (k : Sim w s a) (from to : ℕ
           (replyStale (h .replica .epoch)) (staleAlign (h .replica .epoch)) (u64-of (h .replica .epoch) (hs .fits .epoch))
           (told (replyStale (h .replica .epoch)) (staleAlign (h .replica .epoch)) (λ z. refl)) moved
 
-      new : h .replica .epoch ≤ e
-          → proto.step a (arrival from to)
-          ≡ proto.replied (proto.setNode a to (record { replica = cut; role = proto.backup })) from to (q .epoch) (adopts (lastOffset cut))
-          → AfterHeld (gives (replied (replyAdopted (lastOffset cut))) (demoted (withReplica h cut)))
+      new : (r : ShardReplica) → LogFits w r → lastOffset r ≤ lastOffset (h .replica)
+          → proto.step a (arrival from to place) ≡ adopts-as r (q .epoch)
+          → AfterHeld (gives (replied (replyAdopted (lastOffset r))) (demoted (withReplica h r)))
       unfolding deedOf
-      new more moved f =
-          let b₁ : Node = record { replica = cut; role = proto.backup } in
-          let hs₁ : HeldSim w top to (demoted (withReplica h cut)) b₁ = record {
+      new r fits less moved f =
+          let b₁ : Node = record { replica = r; role = proto.backup } in
+          let hs₁ : HeldSim w top to (demoted (withReplica h r)) b₁ = record {
             key = hs .key;
             holders = hs .holders;
             replica = refl;
-            fits = fits-adopted w (h .replica) e end t more (c .upto) (hs .fits);
+            fits = fits;
             role = refl;
           } in
           answers _ (proto.setNode a to b₁)
-          (on-nodes w s a k to _ b₁ (node-with w top to x b (k .nodes to) b₁ (demoted (withReplica h cut)) (c .holder) f hs₁))
-          (replyAdopted (lastOffset cut)) (adopts (lastOffset cut)) short
-          (told (replyAdopted (lastOffset cut)) (adopts (lastOffset cut)) (λ z. refl)) moved
-        where
-          less : lastOffset cut ≤ lastOffset (h .replica)
-          less = unfold adopted in keep-length end t (h .replica .log)
+          (on-nodes w s a k to _ b₁ (node-with w top to x b (k .nodes to) b₁ (demoted (withReplica h r)) (c .holder) f hs₁))
+          (replyAdopted (lastOffset r)) (adopts (lastOffset r)) (let m = held-facts w top to x b (k .nodes to) h is .log in omega arith)
+          (told (replyAdopted (lastOffset r)) (adopts (lastOffset r)) (λ z. refl)) moved
 
-          short : GoodReply (replyAdopted (lastOffset cut))
-          short = let p = less in let m = held-facts w top to x b (k .nodes to) h is .log in omega arith
+      less : lastOffset (cutTo (h .replica) e end t) ≤ lastOffset (h .replica)
+      unfolding cutTo
+      less = keep-length end t (h .replica .log)
 
       at-held : AfterHeld (newEpochHeld e end t h)
-      unfolding newEpochHeld
+      unfolding newEpochHeld log.adopted
       at-held =
-          by-both (λ (v : Result BackupAnswer Held) (z : State). proto.step a (arrival from to) ≡ z → AfterHeld v) (leadsFrom (h .role) e)
+          by-both (λ (v : Result BackupAnswer Held) (z : State). proto.step a (arrival from to place) ≡ z → AfterHeld v) (leadsFrom (h .role) e)
           (λ p moved. old moved)
-          (λ p. by-both (λ (v : Result BackupAnswer Held) (z : State). proto.step a (arrival from to) ≡ z → AfterHeld v) (ltb e (h .replica .epoch))
-          (λ u moved. old moved) (λ u moved. new (ltb-false e (h .replica .epoch) u) moved))
+          (λ p. by-both (λ (v : Result BackupAnswer Held) (z : State). proto.step a (arrival from to place) ≡ z → AfterHeld v) (ltb e (h .replica .epoch))
+          (λ u moved. old moved)
+          (λ u. by-both (λ (r : ShardReplica) (z : State). proto.step a (arrival from to place) ≡ z → AfterHeld (gives (replied (replyAdopted (lastOffset r))) (demoted (withReplica h r))))
+          (eqb e (h .replica .epoch)) (λ v moved. new (h .replica) (hs .fits) (omega arith) moved)
+          (λ v moved. new (cutTo (h .replica) e end t) (fits-adopted w (h .replica) e end t (ltb-false e (h .replica .epoch) u) (c .upto) (hs .fits)) less moved)))
           heard
 
     pub aligned : Goal (step.heard x (q .sent) (q .bytes))
@@ -206,7 +207,7 @@ module _ (w : World) (s : real.State) (a : State) (k : Sim w s a) (from to : ℕ
 
   -- ---- Replicate and CopyShard
 
-  module _ (e : ℕ) (es : Log) (l : List Request) (head : a .requests from to ≡ send e es ∷ l) (c : SendSim w to q e es) where
+  module _ (e : ℕ) (es : Log) (head : nth (a .requests from to) place ≡ some (send e es)) (c : SendSim w to q e es) where
     module _ (h : Held) (is : x .held ≡ h ∷ []) (hs : HeldSim w top to h b) where
       abbrev own : ℕ
       own = h .replica .epoch
@@ -218,7 +219,7 @@ module _ (w : World) (s : real.State) (a : State) (k : Sim w s a) (from to : ℕ
       AfterSend v = FormedNode (withHeld x (v .after ∷ [])) → Goal (gives (v .answer) (withHeld x (v .after ∷ [])))
 
       -- what the protocol makes of it
-      sent : proto.step a (arrival from to)
+      sent : proto.step a (arrival from to place)
           ≡ cond (eqb e own) (proto.replied (proto.setNode a to (record { replica = more; role = b .role })) from to (q .epoch)
           (stores (lastOffset more)))
           (proto.replied a from to (q .epoch) (staleSend own))
@@ -228,7 +229,7 @@ module _ (w : World) (s : real.State) (a : State) (k : Sim w s a) (from to : ℕ
           cond (eqb e (r .epoch))
           (proto.replied (proto.setNode a to (record { replica = storeAll r e es; role = b .role })) from to d (stores (lastOffset (storeAll r e es))))
           (proto.replied a from to d (staleSend (r .epoch))) in
-          hears (send e es) l head ∙ ap (λ (r : ShardReplica). F r e) (sym (hs .replica)) ∙ ap (λ (d : ℕ). F (h .replica) d) (sym (c .epoch))
+          hears (send e es) head ∙ ap (λ (r : ShardReplica). F r e) (sym (hs .replica)) ∙ ap (λ (d : ℕ). F (h .replica) d) (sym (c .epoch))
 
       turned : (why : Refusal) → AfterSend (gives (backupRefused why) h)
       turned why f = refused why (withHeld x (h ∷ [])) (node-with w top to x b (k .nodes to) b h (c .holder) f hs)
@@ -360,18 +361,17 @@ module _ (w : World) (s : real.State) (a : State) (k : Sim w s a) (from to : ℕ
         go (inl d) = copied d
         go (inr d) = alone d
 
-pub on-arrival : (w : World) (s : real.State) (a : State) → Sim w s a → (from to i : ℕ) → eqb i 0 ≡ true → Reaches w (step.onArrival s from to i) a
+pub on-arrival : (w : World) (s : real.State) (a : State) → Sim w s a → (from to i : ℕ) → Reaches w (step.onArrival s from to i) a
 unfolding step.onArrival step.arrives
-on-arrival w s a k from to i t =
-    subst (λ (j : ℕ). Reaches w (step.onArrival s from to j) a) (sym (eqb-true i 0 t)) (go (nth (s .requests from to) 0) refl)
+on-arrival w s a k from to i = go (nth (s .requests from to) i) refl
   where
-    hear : (q : real.Request) → nth (s .requests from to) 0 ≡ some q → (r : Request) (l : List Request) → a .requests from to ≡ r ∷ l
-        → RequestSim w to q r → Reaches w (step.arrives s from to 0 (some q)) a
-    hear q e (align d end t) l head c = aligned w s a k from to q e (c .key) d end t l head c
-    hear q e (send d es) l head c = sends w s a k from to q e (c .key) d es l head c
+    hear : (q : real.Request) (place : ℕ) (r : Request) → nth (a .requests from to) place ≡ some r → RequestSim w to q r
+        → Reaches w (step.arrives s from to i (some q)) a
+    hear q place (align d end t) found c = aligned w s a k from to i place q (c .key) d end t found c
+    hear q place (send d es) found c = sends w s a k from to i place q (c .key) d es found c
 
-    go : (o : Option real.Request) → nth (s .requests from to) 0 ≡ o → Reaches w (step.arrives s from to 0 o) a
+    go : (o : Option real.Request) → nth (s .requests from to) i ≡ o → Reaches w (step.arrives s from to i o) a
     go none e = stays w _ a k
     go (some q) e =
-        let h = each-head (RequestSim w to) (s .requests from to) (a .requests from to) q (k .requests from to) e in
-        hear q e (h .0) (h .1) (h .2) (h .3)
+        let h = all-nth (RequestAt w to (a .requests from to)) (s .requests from to) i q (k .requests from to) e in
+        hear q (h .place) (h .request) (h .found) (h .like)

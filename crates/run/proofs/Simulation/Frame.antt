@@ -5,13 +5,14 @@ use mathlib.Core.List.{List, [], _∷_, _++_, map}
 use Rattle.model.specs.Lists.{collect}
 use Rattle.model.specs.Map.Tables as tables
 use Rattle.model.specs.Node.Held as held
-use Rattle.model.proofs.Lists.{nth-lt, nth-append}
+use lib.ListN.{length}
+use Rattle.model.proofs.Lists.{nth-lt, nth-append, nth-last}
 use Rattle.run.specs.State as real
 use Rattle.run.proofs.Protocol.Base.{All, all-map, all-snoc}
 use Rattle.run.proofs.Protocol.State as proto
 use Rattle.run.proofs.Protocol.State.{Map, Node, Request, Reply, Proposal, Outcome, State, Move}
-use Rattle.run.proofs.Simulation.Lists.{Each, pair-all, one-all, pair2-all, map-join}
-use Rattle.run.proofs.Simulation.Relation.{World, MapSim, NodeSim, RequestSim, ReplySim, OfferFits, OutcomeKey, WriteKey, proposalOf, shrinks, outcomeOf, acceptedOf, acknowledgedOf, Sim}
+use Rattle.run.proofs.Simulation.Lists.{pair-all, one-all, pair2-all, map-join}
+use Rattle.run.proofs.Simulation.Relation.{World, MapSim, NodeSim, RequestSim, RequestAt, ReplySim, OfferFits, OutcomeKey, WriteKey, proposalOf, shrinks, outcomeOf, acceptedOf, acknowledgedOf, Sim}
 
 -- the protocol gets to a state that is this one
 abbrev pub Reaches : World → real.State → State → Type 0
@@ -74,14 +75,45 @@ module _ (w : World) (s : real.State) (a : State) (k : Sim w s a) where
 
   -- ---- links
 
-  pub on-links : (from to : ℕ) (l : List real.Request) (m : List Request) → Each (RequestSim w to) l m
-      → Sim w (real.setRequests s from to l) (proto.setRequests a from to m)
-  unfolding real.setRequests proto.setRequests
-  on-links from to l m h = record {
+  pub on-requests : (from to : ℕ) (l : List real.Request) → All (RequestAt w to (a .requests from to)) l → Sim w (real.setRequests s from to l) a
+  unfolding real.setRequests
+  on-requests from to l h = record {
     table = k .table;
     nodes = k .nodes;
     clients = k .clients;
-    requests = pair2-all (λ c d u v. Each (RequestSim w d) u v) h (k .requests);
+    requests = one-all (λ c (u : ℕ → List real.Request). (d : ℕ) → All (RequestAt w d (a .requests c d)) (u d))
+        (one-all (λ d (u : List real.Request). All (RequestAt w d (a .requests from d)) u) h (k .requests from)) (k .requests);
+    replies = k .replies;
+    offers = k .offers;
+    offered = k .offered;
+    outcomes = k .outcomes;
+    told = k .told;
+    accepted = k .accepted;
+    written = k .written;
+    acknowledged = k .acknowledged;
+    known = k .known;
+  }
+
+  stays-at : (to : ℕ) (rs : List Request) (r : Request) (q : real.Request) → RequestAt w to rs q → RequestAt w to (rs ++ (r ∷ [])) q
+  stays-at to rs r q h = record {
+    place = h .place;
+    request = h .request;
+    found = nth-append rs (r ∷ []) (h .place) (nth-lt rs (h .place) _ (h .found)) ∙ h .found;
+    like = h .like;
+  }
+
+  pub on-post : (from to : ℕ) (q : real.Request) (r : Request) → RequestSim w to q r
+      → Sim w (real.setRequests s from to (s .requests from to ++ (q ∷ []))) (proto.post a from to r)
+  unfolding real.setRequests proto.post proto.setRequests
+  on-post from to q r h = record {
+    table = k .table;
+    nodes = k .nodes;
+    clients = k .clients;
+    requests = pair2-all (λ c d u v. All (RequestAt w d v) u)
+        (all-snoc (RequestAt w to (a .requests from to ++ (r ∷ []))) (s .requests from to) q
+        (all-map (stays-at to (a .requests from to) r) (s .requests from to) (k .requests from to))
+        (record { place = length (a .requests from to); request = r; found = nth-last (a .requests from to) r; like = h }))
+        (k .requests);
     replies = k .replies;
     offers = k .offers;
     offered = k .offered;

@@ -172,32 +172,3 @@ module _ {A B : Type 0} (f : A → B) where
     collect-replaced (z ∷ zs) (suc i) x y e q =
         let more = collect-replaced zs i x y e q in
         by-both (λ (v w : List B). v ≡ w) (p z) (λ q. ap (λ (v : List B). f z ∷ v) more) (λ q. more)
-
--- ---- two lists side by side, place by place
-
-module _ {A B : Type 0} (R : A → B → Type 0) where
-  abbrev pub Each : List A → List B → Type 0
-  Each [] [] = Unit {0}
-  Each [] (y ∷ ys) = ⊥
-  Each (x ∷ xs) [] = ⊥
-  Each (x ∷ xs) (y ∷ ys) = R x y × Each xs ys
-
-  pub each-last : (xs : List A) (ys : List B) (x : A) (y : B) → Each xs ys → R x y → Each (xs ++ (x ∷ [])) (ys ++ (y ∷ []))
-  each-last [] [] x y h r = (r, tt)
-  each-last [] (z ∷ zs) x y h r = absurd h
-  each-last (w ∷ ws) [] x y h r = absurd h
-  each-last (w ∷ ws) (z ∷ zs) x y h r = (h .0, each-last ws zs x y (h .1) r)
-
-  pub each-removed : (xs : List A) (i : ℕ) (ys : List B) → Each xs ys → Each (removed xs i) (removeAt ys i)
-  unfolding removed removeAt
-  each-removed [] i [] h = tt
-  each-removed [] i (y ∷ ys) h = absurd h
-  each-removed (x ∷ xs) i [] h = absurd h
-  each-removed (x ∷ xs) zero (y ∷ ys) h = h .1
-  each-removed (x ∷ xs) (suc i) (y ∷ ys) h = (h .0, each-removed xs i ys (h .1))
-
-  pub each-head : (xs : List A) (ys : List B) (x : A) → Each xs ys → nth xs 0 ≡ some x → (y : B) × (zs : List B) × (ys ≡ y ∷ zs) × R x y
-  unfolding nth
-  each-head [] ys x h e = none-some e
-  each-head (z ∷ zs) [] x h e = absurd h
-  each-head (z ∷ zs) (y ∷ ys) x h e = (y, ys, refl, subst (λ (v : A). R v y) (some-same e) (h .0))

@@ -5,7 +5,7 @@ use mathlib.Core.List.{List, [], _∷_, _++_}
 use native.Mathlib.Omega.{arith}
 use lib.ListN.{length, take, length-append}
 use Rattle.model.specs.Limits.{maxU64}
-use Rattle.model.specs.Log.{Entry, Log, End, ShardReplica, push, store, storeAll, adopted, promote, epochEnds}
+use Rattle.model.specs.Log.{Entry, Log, End, ShardReplica, push, store, storeAll, cutTo, promote, epochEnds}
 use Rattle.model.specs.declared.Peer.{Peer}
 use Rattle.model.specs.declared.Role as role
 use Rattle.model.proofs.Lists.{nth-snoc}
@@ -62,8 +62,8 @@ module _ (w : World) where
       (λ p q. fits-push s e (let z = h .0 .0 in omega arith) (h .0 .1) k) (λ p q. k) (λ p q. k) (λ p. k))
 
   pub fits-adopted : (s : ShardReplica) (epoch end : ℕ) (t : List End) → s .epoch ≤ epoch → epoch ≤ maxU64 → LogFits w s
-      → LogFits w (adopted s epoch end t)
-  unfolding adopted
+      → LogFits w (cutTo s epoch end t)
+  unfolding cutTo
   fits-adopted s epoch end t more upto k = record {
     epoch = upto;
     entries = λ i x q. let h = k .entries i x (keep-within end t (s .log) i x q) in (let z = h .0 in omega arith, h .1);

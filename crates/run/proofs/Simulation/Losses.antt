@@ -12,10 +12,10 @@ use Rattle.run.specs.State as real
 use Rattle.run.specs.Step as step
 use Rattle.run.proofs.Protocol.Base.{All, all-snoc, all-nth, removeAt}
 use Rattle.run.proofs.Protocol.State as proto
-use Rattle.run.proofs.Protocol.State.{State, rejection, silence, departure}
-use Rattle.run.proofs.Simulation.Lists.{each-removed, all-removed, all-replaced, removed-map, replaced-map, collect-skip, collect-removed, collect-taken, collect-replaced}
-use Rattle.run.proofs.Simulation.Relation.{World, RequestSim, ReplySim, OfferFits, OutcomeKey, proposalOf, shrinks, outcomeOf, Sim}
-use Rattle.run.proofs.Simulation.Frame.{Reaches, stays, moves, on-links, on-replies, on-offers, same-offers, on-outcomes, same-outcomes}
+use Rattle.run.proofs.Protocol.State.{State, rejection, silence}
+use Rattle.run.proofs.Simulation.Lists.{all-removed, all-replaced, removed-map, replaced-map, collect-skip, collect-removed, collect-taken, collect-replaced}
+use Rattle.run.proofs.Simulation.Relation.{World, RequestAt, ReplySim, OfferFits, OutcomeKey, proposalOf, shrinks, outcomeOf, Sim}
+use Rattle.run.proofs.Simulation.Frame.{Reaches, stays, moves, on-requests, on-replies, on-offers, same-offers, on-outcomes, same-outcomes}
 
 pub removed-none : {A : Type 0} (l : List A) (i : ℕ) → nth l i ≡ none → step.removed l i ≡ l
 unfolding nth step.removed
@@ -30,11 +30,34 @@ not-left grow = refl
 
 module _ (w : World) (s : real.State) (a : State) (k : Sim w s a) where
   pub request-lost : (from to i : ℕ) → Reaches w (step.onRequestLost s from to i) a
-  unfolding step.onRequestLost proto.step proto.onLose
+  unfolding step.onRequestLost
   request-lost from to i =
-      moves w _ a (departure from to i)
-      (on-links w s a k from to (step.removed (s .requests from to) i) (removeAt (a .requests from to) i)
-      (each-removed (RequestSim w to) (s .requests from to) i (a .requests from to) (k .requests from to)))
+      stays w _ a
+      (on-requests w s a k from to (step.removed (s .requests from to) i)
+      (all-removed (RequestAt w to (a .requests from to)) (s .requests from to) i (k .requests from to)))
+
+  pub request-repeats : (from to i : ℕ) → Reaches w (step.onRequestRepeats s from to i) a
+  unfolding step.onRequestRepeats step.doubled
+  request-repeats from to i = go (nth (s .requests from to) i) refl
+    where
+      go : (o : Option real.Request) → nth (s .requests from to) i ≡ o → Reaches w (step.doubled s from to o) a
+      go none e = stays w _ a k
+      go (some q) e =
+          stays w _ a
+          (on-requests w s a k from to (s .requests from to ++ (q ∷ []))
+          (all-snoc (RequestAt w to (a .requests from to)) (s .requests from to) q (k .requests from to)
+          (all-nth (RequestAt w to (a .requests from to)) (s .requests from to) i q (k .requests from to) e)))
+
+  pub reply-repeats : (i : ℕ) → Reaches w (step.onReplyRepeats s i) a
+  unfolding step.onReplyRepeats step.replyDoubled
+  reply-repeats i = go (nth (s .replies) i) refl
+    where
+      go : (o : Option real.Reply) → nth (s .replies) i ≡ o → Reaches w (step.replyDoubled s o) a
+      go none e = stays w _ a k
+      go (some q) e =
+          stays w _ a
+          (on-replies w s a k (s .replies ++ (q ∷ []))
+          (all-snoc (ReplySim w (a .replies)) (s .replies) q (k .replies) (all-nth (ReplySim w (a .replies)) (s .replies) i q (k .replies) e)))
 
   pub reply-lost : (i : ℕ) → Reaches w (step.onReplyLost s i) a
   unfolding step.onReplyLost

@@ -40,7 +40,6 @@ use Rattle.run.specs.Fresh.{properId}
 use Rattle.run.proofs.Protocol.Base.{All}
 use Rattle.run.proofs.Protocol.Sets.{member, In}
 use Rattle.run.proofs.Protocol.State.{Map, Lead, Role, backup, lead, Node, Request, align, send, Answer, adopts, stores, staleAlign, staleSend, Reply, Proposal, Outcome, Accepted, Acknowledged, State}
-use Rattle.run.proofs.Simulation.Lists.{Each}
 use Rattle.run.proofs.Simulation.Ops.{IdFits}
 
 -- a node's row in the map, under that incarnation, marked dead
@@ -169,6 +168,13 @@ module _ (w : World) where
   RequestSim to q (align e end t) = AlignSim to q e end t
   RequestSim to q (send e es) = SendSim to q e es
 
+  -- the protocol's requests stay for good, so that a request has its place among them
+  pub record RequestAt (to : ℕ) (rs : List Request) (q : run.Request) : Type 0 where
+    pub place : ℕ
+    pub request : Request
+    pub found : nth rs place ≡ some request
+    pub like : RequestSim to q request
+
   -- ---- replies
 
   -- what an answer brings about at a record of epoch e
@@ -227,7 +233,7 @@ module _ (w : World) where
     pub table : MapSim (s .map) (a .map)
     pub nodes : (n : ℕ) → NodeSim (a .map .epoch) n (s .nodes n) (a .nodes n)
     pub clients : (n : ℕ) → U64 (s .clients n)
-    pub requests : (from to : ℕ) → Each (RequestSim to) (s .requests from to) (a .requests from to)
+    pub requests : (from to : ℕ) → All (RequestAt to (a .requests from to)) (s .requests from to)
     pub replies : All (ReplySim (a .replies)) (s .replies)
     pub offers : map proposalOf (s .offers) ≡ a .proposals
     pub offered : All (OfferFits (a .map .epoch)) (s .offers)

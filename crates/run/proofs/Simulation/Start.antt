@@ -41,8 +41,8 @@ use Rattle.run.specs.Fresh.{Live, AllLive, Created, Shown, Fresh}
 use Rattle.run.proofs.Protocol.Base.{All, upd-same, upd-other}
 use Rattle.run.proofs.Protocol.Sets.{member}
 use Rattle.run.proofs.Protocol.State.{Map, backup, Node, State, fresh, leader, withRole}
-use Rattle.run.proofs.Simulation.Lists.{Each, any-find}
-use Rattle.run.proofs.Simulation.Relation.{World, deadRow, MapSim, LogFits, HeldSim, NodeSim, RequestSim, ReplySim, OfferFits, OutcomeKey, WriteKey, proposalOf, shrinks, outcomeOf, acceptedOf, acknowledgedOf, Sim}
+use Rattle.run.proofs.Simulation.Lists.{any-find}
+use Rattle.run.proofs.Simulation.Relation.{World, deadRow, MapSim, LogFits, HeldSim, NodeSim, RequestAt, ReplySim, OfferFits, OutcomeKey, WriteKey, proposalOf, shrinks, outcomeOf, acceptedOf, acknowledgedOf, Sim}
 use Rattle.run.proofs.Simulation.ShownShard.{demoted-sim, promoted-sim}
 use Rattle.run.proofs.Simulation.Shown.{shows-none, shows-one}
 
@@ -318,7 +318,7 @@ at-start s f =
       table = table m i c;
       nodes = λ n. node m i c n (s .nodes n) (f .shown n);
       clients = f .clients;
-      requests = λ a b. subst (λ (l : List real.Request). Each (RequestSim w b) l []) (sym (f .requests a b)) tt;
+      requests = λ a b. subst (All (RequestAt w b [])) (sym (f .requests a b)) tt;
       replies = subst (All (ReplySim w [])) (sym (f .replies)) tt;
       offers = ap (map (proposalOf w)) (f .offers);
       offered = subst (All (OfferFits w 1)) (sym (f .offers)) tt;

@@ -18,8 +18,10 @@ use Rattle.run.specs.Event.{
   workerSteps,
   requestArrives,
   requestLost,
+  requestRepeats,
   replyArrives,
   replyLost,
+  replyRepeats,
   offerArrives,
   offerLost,
   offerTimesOut,
@@ -31,7 +33,7 @@ use Rattle.run.proofs.Protocol.State as proto
 use Rattle.run.proofs.Protocol.State.{State, Move}
 use Rattle.run.proofs.Simulation.Relation.{World, Sim}
 use Rattle.run.proofs.Simulation.Frame.{Reaches, stays}
-use Rattle.run.proofs.Simulation.Losses.{request-lost, reply-lost, offer-lost, offer-late, outcome-lost, outcome-late}
+use Rattle.run.proofs.Simulation.Losses.{request-lost, request-repeats, reply-lost, reply-repeats, offer-lost, offer-late, outcome-lost, outcome-late}
 use Rattle.run.proofs.Simulation.Client.{granted, searched, wrote}
 use Rattle.run.proofs.Simulation.Waits.{on-wait}
 use Rattle.run.proofs.Simulation.Told.{on-outcome}
@@ -50,7 +52,9 @@ on-event w s a k (clientWrites n now least bytes) t = wrote w s a k n now least 
 on-event w s a k (clientSearches n now room bytes) t = searched w s a k n now room bytes
 on-event w s a k (nodeWaits i now timeout) t = on-wait w s a k i now timeout
 on-event w s a k (workerSteps n key epoch peer metric room) t = on-work w s a k n key epoch peer metric room t
-on-event w s a k (requestArrives from to i) t = on-arrival w s a k from to i t
+on-event w s a k (requestArrives from to i) t = on-arrival w s a k from to i
+on-event w s a k (requestRepeats from to i) t = request-repeats w s a k from to i
+on-event w s a k (replyRepeats i) t = reply-repeats w s a k i
 on-event w s a k (requestLost from to i) t = request-lost w s a k from to i
 on-event w s a k (replyArrives i) t = on-reply w s a k i
 on-event w s a k (replyLost i) t = reply-lost w s a k i

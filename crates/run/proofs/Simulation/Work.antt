@@ -40,10 +40,10 @@ use Rattle.run.specs.Step as step
 use Rattle.run.proofs.Protocol.Base.{All, nth-all}
 use Rattle.run.proofs.Protocol.State as proto
 use Rattle.run.proofs.Protocol.State.{Lead, Role, lead, Node, Request, State}
-use Rattle.run.proofs.Simulation.Lists.{each-last, any-find}
+use Rattle.run.proofs.Simulation.Lists.{any-find}
 use Rattle.run.proofs.Simulation.Ops.{op-back}
 use Rattle.run.proofs.Simulation.Relation.{World, LeadSim, HeldSim, AlignSim, CopySim, LoneSim, RequestSim, Sim}
-use Rattle.run.proofs.Simulation.Frame.{Reaches, stays, moves, on-links}
+use Rattle.run.proofs.Simulation.Frame.{Reaches, stays, moves, on-post}
 use Rattle.run.proofs.Simulation.AtNode.{leads, shard-cases, log-facts, held-facts}
 use Rattle.run.proofs.Simulation.Commands.{u64-of}
 use Rattle.run.proofs.Simulation.Batches.{Ready, ready, Batch, batch, ends-good}
@@ -69,13 +69,12 @@ module _ (w : World) (s : real.State) (a : State) (k : Sim w s a) (n : ℕ) (key
   -- bytes that are a request of the protocol
   puts : (bytes : List ℕ) (r : Request) (v : proto.Move) → proto.step a v ≡ proto.post a n peer r
       → RequestSim w peer (record { sent = step.sentOf bytes; key = key; epoch = epoch; bytes = bytes }) r → Goal (written bytes)
-  unfolding step.posted proto.post
+  unfolding step.posted
   puts bytes r v moved sim =
       let q : real.Request = record { sent = step.sentOf bytes; key = key; epoch = epoch; bytes = bytes } in
       moves w _ a v
       (subst (Sim w _) (sym moved)
-      (on-links w s a k n peer (s .requests n peer ++ (q ∷ [])) (a .requests n peer ++ (r ∷ []))
-      (each-last (RequestSim w peer) (s .requests n peer) (a .requests n peer) q r (k .requests n peer) sim)))
+      (on-post w s a k n peer q r sim))
 
   -- a message is written where it fits
   fits-in : (m : Message) → Goal (written (messageBytes m)) → Goal (writtenIn room (some m))
