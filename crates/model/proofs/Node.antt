@@ -9,3 +9,4 @@ pub mod KeptCalls
 pub mod Answers
 pub mod Guards
 pub mod Frames
+pub mod OwnEpoch

@@ -11,3 +11,4 @@ pub mod Refused
 pub mod WellFormed
 pub mod Calls
 pub mod Dump
+pub mod OwnEpoch
