@@ -8,7 +8,7 @@ use mathlib.Core.List.{List, [], _∷_}
 use mathlib.Core.Option.{Option, none, some}
 use Prim.Native.Nat.{ℕ}
 use Rattle.model.specs.Lists.{nth}
-use Rattle.run.specs.State.{State, Offer, Outcome, setRequests, setReplies, setOffers, setOutcomes}
+use Rattle.run.specs.State.{State, Request, Reply, Offer, Outcome, setRequests, setReplies, setOffers, setOutcomes}
 use Rattle.run.specs.Event.{
   Event,
   command,
@@ -20,8 +20,10 @@ use Rattle.run.specs.Event.{
   workerSteps,
   requestArrives,
   requestLost,
+  requestRepeats,
   replyArrives,
   replyLost,
+  replyRepeats,
   offerArrives,
   offerLost,
   offerTimesOut,
@@ -30,7 +32,7 @@ use Rattle.run.specs.Event.{
   outcomeTimesOut,
 }
 use Rattle.run.specs.Rules.{allowed, allowedRun}
-use Rattle.run.specs.Step.{step, run, onRequestLost, onReplyLost, onOfferLost, givenUp, onOfferTimeout, onOutcomeLost, late, onOutcomeTimeout}
+use Rattle.run.specs.Step.{step, run, onRequestLost, doubled, onRequestRepeats, onReplyLost, replyDoubled, onReplyRepeats, onOfferLost, givenUp, onOfferTimeout, onOutcomeLost, late, onOutcomeTimeout}
 use Rattle.run.specs.Fresh.{Fresh}
 use Rattle.run.specs.Claim.{Durable, Alike, Written}
 use Rattle.run.proofs.Demand3 as model
@@ -52,6 +54,16 @@ unfolding givenUp setOffers
 given-beside s i none = record { map = refl; nodes = refl; clients = refl }
 given-beside s i (some o) = let b = told-beside s o false in record { map = b .map; nodes = b .nodes; clients = b .clients }
 
+pub doubled-beside : (s : State) (from to : ℕ) (o : Option Request) → Beside s (doubled s from to o)
+unfolding doubled setRequests
+doubled-beside s from to none = record { map = refl; nodes = refl; clients = refl }
+doubled-beside s from to (some q) = record { map = refl; nodes = refl; clients = refl }
+
+pub reply-doubled-beside : (s : State) (o : Option Reply) → Beside s (replyDoubled s o)
+unfolding replyDoubled setReplies
+reply-doubled-beside s none = record { map = refl; nodes = refl; clients = refl }
+reply-doubled-beside s (some q) = record { map = refl; nodes = refl; clients = refl }
+
 pub late-beside : (s : State) (i : ℕ) (o : Option Outcome) → Beside s (late s i o)
 unfolding late setOutcomes
 late-beside s i none = record { map = refl; nodes = refl; clients = refl }
@@ -65,7 +77,7 @@ module _ (e f : Engine) where
 
   -- every event of the engine is a run of `run`: the same event, or, where the lent test refused a call, one that does without it
   pub simulated : (v : Event) → allowed (seen e) v ≡ true → Called e v f → Simulated (seen e) (seen f)
-  unfolding step Called onRequestLost onReplyLost onOfferLost onOutcomeLost onOfferTimeout onOutcomeTimeout setRequests setReplies setOffers setOutcomes
+  unfolding step Called onRequestLost onRequestRepeats onReplyLost onReplyRepeats onOfferLost onOutcomeLost onOfferTimeout onOutcomeTimeout setRequests setReplies setOffers setOutcomes
   simulated (command m) may c = on-command e f m may c
   simulated (mapShown n fresh) may c = on-shown e f n fresh may c
   simulated (leaseGranted n i sent lease) may c = on-grant e f n i sent lease may c
@@ -76,9 +88,13 @@ module _ (e f : Engine) where
   simulated (requestArrives from to i) may c = on-arrival e f from to i may c
   simulated (requestLost from to i) may c =
       beside (requestLost from to i) (λ s. onRequestLost s from to i) may refl (record { map = refl; nodes = refl; clients = refl }) c
+  simulated (requestRepeats from to i) may c =
+      beside (requestRepeats from to i) (λ s. onRequestRepeats s from to i) may refl (doubled-beside (seen e) from to (nth (seen e .requests from to) i)) c
   simulated (replyArrives i) may c = on-reply e f i may c
   simulated (replyLost i) may c =
       beside (replyLost i) (λ s. onReplyLost s i) may refl (record { map = refl; nodes = refl; clients = refl }) c
+  simulated (replyRepeats i) may c =
+      beside (replyRepeats i) (λ s. onReplyRepeats s i) may refl (reply-doubled-beside (seen e) (nth (seen e .replies) i)) c
   simulated (offerArrives i index seq) may c = on-offer e f i index seq may c
   simulated (offerLost i) may c =
       beside (offerLost i) (λ s. onOfferLost s i) may refl (record { map = refl; nodes = refl; clients = refl }) c

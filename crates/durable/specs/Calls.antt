@@ -31,8 +31,10 @@ use Rattle.run.specs.Event.{
   workerSteps,
   requestArrives,
   requestLost,
+  requestRepeats,
   replyArrives,
   replyLost,
+  replyRepeats,
   offerArrives,
   offerLost,
   offerTimesOut,
@@ -211,9 +213,11 @@ Called e (requestArrives from to i) f = Arrives e from to i (nth (e .requests fr
 Called e (replyArrives i) f = Acks e i (nth (e .replies) i) f
 Called e (offerArrives i index seq) f = Offers e i index seq (nth (e .offers) i) f
 Called e (outcomeArrives i) f = Settles e i (nth (e .outcomes) i) f
--- no calls: losses and timeouts, as in `run`
+-- no calls: losses, repeats and timeouts, as in `run`
 Called e (requestLost from to i) f = f ≡ host e (λ s. run.onRequestLost s from to i)
+Called e (requestRepeats from to i) f = f ≡ host e (λ s. run.onRequestRepeats s from to i)
 Called e (replyLost i) f = f ≡ host e (λ s. run.onReplyLost s i)
+Called e (replyRepeats i) f = f ≡ host e (λ s. run.onReplyRepeats s i)
 Called e (offerLost i) f = f ≡ host e (λ s. run.onOfferLost s i)
 Called e (offerTimesOut i) f = f ≡ host e (λ s. run.onOfferTimeout s i)
 Called e (outcomeLost i) f = f ≡ host e (λ s. run.onOutcomeLost s i)

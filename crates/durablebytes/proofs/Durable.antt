@@ -19,8 +19,10 @@ use Rattle.run.specs.Event.{
   workerSteps,
   requestArrives,
   requestLost,
+  requestRepeats,
   replyArrives,
   replyLost,
+  replyRepeats,
   offerArrives,
   offerLost,
   offerTimesOut,
@@ -29,14 +31,14 @@ use Rattle.run.specs.Event.{
   outcomeTimesOut,
 }
 use Rattle.run.specs.Rules.{allowed, allowedRun}
-use Rattle.run.specs.Step.{step, run, onRequestLost, onReplyLost, onOfferLost, onOfferTimeout, onOutcomeLost, onOutcomeTimeout}
+use Rattle.run.specs.Step.{step, run, onRequestLost, onRequestRepeats, onReplyLost, onReplyRepeats, onOfferLost, onOfferTimeout, onOutcomeLost, onOutcomeTimeout}
 use Rattle.run.specs.Fresh.{Fresh}
 use Rattle.run.specs.Claim.{Durable, Alike, Written}
 use Rattle.run.proofs.Demand3 as model
 use Rattle.run.proofs.Entries as entries
 use Rattle.durable.proofs.Simulated.{Simulated, nothing, one, then}
 use Rattle.durable.proofs.Seen.{Beside}
-use Rattle.durable.proofs.Durable.{given-beside, late-beside}
+use Rattle.durable.proofs.Durable.{given-beside, doubled-beside, reply-doubled-beside, late-beside}
 use Rattle.durablebytes.specs.Cluster.{Cluster, seen, InMemory, host}
 use Rattle.durablebytes.specs.Calls.{Called, Calls}
 use Rattle.durablebytes.proofs.Seen.{hosted}
@@ -55,7 +57,7 @@ module _ (d f : Cluster) where
 
   -- every event of the cluster is a run of `run`: the same event, or, where a call was refused, one that does without it
   pub simulated : InMemory d → (v : Event) → allowed (seen d) v ≡ true → Called d v f → Simulated (seen d) (seen f)
-  unfolding step Called onRequestLost onReplyLost onOfferLost onOutcomeLost onOfferTimeout onOutcomeTimeout setRequests setReplies setOffers setOutcomes
+  unfolding step Called onRequestLost onRequestRepeats onReplyLost onReplyRepeats onOfferLost onOutcomeLost onOfferTimeout onOutcomeTimeout setRequests setReplies setOffers setOutcomes
   simulated mem (command m) may c = on-command d f m may c
   simulated mem (mapShown n fresh) may c = on-shown d f n fresh may c
   simulated mem (leaseGranted n i sent lease) may c = on-grant d f n i sent lease may c
@@ -66,9 +68,13 @@ module _ (d f : Cluster) where
   simulated mem (requestArrives from to i) may c = on-arrival d f mem from to i may c
   simulated mem (requestLost from to i) may c =
       alone (requestLost from to i) (λ s. onRequestLost s from to i) may refl (record { map = refl; nodes = refl; clients = refl }) c
+  simulated mem (requestRepeats from to i) may c =
+      alone (requestRepeats from to i) (λ s. onRequestRepeats s from to i) may refl (doubled-beside (seen d) from to (nth (seen d .requests from to) i)) c
   simulated mem (replyArrives i) may c = on-reply d f i may c
   simulated mem (replyLost i) may c =
       alone (replyLost i) (λ s. onReplyLost s i) may refl (record { map = refl; nodes = refl; clients = refl }) c
+  simulated mem (replyRepeats i) may c =
+      alone (replyRepeats i) (λ s. onReplyRepeats s i) may refl (reply-doubled-beside (seen d) (nth (seen d .replies) i)) c
   simulated mem (offerArrives i index seq) may c = on-offer d f i index seq may c
   simulated mem (offerLost i) may c =
       alone (offerLost i) (λ s. onOfferLost s i) may refl (record { map = refl; nodes = refl; clients = refl }) c

@@ -33,8 +33,10 @@ use Rattle.run.specs.Event.{
   workerSteps,
   requestArrives,
   requestLost,
+  requestRepeats,
   replyArrives,
   replyLost,
+  replyRepeats,
   offerArrives,
   offerLost,
   offerTimesOut,
@@ -215,9 +217,11 @@ Called d (requestArrives from to i) f = Arrives d from to i (nth (d .requests fr
 Called d (replyArrives i) f = Acks d i (nth (d .replies) i) f
 Called d (offerArrives i index seq) f = Offers d i index seq (nth (d .offers) i) f
 Called d (outcomeArrives i) f = Settles d i (nth (d .outcomes) i) f
--- no calls: losses and timeouts, as in `run`
+-- no calls: losses, repeats and timeouts, as in `run`
 Called d (requestLost from to i) f = f ≡ host d (λ s. run.onRequestLost s from to i)
+Called d (requestRepeats from to i) f = f ≡ host d (λ s. run.onRequestRepeats s from to i)
 Called d (replyLost i) f = f ≡ host d (λ s. run.onReplyLost s i)
+Called d (replyRepeats i) f = f ≡ host d (λ s. run.onReplyRepeats s i)
 Called d (offerLost i) f = f ≡ host d (λ s. run.onOfferLost s i)
 Called d (offerTimesOut i) f = f ≡ host d (λ s. run.onOfferTimeout s i)
 Called d (outcomeLost i) f = f ≡ host d (λ s. run.onOutcomeLost s i)
