@@ -5,12 +5,12 @@ use mathlib.Core.Bool.{Bool, true, false, cond}
 use mathlib.Core.List.{List, [], _∷_, _++_}
 use native.Mathlib.Omega.{arith}
 use lib.Dec.{ltb}
-use borrow.Author.Tests.{lt-ltb, le-ltb}
+use borrow.Author.Tests.{eq-eqb, ne-eqb, lt-ltb, le-ltb}
 use lib.ListN.{length, take}
 use mathlib.Core.Option.{some}
 use Rattle.model.specs.Lists.{nth, every, lead}
 use Rattle.model.specs.Node.WellFormed.{wellFormedEntry}
-use Rattle.model.specs.Log.{Entry, End, Log, Vectors, ShardReplica, lastOffset, agrees, keep, play, adopted}
+use Rattle.model.specs.Log.{Entry, End, Log, Vectors, ShardReplica, lastOffset, agrees, keep, play, cutTo, adopted}
 use Rattle.model.specs.Layout.Message.{Reply, replyStale, replyAdopted}
 use Rattle.model.specs.declared.Metric.{Metric}
 use Rattle.model.specs.declared.Epoch.{Epoch}
@@ -87,7 +87,27 @@ module _ (s : Store) (z : Sized s) (w : wellFormedStore s ≡ true) where
       spares = spares-none s;
     }
 
-    module _ (newer : own ≤ epoch) (k : ℕ) (isKept : k ≡ lead (agrees end t) (storeLog s)) where
+    -- at the own epoch the whole log stays
+    pub aligned-same : (o : Offset) → o .0 ≡ s .count → epoch ≡ own → Aligned own epoch end t s s (Kept o)
+    unfolding replicaIn adopted
+    aligned-same o q h = record {
+      answer =
+          λ m.
+          ap replyAdopted (q ∙ sym (log-length (s .columns) (s .count)))
+          ∙ ap (λ (b : Bool). replyAdopted (lastOffset (cond b (replicaIn own m s) (cutTo (replicaIn own m s) epoch end t)))) (sym (eq-eqb epoch own h))
+          ∙ sym (ap (λ (b : Bool). cond b (replyStale own) (replyAdopted (lastOffset (adopted (replicaIn own m s) epoch end t)))) (le-ltb epoch own (omega arith)));
+      replica =
+          λ m.
+          ap (λ (b : Bool). replicaIn (cond b own epoch) m s) (le-ltb epoch own (omega arith))
+          ∙ ap (λ (e : ℕ). replicaIn e m s) h
+          ∙ ap (λ (b : Bool). cond b (replicaIn own m s) (cutTo (replicaIn own m s) epoch end t)) (sym (eq-eqb epoch own h))
+          ∙ sym (ap (λ (b : Bool). cond b (replicaIn own m s) (adopted (replicaIn own m s) epoch end t)) (le-ltb epoch own (omega arith)));
+      well = w;
+      sized = z;
+      spares = spares-none s;
+    }
+
+    module _ (above : own < epoch) (k : ℕ) (isKept : k ≡ lead (agrees end t) (storeLog s)) where
       pub k-most : k ≤ s .count
       k-most = let h = lead-most (agrees end t) (storeLog s) in omega (arith, log-length (s .columns) (s .count))
 
@@ -97,21 +117,30 @@ module _ (s : Store) (z : Sized s) (w : wellFormedStore s ≡ true) where
       kept-length : length (keep end t (storeLog s)) ≡ k
       kept-length = ap length keep-is ∙ log-length (s .columns) k
 
+      newer : own ≤ epoch
+      newer = omega arith
+
+      is-cut : (m : Metric) → adopted (replicaIn own m s) epoch end t ≡ cutTo (replicaIn own m s) epoch end t
+      unfolding replicaIn adopted
+      is-cut m = rw (ne-eqb epoch own (λ q. omega arith)) refl
+
       -- the replica that is left, given its log and its vectors
       aligned-by : (s′ : Store) (o : Offset) → o .0 ≡ k → storeLog s′ ≡ keep end t (storeLog s)
-          → ((m : Metric) → replicaIn epoch m s′ .vectors ≡ adopted (replicaIn own m s) epoch end t .vectors)
+          → ((m : Metric) → replicaIn epoch m s′ .vectors ≡ cutTo (replicaIn own m s) epoch end t .vectors)
           → wellFormedStore s′ ≡ true → Sized s′ → Spares s s′ → Aligned own epoch end t s s′ (Kept o)
-      unfolding replicaIn adopted
+      unfolding replicaIn cutTo
       aligned-by s′ o q l v w′ z′ sp = record {
         answer =
             λ m.
             ap replyAdopted (q ∙ sym kept-length)
+            ∙ ap (λ (r : ShardReplica). replyAdopted (lastOffset r)) (sym (is-cut m))
             ∙ sym (ap (λ (b : Bool). cond b (replyStale own) (replyAdopted (lastOffset (adopted (replicaIn own m s) epoch end t)))) (le-ltb epoch own newer));
         replica =
             λ m.
             ap (λ (b : Bool). replicaIn (cond b own epoch) m s′) (le-ltb epoch own newer)
             ∙ ap (λ (x : Log). record { epoch = epoch; metric = m; log = x; vectors = replicaIn epoch m s′ .vectors }) l
             ∙ ap (λ (x : Vectors). record { epoch = epoch; metric = m; log = keep end t (storeLog s); vectors = x }) (v m)
+            ∙ sym (is-cut m)
             ∙ sym (ap (λ (b : Bool). cond b (replicaIn own m s) (adopted (replicaIn own m s) epoch end t)) (le-ltb epoch own newer));
         well = w′;
         sized = z′;
@@ -121,7 +150,7 @@ module _ (s : Store) (z : Sized s) (w : wellFormedStore s ≡ true) where
       pub aligned-cut : (ks ps : List ℕ) (r : ℕ) (o : Offset) → o .0 ≡ k → k < s .count
           → Tabled k (s .keys) (s .places) ks ps r (rowsPlayed (s .columns .offsets) (s .columns .ids) (s .columns .codes) k)
           → Aligned own epoch end t s (lent (s .columns) ks ps k r) (Kept o)
-      unfolding adopted replicaIn writtenAll
+      unfolding cutTo replicaIn writtenAll
       aligned-cut ks ps r o q h u =
           let lk : length ks ≡ 1024 = u .keys ∙ z .keys in
           let lp : length ps ≡ 1024 = u .places ∙ z .places in
@@ -143,7 +172,7 @@ module _ (s : Store) (z : Sized s) (w : wellFormedStore s ≡ true) where
           })
 
       pub aligned-whole : (o : Offset) → o .0 ≡ s .count → s .count ≤ k → Aligned own epoch end t s s (Kept o)
-      unfolding adopted replicaIn
+      unfolding cutTo replicaIn
       aligned-whole o q h =
           let same : k ≡ s .count = (let m = k-most in omega arith) in
           aligned-by s o (q ∙ sym same) (ap (logOf (s .columns)) (sym same) ∙ sym keep-is)

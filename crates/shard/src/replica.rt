@@ -208,6 +208,13 @@ pub fn adopt(
             stored,
         };
     }
+    if epoch.0 == own.0 {
+        return Adopted {
+            answer: Adoption::Kept(Offset(count as u64)),
+            count,
+            stored,
+        };
+    }
     let kept = super::align::kept(epochs, offsets, count, end, froms, ends, pairs);
     if kept < count {
         let rows = super::table::rebuild(offsets, ids, codes, keys, places, kept);
