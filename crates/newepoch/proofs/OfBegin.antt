@@ -5,19 +5,19 @@ use mathlib.Core.Path.{_≡_, refl, sym, ap, _∙_}
 use mathlib.Core.Bool.{false}
 use mathlib.Core.List.{List, [], map}
 use mathlib.Core.Option.{none}
-use lib.Dec.{ltb}
+use lib.Dec.{eqb, ltb}
 use lib.ListN.{length}
-use borrow.Author.Tests.{le-leb, lt-leb, le-ltb}
+use borrow.Author.Tests.{eqb-true, le-leb, lt-leb, le-ltb}
 use Rattle.model.specs.Lists.{put}
 use Rattle.model.specs.Limits.{maxHeld}
 use Rattle.model.specs.Keys.{Key}
-use Rattle.model.specs.Log.{End, adopted, keep}
+use Rattle.model.specs.Log.{End, ShardReplica, emptyReplica, lastOffset, keep, cutTo, adopted}
 use Rattle.model.specs.Layout.Message.{replyAdopted}
 use Rattle.model.specs.Node.Held as held
 use Rattle.model.specs.Node.Shards.{Result, gives, withHeld, withReplica, heldBelow, demoted, begun}
 use Rattle.model.specs.Node.Backup.{BackupAnswer, replied, newEpochHeld}
 use Rattle.model.specs.declared.Metric.{Metric}
-use Rattle.model.proofs.Lists.{not-both}
+use Rattle.model.proofs.Lists.{by-test, not-both}
 use Rattle.node.specs.declared.Held.{Held}
 use Rattle.node.specs.View.{viewHeld}
 use Rattle.serve.specs.Headers.{Begins, Realigns}
@@ -32,14 +32,23 @@ use Rattle.peers.specs.declared.PeerReply.the-variants as P
 use Rattle.peers.specs.Peers.{word}
 use Rattle.newepoch.specs.Announces.{BeginsAt}
 
--- a log of no entries is aligned whatever the table says, and no epoch is below 0
+-- a log of no entries is aligned whatever the table says, at epoch 0 or above it
+adopts-none : (metric : Metric) (epoch end : ℕ) (table : List End)
+    → adopted (emptyReplica 0 metric) epoch end table ≡ record { epoch = epoch; metric = metric; log = []; vectors = [] }
+unfolding adopted cutTo keep
+adopts-none metric epoch end table =
+    by-test (λ (x : ShardReplica). x ≡ record { epoch = epoch; metric = metric; log = []; vectors = [] }) (eqb epoch 0)
+    (λ e. ap (λ (i : ℕ). record { epoch = i; metric = metric; log = []; vectors = [] }) (sym (eqb-true epoch 0 e))) (λ e. refl)
+
+-- .. and no epoch is below 0
 aligns-none : (k : Key) (metric : Metric) (epoch end : ℕ) (table : List End) (fresh h : Held) → Begins metric fresh → Realigns fresh epoch 0 h
     → newEpochHeld epoch end table (begun k metric) ≡ gives (replied (replyAdopted 0)) (viewHeld k [] [] h)
-unfolding newEpochHeld adopted keep
+unfolding newEpochHeld
 aligns-none k metric epoch end table fresh h b r =
     let low : ltb epoch 0 ≡ false = le-ltb epoch 0 (omega arith) in
     rw low
-    (ap (λ (x : held.Held). gives {S = held.Held} (replied (replyAdopted 0)) x)
+    (ap (λ (x : ShardReplica). gives {S = held.Held} (replied (replyAdopted (lastOffset x))) (demoted (withReplica (begun k metric) x))) (adopts-none metric epoch end table)
+    ∙ ap (λ (x : held.Held). gives {S = held.Held} (replied (replyAdopted 0)) x)
     (sym (r .same k [] [] [] []
     ∙ ap (λ (x : held.Held). demoted (withReplica x (record { epoch = epoch; metric = x .replica .metric; log = []; vectors = [] }))) (b .same k))))
 
