@@ -80,22 +80,22 @@ use Rattle.durable.proofs.Durable as theorem
 use Rattle.durable.proofs.Durable.{durable}
 
 -- an array: the rows in use, and the rest filled up
-unfoldable fill : {A : Type 0} → ℕ → A → List A
+unfoldable pub fill : {A : Type 0} → ℕ → A → List A
 fill zero x = []
 fill (suc n) x = x ∷ fill n x
 
-abbrev array : {A : Type 0} → ℕ → A → List A → List A
+abbrev pub array : {A : Type 0} → ℕ → A → List A → List A
 array n x l = l ++ fill (n - length l) x
 
 -- ---- the map that Register and Create left
 
-abbrev name : Name
+abbrev pub name : Name
 name = record { bytes = array 32 0 (0x73 ∷ []); len = 1 }
 
-abbrev key : ShardKey
+abbrev pub key : ShardKey
 key = record { collection = name; shard = 0 }
 
-abbrev node : ℕ → DataNodeId
+abbrev pub node : ℕ → DataNodeId
 node n = record { 0 = n }
 
 abbrev copies : List Replica
@@ -155,7 +155,7 @@ is-created = record {
 
 -- ---- the header: new, as `show` gave it back, with a lease, and with an entry in the log
 
-abbrev new : ℕ → Node
+abbrev pub new : ℕ → Node
 new n = record { id = node n; incarnation = 4; expiry = Never; version = 0; held = array 8 noKept []; count = 0 }
 
 abbrev solo : (last : ℕ) → Held
@@ -176,7 +176,7 @@ leads e last =
     let x : Kept = record { key = key; slot = 0; stored = 0; held = solo last } in
     record { id = node 1; incarnation = 4; expiry = e; version = 2; held = array 8 noKept (x ∷ []); count = 1 }
 
-nil : (l : Log) → length l ≡ 0 → l ≡ []
+pub nil : (l : Log) → length l ≡ 0 → l ≡ []
 nil [] e = refl
 nil (x ∷ xs) e = absurd (omega arith)
 
@@ -211,13 +211,13 @@ waits = λ s. rw (s .long 0 1) refl
 
 -- ---- the Write
 
-abbrev bytes : List ℕ
+abbrev pub bytes : List ℕ
 bytes = message.encodeWrite (record { key = run.key; epoch = 1; op = wireDelete 41 })
 
-abbrev before : Lot
+abbrev pub before : Lot
 before = let z : List ℕ = fill 1024 0 in lot z z z z z (fill 32768 nan) z z
 
-abbrev after : Lot
+abbrev pub after : Lot
 after = let z : List ℕ = fill 1024 0 in lot (set z 0 1) (set z 0 1) (set z 0 41) (set z 0 2) z (fill 32768 nan) z z
 
 slot-zero : (slot : ℕ) → WriteSlot (leads (At 100) 0) bytes slot → slot ≡ 0
@@ -259,7 +259,7 @@ unfolding lentFor
 lent s =
     let n = leads (At 100) 0 in and-true (lentNode s n) (lentAt n before (placeOf n run.key)) (header-lent s) store-lent
 
-abbrev accepted : C.the-data
+abbrev pub accepted : C.the-data
 accepted = C.Accepted (record { 0 = 1 })
 
 taken : (s : Stores)
@@ -331,7 +331,7 @@ first = record {
   acknowledged = [];
 }
 
-is-new : (n : ℕ) → New (new n) n 4
+pub is-new : (n : ℕ) → New (new n) n 4
 is-new n = record { id = refl; incarnation = refl; expiry = refl; version = refl; count = refl }
 
 far : (k : ℕ) → 1 < k → holds k copies ≡ false

@@ -11,3 +11,4 @@ pub mod OnWorkers
 pub mod Durable
 pub mod Start
 pub mod Instance
+pub mod Late
