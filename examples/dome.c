@@ -54,8 +54,8 @@ enum { NODES = 3, MAX_WORKERS = 8, MAX_PROPOSALS = 16, MAX_EDITS = 16, MAX_HITS 
 /* ---- the dome's state */
 
 /* A worker keeps one peer of a primary up to date. It has one request under way at most, and takes its next step when
- * the reply is there or a letter is lost. That keeps the rules about messages: order holds between two nodes, nothing
- * repeats, and a reply is always one to the latest request. */
+ * the reply is there or a letter is lost. So a reply is always one to the latest request. In this dome no letter
+ * overtakes another or comes twice; a link may do both. */
 enum worker_state { NOT_STARTED, QUIET, ASKED, ANSWERED };
 
 struct worker {

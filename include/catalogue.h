@@ -197,7 +197,8 @@ uint32_t catalogue_wait(uint8_t *header, size_t header_len, const uint8_t *name,
 /* ---- the node: what a primary sends it */
 
 /* Replicate (20), NewEpoch (21), CopyShard (22). 0: the reply (30 to 33) stands in `reply` and goes back; 21, 22, 23,
- * 24, and then nothing goes back. */
+ * 24, and then nothing goes back. Between two nodes requests and replies may be lost, come twice and overtake one
+ * another: an alignment at the replica's own epoch, which may be late, cuts nothing and answers its last offset. */
 uint32_t catalogue_replicate(uint8_t *header, size_t header_len, uint8_t *stores, size_t stores_len,
                              const uint8_t *message, size_t message_len, uint8_t *reply, size_t reply_len);
 uint32_t catalogue_new_epoch(uint8_t *header, size_t header_len, uint8_t *stores, size_t stores_len,

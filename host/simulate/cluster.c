@@ -482,15 +482,16 @@ static const char *worker_steps(const struct event *e)
     return NULL;
 }
 
-/* The oldest letter between the two nodes of the one that a number chooses: between two nodes order holds. */
-static uint32_t choose_letter(uint32_t number)
+/* Whether an older letter between the same two nodes is still under way. */
+static bool overtakes(uint32_t place)
 {
-    const struct letter *chosen = &cluster.letters[cluster.order[number % cluster.letter_count]];
-    uint32_t place = 0;
-    while (cluster.letters[cluster.order[place]].from != chosen->from ||
-           cluster.letters[cluster.order[place]].to != chosen->to)
-        place++;
-    return place;
+    const struct letter *chosen = &cluster.letters[cluster.order[place]];
+    for (uint32_t older = 0; older < place; older++) {
+        const struct letter *l = &cluster.letters[cluster.order[older]];
+        if (l->from == chosen->from && l->to == chosen->to)
+            return true;
+    }
+    return false;
 }
 
 /* Its slot is used again last. */
@@ -515,8 +516,9 @@ static const char *request_arrives(const struct event *e)
 {
     if (cluster.letter_count == 0 || cluster.reply_count == REPLIES_MOST)
         return NULL;
-    uint32_t place = choose_letter(e->first);
+    uint32_t place = e->first % cluster.letter_count;
     const struct letter *l = &cluster.letters[cluster.order[place]];
+    tally.overtaking += overtakes(place);
     struct reply *r = &cluster.replies[cluster.reply_count];
     r->to = l->from, r->from = l->to, r->epoch = l->epoch, r->number = l->number;
     r->shard = l->shard, r->step = l->step;
@@ -541,6 +543,20 @@ static const char *request_lost(const struct event *e)
     tell("the %s from node %" PRIu64 " to node %" PRIu64 " is lost", step_word(l->step), l->from, l->to);
     drop_letter(place);
     tally.lost++;
+    return NULL;
+}
+
+/* The letter goes under way once more, behind all others. */
+static const char *request_repeats(const struct event *e)
+{
+    struct letter *copy = new_letter();
+    if (cluster.letter_count == 0 || copy == NULL)
+        return NULL;
+    const struct letter *l = &cluster.letters[cluster.order[e->first % cluster.letter_count]];
+    tell("the %s from node %" PRIu64 " to node %" PRIu64 " is doubled", step_word(l->step), l->from, l->to);
+    *copy = *l;
+    cluster.letter_count++;
+    tally.repeated++;
     return NULL;
 }
 
@@ -580,6 +596,17 @@ static const char *reply_lost(const struct event *e)
     struct reply r = take_reply(e->first);
     tell("the reply from node %" PRIu64 " to node %" PRIu64 " is lost", r.from, r.to);
     tally.lost++;
+    return NULL;
+}
+
+static const char *reply_repeats(const struct event *e)
+{
+    if (cluster.reply_count == 0 || cluster.reply_count == REPLIES_MOST)
+        return NULL;
+    const struct reply *r = &cluster.replies[e->first % cluster.reply_count];
+    tell("the reply from node %" PRIu64 " to node %" PRIu64 " is doubled", r->from, r->to);
+    cluster.replies[cluster.reply_count++] = *r;
+    tally.repeated++;
     return NULL;
 }
 
@@ -653,8 +680,10 @@ static const char *(*const plays[KINDS])(const struct event *) = {
     [STEP] = worker_steps,
     [REQUEST_ARRIVES] = request_arrives,
     [REQUEST_LOST] = request_lost,
+    [REQUEST_REPEATS] = request_repeats,
     [REPLY_ARRIVES] = reply_arrives,
     [REPLY_LOST] = reply_lost,
+    [REPLY_REPEATS] = reply_repeats,
     [PROPOSAL_ARRIVES] = proposal_arrives,
     [PROPOSAL_LOST] = proposal_lost,
     [OUTCOME_ARRIVES] = outcome_arrives,

@@ -20,8 +20,10 @@ enum kind {
     STEP,
     REQUEST_ARRIVES,
     REQUEST_LOST,
+    REQUEST_REPEATS,
     REPLY_ARRIVES,
     REPLY_LOST,
+    REPLY_REPEATS,
     PROPOSAL_ARRIVES,
     PROPOSAL_LOST,
     OUTCOME_ARRIVES,
@@ -116,7 +118,7 @@ extern struct cluster cluster;
 
 /* What happened in all runs. */
 struct tally {
-    uint64_t events, accepted, acknowledged, promotions, shrinks, expands, restarts, searches, lost;
+    uint64_t events, accepted, acknowledged, promotions, shrinks, expands, restarts, searches, lost, repeated, overtaking;
 };
 extern struct tally tally;
 

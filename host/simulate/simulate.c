@@ -60,12 +60,26 @@ static const struct {
     uint32_t often;
     bool stormy;
 } weights[KINDS] = {
-    [WRITE] = {8, false},          [SEARCH] = {3, false},           [WAIT] = {12, false},
-    [STEP] = {20, false},          [REQUEST_ARRIVES] = {20, false}, [REQUEST_LOST] = {1, true},
-    [REPLY_ARRIVES] = {20, false}, [REPLY_LOST] = {1, true},        [PROPOSAL_ARRIVES] = {6, false},
-    [PROPOSAL_LOST] = {1, true},   [OUTCOME_ARRIVES] = {6, false},  [OUTCOME_LOST] = {1, true},
-    [TIMEOUT] = {1, true},         [MAP_SHOWN] = {8, false},        [GRANT] = {5, false},
-    [CLOCK] = {6, false},          [PROMOTE] = {1, true},           [RESTART] = {1, true},
+    [WRITE] = {8, false},
+    [SEARCH] = {3, false},
+    [WAIT] = {12, false},
+    [STEP] = {20, false},
+    [REQUEST_ARRIVES] = {20, false},
+    [REQUEST_LOST] = {1, true},
+    [REQUEST_REPEATS] = {1, true},
+    [REPLY_ARRIVES] = {20, false},
+    [REPLY_LOST] = {1, true},
+    [REPLY_REPEATS] = {1, true},
+    [PROPOSAL_ARRIVES] = {6, false},
+    [PROPOSAL_LOST] = {1, true},
+    [OUTCOME_ARRIVES] = {6, false},
+    [OUTCOME_LOST] = {1, true},
+    [TIMEOUT] = {1, true},
+    [MAP_SHOWN] = {8, false},
+    [GRANT] = {5, false},
+    [CLOCK] = {6, false},
+    [PROMOTE] = {1, true},
+    [RESTART] = {1, true},
 };
 
 static enum kind draw_kind(uint32_t storm)
@@ -261,9 +275,10 @@ int main(int argc, char **argv)
             return EXIT_FAILURE;
         }
     }
-    printf("%" PRIu64 " promotions, %" PRIu64 " shrinks and %" PRIu64 " expands were applied, %" PRIu64
-           " messages lost, %" PRIu64 " restarts.\n",
-           tally.promotions, tally.shrinks, tally.expands, tally.lost, tally.restarts);
+    printf("%" PRIu64 " promotions, %" PRIu64 " shrinks and %" PRIu64 " expands were applied, %" PRIu64 " restarts;\n",
+           tally.promotions, tally.shrinks, tally.expands, tally.restarts);
+    printf("%" PRIu64 " messages were lost, %" PRIu64 " doubled, and %" PRIu64 " overtook another.\n", tally.lost,
+           tally.repeated, tally.overtaking);
     puts("After every event each acknowledged write stood on every node in sync.");
     return EXIT_SUCCESS;
 }

@@ -3,8 +3,8 @@
 use std::collections::{BTreeMap, BTreeSet};
 
 use rpc::{
-    CollectionSpec, CopyShard, DataNodeId, Epoch, LogEntry, Metric, Replica, ShardInfo, ShardKey,
-    ShardMap, WriteOp,
+    CollectionSpec, CopyShard, DataNodeId, Epoch, LogEntry, Metric, NewEpoch, NewEpochAck, Replica,
+    ShardInfo, ShardKey, ShardMap, WriteOp,
 };
 
 fn key() -> ShardKey {
@@ -93,4 +93,34 @@ fn a_lone_entry_keeps_its_epoch() {
     );
     let edited = [1, 2, 3].map(|e| lone_entry_goes!(datanode, e));
     assert_eq!(edited, ["copy", "replicate", "copy"]);
+}
+
+/// What an alignment with an empty table is answered at a log of one entry whose own epoch is 0,
+/// and the last offset that is left.
+macro_rules! aligned {
+    ($rust:ident, $epoch:expr) => {{
+        use $rust::node::inside;
+        let node = backup!($rust);
+        inside::copy_shard(&node, one_entry(0));
+        let answer = inside::new_epoch(
+            &node,
+            NewEpoch {
+                shard: key(),
+                epoch: Epoch($epoch),
+                end_offset: 0,
+                epochs: Vec::new(),
+                metric: Metric::Euclidean,
+            },
+        );
+        (answer, inside::last_offset(&node, &key()))
+    }};
+}
+
+#[test]
+fn a_late_alignment_keeps_the_log() {
+    let adopted = |through| (NewEpochAck::Adopted { through }, Some(through));
+    assert_eq!(aligned!(published, 0), adopted(0));
+    assert_eq!(aligned!(datanode, 0), adopted(1));
+    assert_eq!(aligned!(published, 1), adopted(0));
+    assert_eq!(aligned!(datanode, 1), adopted(0));
 }

@@ -9,8 +9,8 @@ use published::node::Node;
 use published::node::inside::{self, Asked, Reply, Settings};
 use published::shard::{ShardReplica, distance};
 use rpc::{
-    CollectionSpec, ControlCommand, DataNodeId, Epoch, Metric, Outcome, ReplicateAck, Request,
-    ShardKey, Write, WriteOp,
+    CollectionSpec, ControlCommand, DataNodeId, Epoch, Metric, NewEpochAck, Outcome, ReplicateAck,
+    Request, ShardKey, Write, WriteOp,
 };
 
 const METRIC: Metric = Metric::Euclidean;
@@ -434,4 +434,24 @@ fn a_lost_expand_leaves_a_peer_that_cannot_be_shrunk() {
             .expect("primary")
             .0
     );
+}
+
+/// The alignment comes a second time, behind an entry of its epoch: the entry is cut, and the reply
+/// that was given for it still counts.
+#[test]
+fn a_late_alignment_loses_an_acknowledged_write() {
+    let mut dome = Dome::new(2);
+    let offset = dome.write();
+    let (asked, _) = inside::step(&dome.nodes[0], &key(), 1, 2, METRIC);
+    let Asked::Align(late) = asked else {
+        panic!("a new worker aligns its peer")
+    };
+    assert_eq!(dome.exchange(1), 0);
+    assert_eq!(dome.exchange(1), 1);
+    let again = inside::new_epoch(&dome.nodes[1], late);
+    assert_eq!(again, NewEpochAck::Adopted { through: 0 });
+    let (acknowledged, _) = inside::wait(&dome.nodes[0], 0, &key(), 1, offset).expect("primary");
+    assert!(acknowledged);
+    assert_eq!(dome.promote(2, 1), Outcome::Applied);
+    assert_eq!(inside::last_offset(&dome.nodes[1], &key()), Some(0));
 }

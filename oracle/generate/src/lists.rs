@@ -223,6 +223,7 @@ fn replay() -> Vec<List> {
         from("starred", scripts::starred()),
         from("settled", scripts::settled()),
         from("lone-entry", scripts::lone_entry()),
+        from("late-alignment", scripts::late_alignment()),
         from("caught-up", scripts::caught_up_during_shrink()),
         from("lost-expand", scripts::lost_expand()),
         from("sessions", scripts::sessions()),

@@ -1,7 +1,7 @@
 //! Runs of a dome: nodes, their workers, messages and proposals under way, driven by what `replay`
-//! answers. A tame run keeps the rules of a run of paper 01 (order on a link, nothing twice, a
-//! reply only for the latest request); a wild one breaks them, damages bytes, changes the map at
-//! will and starts nodes over. A full one begins near the limits: logs, shards and workers.
+//! answers. A tame run keeps the rules of a run of papers 01 and 02 (messages overtake and repeat, a
+//! reply counts for the latest request, a proposal and its outcome arrive once); a wild one breaks
+//! them, damages bytes, changes the map at will and starts nodes over. A full one begins near the limits: logs, shards and workers.
 
 mod clients;
 mod disturb;
@@ -25,6 +25,7 @@ struct Worker {
 }
 
 /// A request to `worker`'s peer, or the reply to it.
+#[derive(Clone)]
 struct Flight {
     worker: usize,
     sent: u64,

@@ -50,22 +50,28 @@ impl Dome {
         }
     }
 
-    /// The next flight to arrive: the oldest of some link, or in a wild run any.
+    /// The next flight to arrive: often the oldest of its link, else one that overtakes. One in six
+    /// stays under way, and so arrives again.
     pub(super) fn arriving(&mut self) -> Option<Flight> {
         if self.flights.is_empty() {
             return None;
         }
         let any = self.rng.below(self.flights.len());
-        if self.wild && self.rng.once_in(6) {
-            return Some(self.flights.remove(any));
-        }
         let link = |f: &Flight| {
             let w = &self.workers[f.worker];
             (w.slot, w.peer, f.back)
         };
-        let chosen = link(&self.flights[any]);
-        let first = self.flights.iter().position(|f| link(f) == chosen);
-        Some(self.flights.remove(first.expect("it is there")))
+        let place = if self.rng.once_in(3) {
+            any
+        } else {
+            let chosen = link(&self.flights[any]);
+            let oldest = self.flights.iter().position(|f| link(f) == chosen);
+            oldest.expect("it is there")
+        };
+        if self.rng.once_in(6) {
+            return Some(self.flights[place].clone());
+        }
+        Some(self.flights.remove(place))
     }
 
     pub(super) fn deliver(&mut self) {

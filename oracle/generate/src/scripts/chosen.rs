@@ -31,7 +31,7 @@ pub fn starred() -> Stream {
     t.new_epoch(1, &a, 3, 5, &[(1, 2), (3, 5)]);
     t.new_epoch(2, &a, 3, 1, &[(1, 2), (3, 5)]);
     t.new_epoch(3, &a, 3, 5, &[]);
-    t.new_epoch(4, &a, 2, 5, &[(1, 2), (2, 3)]);
+    t.new_epoch(4, &a, 2, 1, &[]);
     t.new_epoch(5, &a, 1, 5, &[(1, 2), (2, 3)]);
     t.new_epoch(6, &a, 3, 5, &[(2, 1), (1, 2), (2, 9)]);
     let replicate = Message::Replicate {

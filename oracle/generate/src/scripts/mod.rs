@@ -3,7 +3,9 @@
 
 mod chosen;
 mod faults;
+mod late;
 mod limits;
+mod lone;
 mod replies;
 mod settled;
 mod traps;
@@ -14,9 +16,11 @@ use crate::stream::{Stream, key};
 
 pub use chosen::{sessions, starred};
 pub use faults::two_faults;
+pub use late::late_alignment;
 pub use limits::{full_log, many_workers, nine_shards};
+pub use lone::lone_entry;
 pub use replies::replies;
-pub use settled::{lone_entry, settled};
+pub use settled::settled;
 pub use traps::{caught_up_during_shrink, lost_expand};
 
 const TIME: u64 = 1 << 62;

@@ -1,6 +1,6 @@
 //! What the Rust does and a reader easily misses.
 
-use wire::{Change, Command, Entry, Key, Message};
+use wire::{Change, Command, Key, Message};
 
 use super::{ONE, Script, put};
 use crate::stream::Stream;
@@ -97,62 +97,4 @@ fn starting_over(t: &mut Script, a: &Key) {
     t.s.place(0, 1);
     t.s.place(2, 0);
     t.s.place(2, 9);
-}
-
-/// A lone entry of an older epoch, of the primary's own and of a newer one, and the alignment after
-/// the first.
-pub fn lone_entry() -> Stream {
-    let (mut t, a) = Script::pair(1);
-    t.s.write(1, &a, 1, put(1, ONE));
-    t.promote(&a, 1, 1);
-    t.s.shown(1, 0);
-    t.new_epoch(2, &a, 2, 1, &[(1, 1)]);
-    t.s.ack(1, &a, 2, 2, 0, &Message::Adopted(0));
-    let copy = t.s.step(1, &a, 2, 2, 0);
-    t.s.message(
-        2,
-        &Message::Replicate {
-            key: a.clone(),
-            epoch: 2,
-            offset: 1,
-            op: put(1, ONE),
-        },
-    );
-    t.s.held(2, &a);
-    // As a Replicate the entry came under epoch 2, so the alignment cuts it off; as a CopyShard it stays.
-    for _ in 0..2 {
-        t.new_epoch(2, &a, 2, 1, &[(1, 1)]);
-        let bytes = crate::dome::unhex(copy.trim().trim_start_matches("copy "));
-        t.s.bytes(2, bytes);
-        t.s.held(2, &a);
-    }
-    t.s.ack(1, &a, 2, 2, 2, &Message::Stored(1));
-    t.s.write(1, &a, 2, put(2, ONE));
-    t.s.step(1, &a, 2, 2, 0);
-    t.s.held(1, &a);
-    // No run has an entry of an epoch above the primary's.
-    let newer = Entry {
-        epoch: 9,
-        offset: 2,
-        op: put(2, ONE),
-    };
-    t.s.message(
-        2,
-        &Message::CopyShard {
-            key: a.clone(),
-            epoch: 2,
-            entries: vec![newer],
-        },
-    );
-    t.promote(&a, 2, 2);
-    t.s.shown(2, 0);
-    t.s.ack(2, &a, 3, 1, 0, &Message::Adopted(1));
-    t.s.step(2, &a, 3, 1, 0);
-    t.s.ack(2, &a, 3, 1, 2, &Message::Stored(2));
-    t.s.write(2, &a, 3, put(3, ONE));
-    t.s.step(2, &a, 3, 1, 0);
-    t.s.ack(2, &a, 3, 1, 0, &Message::Adopted(1));
-    t.s.step(2, &a, 3, 1, 0);
-    t.s.held(2, &a);
-    t.s
 }
