@@ -47,7 +47,7 @@ use Rattle.run.proofs.Protocol.State as proto
 use Rattle.run.proofs.Protocol.State.{Role, lead, Node, Request, align, send, Answer, adopts, stores, staleAlign, staleSend, State, arrival}
 use Rattle.run.proofs.Simulation.Lists.{all-removed}
 use Rattle.run.proofs.Simulation.Relation.{World, RoleSim, HeldSim, NodeSim, AlignSim, CopySim, LoneSim, SendSim, RequestSim, RequestAt, LogFits, ReplySim, deedFor, Sim}
-use Rattle.run.proofs.Simulation.Frame.{Reaches, stays, moves, on-node, on-nodes, on-requests, on-answer, on-replies}
+use Rattle.run.proofs.Simulation.Frame.{Gently, rests, gently, on-node, on-nodes, on-requests, on-answer, on-replies}
 use Rattle.run.proofs.Simulation.Logs.{role-store, fits-store, fits-adopted}
 use Rattle.run.proofs.Simulation.AtNode.{at-own, node-with, shard-found, held-facts}
 use Rattle.run.proofs.Simulation.Commands.{u64-of}
@@ -78,7 +78,7 @@ module _ (w : World) (s : real.State) (a : State) (k : Sim w s a) (from to : ℕ
 
   -- what the call answered, and the node it left
   abbrev Goal : Result BackupAnswer held.Node → Type 0
-  Goal v = Reaches w (step.answered (next (v .after)) from to q (v .answer)) a
+  Goal v = Gently w (step.answered (next (v .after)) from to q (v .answer)) a
 
   -- the others stay under way
   leaves : (y : held.Node) (a₁ : State) → Sim w (real.setNode s to y) a₁ → Sim w (next y) a₁
@@ -90,7 +90,7 @@ module _ (w : World) (s : real.State) (a : State) (k : Sim w s a) (from to : ℕ
   -- a refusal is a loss
   refused : (why : Refusal) (y : held.Node) → NodeSim w top to y b → Goal (gives (backupRefused why) y)
   unfolding step.answered
-  refused why y h = stays w _ a (leaves y a (on-node w s a k to y h))
+  refused why y h = rests w _ a (leaves y a (on-node w s a k to y h))
 
   -- an answer goes back, from the protocol's state a₁
   answers : (y : held.Node) (a₁ : State) → Sim w (real.setNode s to y) a₁ → (v : Reply) (c : Answer) → GoodReply v
@@ -113,7 +113,7 @@ module _ (w : World) (s : real.State) (a : State) (k : Sim w s a) (from to : ℕ
         deed = deed;
       } in
       let k₃ = on-replies w s₁ a₂ k₂ (s .replies ++ (q₂ ∷ [])) (all-snoc (ReplySim w (a₁ .replies ++ (r ∷ []))) (s .replies) q₂ (k₂ .replies) new) in
-      moves w _ a (arrival from to place) (subst (Sim w _) (sym moved) k₃)
+      gently w _ a (arrival from to place) tt (subst (Sim w _) (sym moved) k₃)
 
   -- the protocol hears its request
   hears : (r : Request) → nth (a .requests from to) place ≡ some r → proto.step a (arrival from to place) ≡ proto.hearOne a from to b r
@@ -361,17 +361,17 @@ module _ (w : World) (s : real.State) (a : State) (k : Sim w s a) (from to : ℕ
         go (inl d) = copied d
         go (inr d) = alone d
 
-pub on-arrival : (w : World) (s : real.State) (a : State) → Sim w s a → (from to i : ℕ) → Reaches w (step.onArrival s from to i) a
+pub on-arrival : (w : World) (s : real.State) (a : State) → Sim w s a → (from to i : ℕ) → Gently w (step.onArrival s from to i) a
 unfolding step.onArrival step.arrives
 on-arrival w s a k from to i = go (nth (s .requests from to) i) refl
   where
     hear : (q : real.Request) (place : ℕ) (r : Request) → nth (a .requests from to) place ≡ some r → RequestSim w to q r
-        → Reaches w (step.arrives s from to i (some q)) a
+        → Gently w (step.arrives s from to i (some q)) a
     hear q place (align d end t) found c = aligned w s a k from to i place q (c .key) d end t found c
     hear q place (send d es) found c = sends w s a k from to i place q (c .key) d es found c
 
-    go : (o : Option real.Request) → nth (s .requests from to) i ≡ o → Reaches w (step.arrives s from to i o) a
-    go none e = stays w _ a k
+    go : (o : Option real.Request) → nth (s .requests from to) i ≡ o → Gently w (step.arrives s from to i o) a
+    go none e = rests w _ a k
     go (some q) e =
         let h = all-nth (RequestAt w to (a .requests from to)) (s .requests from to) i q (k .requests from to) e in
         hear q (h .place) (h .request) (h .found) (h .like)

@@ -39,7 +39,7 @@ use Rattle.run.proofs.Protocol.State as proto
 use Rattle.run.proofs.Protocol.State.{lead, Node, State, writing}
 use Rattle.run.proofs.Simulation.Ops.{IdFits}
 use Rattle.run.proofs.Simulation.Relation.{World, HeldSim, NodeSim, acceptedOf, Sim}
-use Rattle.run.proofs.Simulation.Frame.{Reaches, stays, moves, on-nodes, on-node, on-accepted}
+use Rattle.run.proofs.Simulation.Frame.{Reaches, stays, moves, Gently, rests, on-nodes, on-node, on-accepted}
 use Rattle.run.proofs.Simulation.AtNode.{leads, at-key, node-with}
 use Rattle.run.proofs.Simulation.Logs.{lead-push, fits-push}
 
@@ -58,13 +58,13 @@ id-fits (wireDelete id) g = g
 module _ (w : World) (s : real.State) (a : State) (k : Sim w s a) where
   -- ---- lease grants, Search
 
-  pub granted : (n i sent lease : ℕ) → Reaches w (step.onGrant s n i sent lease) a
+  pub granted : (n i sent lease : ℕ) → Gently w (step.onGrant s n i sent lease) a
   unfolding step.onGrant callGrant grantWith grant
   granted n i sent lease =
       let x = s .nodes n in
       let h = k .nodes n in
       let P : held.Node → Type 0 = λ v. FormedNode v → NodeSim w (a .map .epoch) n v (a .nodes n) in
-      stays w _ a
+      rests w _ a
       (on-node w s a k n (callGrant x i sent lease .after)
       (by-test (λ (v : Result GrantAnswer held.Node). P (v .after)) (lateTime sent or lateTime lease) (λ p f. h)
       (λ p. by-test (λ (v : Result GrantAnswer held.Node). P (v .after)) (not (wellFormedHeader x)) (λ q f. h)
@@ -72,10 +72,10 @@ module _ (w : World) (s : real.State) (a : State) (k : Sim w s a) where
       (λ r f. record { id = h .id; formed = f; here = h .here; gone = h .gone; listed = h .listed }) (λ r f. h)))
       (grant-with-kept x (h .formed) (wellFormedHeader x) i sent lease)))
 
-  pub searched : (n now room : ℕ) (bytes : List ℕ) → Reaches w (step.onSearch s n now room bytes) a
+  pub searched : (n now room : ℕ) (bytes : List ℕ) → Gently w (step.onSearch s n now room bytes) a
   unfolding step.onSearch callSearch
   searched n now room bytes =
-      stays w _ a
+      rests w _ a
       (on-node w s a k n (callSearch (s .nodes n) now room bytes .after)
       (subst (λ (v : held.Node). NodeSim w (a .map .epoch) n v (a .nodes n))
       (sym (search-same (wellFormedLent (s .nodes n)) (s .nodes n) now room bytes)) (k .nodes n)))

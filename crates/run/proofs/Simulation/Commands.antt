@@ -38,7 +38,7 @@ use Rattle.run.proofs.Protocol.State as proto
 use Rattle.run.proofs.Protocol.State.{Map, Role, backup, lead, Node, State, promotion, decision, rejection, promoted, resized}
 use Rattle.run.proofs.Simulation.Lists.{all-removed, nth-map, removed-map, collect-one, collect-skip}
 use Rattle.run.proofs.Simulation.Relation.{World, MapSim, RoleSim, HeldSim, NodeSim, OfferFits, OutcomeKey, proposalOf, shrinks, outcomeOf, Sim}
-use Rattle.run.proofs.Simulation.Frame.{Reaches, stays, moves, on-map, same-map, on-offers, on-outcomes, same-outcomes}
+use Rattle.run.proofs.Simulation.Frame.{Reaches, stays, moves, Gently, rests, gently, on-map, same-map, on-offers, on-outcomes, same-outcomes}
 use Rattle.run.proofs.Simulation.Losses.{told-not}
 use Rattle.run.proofs.Simulation.Client.{are-bytes}
 use Rattle.run.proofs.Simulation.Maps.{ways, not-again, not-applied, promote-sim, shrink-sim, expand-sim}
@@ -173,10 +173,10 @@ module _ (w : World) (s : real.State) (a : State) (k : Sim w s a) where
     left = all-removed (OfferFits w (a .map .epoch)) (s .offers) i (k .offered)
 
     -- not applied: the proposal is gone
-    pub turned-down : (m′ : tables.Map) → MapSim w m′ (a .map) → Reaches w (step.told (real.setOffers (real.setMap s m′) rest) o false) a
+    pub turned-down : (m′ : tables.Map) → MapSim w m′ (a .map) → Gently w (step.told (real.setOffers (real.setMap s m′) rest) o false) a
     unfolding proto.step proto.onForget proto.setProposals
     turned-down m′ h =
-        moves w _ a (rejection i)
+        gently w _ a (rejection i) tt
         (told-not w (real.setOffers (real.setMap s m′) rest) (proto.setProposals a (removeAt (a .proposals) i))
         (on-offers w (real.setMap s m′) a (same-map w s a k m′ h) rest (removeAt (a .proposals) i) gone left) o fits)
 
@@ -196,7 +196,7 @@ module _ (w : World) (s : real.State) (a : State) (k : Sim w s a) where
 
     shrunk : (m′ : tables.Map) → o .what ≡ ack.shrink → a .map .epoch ≡ o .epoch → (o .peer ≡ a .map .primary → ⊥)
         → member (o .peer) (a .map .insync) ≡ true → MapSim w m′ (resized (a .map) (sets.without (o .peer) (a .map .insync)))
-        → Reaches w (step.told (real.setOffers (real.setMap s m′) rest) o true) a
+        → Gently w (step.told (real.setOffers (real.setMap s m′) rest) o true) a
     unfolding step.told proto.step proto.onTake proto.takeAs proto.mayTake proto.shrunk proto.setProposals proto.setMap proto.setOutcomes real.setOffers real.setMap _and_
     shrunk m′ what same other inside h =
         let l : List ℕ = sets.without (o .peer) (a .map .insync) in
@@ -212,11 +212,11 @@ module _ (w : World) (s : real.State) (a : State) (k : Sim w s a) where
         ∙ ap (λ (z : List proto.Outcome). z ++ (outcomeOf w (step.outcomeOf o true) ∷ [])) (k .outcomes))
         (all-snoc (OutcomeKey w) (s .outcomes) (step.outcomeOf o true) (k .told) (fits .key)))
         (λ t. settled m′ l h) in
-        moves w _ a (decision i (o .awaited)) (subst (Sim w _) (sym moved) sim)
+        gently w _ a (decision i (o .awaited)) tt (subst (Sim w _) (sym moved) sim)
 
     expanded : (m′ : tables.Map) → o .what ≡ ack.grow → a .map .epoch ≡ o .epoch
         → MapSim w m′ (resized (a .map) (o .peer ∷ a .map .insync))
-        → Reaches w (step.told (real.setOffers (real.setMap s m′) rest) o true) a
+        → Gently w (step.told (real.setOffers (real.setMap s m′) rest) o true) a
     unfolding step.told proto.step proto.onTake proto.takeAs proto.mayTake proto.expanded proto.setProposals proto.setMap real.setOffers real.setMap _and_
     expanded m′ what same h =
         let l : List ℕ = o .peer ∷ a .map .insync in
@@ -228,7 +228,7 @@ module _ (w : World) (s : real.State) (a : State) (k : Sim w s a) where
         (collect-skip (outcomeOf w) (shrinks w) (s .outcomes) (step.outcomeOf o true) none′ ∙ k .outcomes)
         (all-snoc (OutcomeKey w) (s .outcomes) (step.outcomeOf o true) (k .told) (fits .key)))
         (λ t. settled m′ l h) in
-        moves w _ a (decision i (o .awaited)) (subst (Sim w _) (sym moved) sim)
+        gently w _ a (decision i (o .awaited)) tt (subst (Sim w _) (sym moved) sim)
 
     module _ (index seq : ℕ) (small : index ≤ maxU64) (less : seq ≤ maxU64)
         (fresh : notLast (sessionAt (m .sessions) (s .clients (o .node))) seq ≡ true) where
@@ -236,14 +236,14 @@ module _ (w : World) (s : real.State) (a : State) (k : Sim w s a) where
       r = record { index = index; client = s .clients (o .node); seq = seq; command = step.commandOf o (o .what) }
 
       abbrev Goal : Applied → Type 0
-      Goal v = Reaches w (step.told (real.setOffers (real.setMap s (v .map)) rest) o (step.isApplied (v .answer))) a
+      Goal v = Gently w (step.told (real.setOffers (real.setMap s (v .map)) rest) o (step.isApplied (v .answer))) a
 
       not′ : (v : Answer) → step.isApplied v ≡ false → (m′ : tables.Map) → MapSim w m′ (a .map)
-          → Reaches w (step.told (real.setOffers (real.setMap s m′) rest) o (step.isApplied v)) a
-      not′ v e m′ h = subst (λ (z : Bool). Reaches w (step.told (real.setOffers (real.setMap s m′) rest) o z) a) (sym e) (turned-down m′ h)
+          → Gently w (step.told (real.setOffers (real.setMap s m′) rest) o (step.isApplied v)) a
+      not′ v e m′ h = subst (λ (z : Bool). Gently w (step.told (real.setOffers (real.setMap s m′) rest) o z) a) (sym e) (turned-down m′ h)
 
       yes′ : (p : ack.Proposal) → o .what ≡ p → decide m (r .command) ≡ accepts → wellFormedMap (settle m r accepts .map) ≡ true
-          → Reaches w (step.told (real.setOffers (real.setMap s (settle m r accepts .map)) rest) o true) a
+          → Gently w (step.told (real.setOffers (real.setMap s (settle m r accepts .map)) rest) o true) a
       yes′ ack.shrink e q f =
           let h = shrink-sim w m (a .map) (k .table) r (o .key) (o .peer) (o .epoch) (ap (step.commandOf o) e) q f in
           shrunk (settle m r accepts .map) e (h .0) (h .1) (h .2) (h .3)
@@ -281,7 +281,7 @@ module _ (w : World) (s : real.State) (a : State) (k : Sim w s a) where
       unfolding step.offerBytes
       decoded = request-back r (u64-of index small, k .clients (o .node), u64-of seq less, command (o .what) .0)
 
-      pub offered : Reaches w (step.offered s i index seq (some o)) a
+      pub offered : Gently w (step.offered s i index seq (some o)) a
       unfolding step.offered applyBytes applyDecoded
       offered =
           subst Goal
@@ -289,7 +289,7 @@ module _ (w : World) (s : real.State) (a : State) (k : Sim w s a) where
           (offers-map (stays-well-formed m r (k .table .formed) (command (o .what) .1)))
 
   pub on-offer : (i index seq : ℕ) → isU64 index and isU64 seq and freshSeq s seq (nth (s .offers) i) ≡ true
-      → Reaches w (step.onOffer s i index seq) a
+      → Gently w (step.onOffer s i index seq) a
   unfolding step.onOffer step.offered freshSeq isU64
   on-offer i index seq t =
       let f = freshSeq s seq (nth (s .offers) i) in
@@ -298,6 +298,6 @@ module _ (w : World) (s : real.State) (a : State) (k : Sim w s a) where
       (and-right (isU64 seq) f u)
     where
       go : (o : Option real.Offer) → nth (s .offers) i ≡ o → index ≤ maxU64 → seq ≤ maxU64 → freshSeq s seq o ≡ true
-          → Reaches w (step.offered s i index seq o) a
-      go none e p q f = stays w _ a k
+          → Gently w (step.offered s i index seq o) a
+      go none e p q f = rests w _ a k
       go (some o) e p q f = offered i o e index seq p q f

@@ -1,8 +1,10 @@
 -- The relation after one part of the two states changes: all the other parts are as they were. Assumes nothing.
 use Prim.Native.Nat.{ℕ, _+_}
 use mathlib.Core.Path.{_≡_, refl, sym, ap, _∙_, subst}
+use mathlib.Core.Bool.{true}
 use mathlib.Core.List.{List, [], _∷_, _++_, map}
 use Rattle.model.specs.Lists.{collect}
+use Rattle.model.specs.Map.Change.{holds}
 use Rattle.model.specs.Map.Tables as tables
 use Rattle.model.specs.Node.Held as held
 use lib.ListN.{length}
@@ -10,7 +12,7 @@ use Rattle.model.proofs.Lists.{nth-lt, nth-append, nth-last}
 use Rattle.run.specs.State as real
 use Rattle.run.proofs.Protocol.Base.{All, all-map, all-snoc}
 use Rattle.run.proofs.Protocol.State as proto
-use Rattle.run.proofs.Protocol.State.{Map, Node, Request, Reply, Proposal, Outcome, State, Move}
+use Rattle.run.proofs.Protocol.State.{Map, Node, Request, Reply, Proposal, Outcome, State, Move, promotion, decision, rejection, outcome, silence, showing, writing, alignment, batch, arrival, counting, joining, suspicion, waiting}
 use Rattle.run.proofs.Simulation.Lists.{pair-all, one-all, pair2-all, map-join}
 use Rattle.run.proofs.Simulation.Relation.{World, MapSim, NodeSim, RequestSim, RequestAt, ReplySim, OfferFits, OutcomeKey, WriteKey, proposalOf, shrinks, outcomeOf, acceptedOf, acknowledgedOf, Sim}
 
@@ -26,10 +28,41 @@ pub moves : (w : World) (s : real.State) (a : State) (v : Move) → Sim w s (pro
 unfolding proto.run
 moves w s a v k = (v ∷ [], k)
 
--- a move, and then others
-pub then-moves : (w : World) (s : real.State) (a : State) (v : Move) → Reaches w s (proto.step a v) → Reaches w s a
+-- a move after which no node leads anew and none has written: requests go between holders alone
+abbrev pub Gentle : World → Move → Type 0
+Gentle w (promotion n) = ⊥
+Gentle w (decision i told) = Unit
+Gentle w (rejection i) = Unit
+Gentle w (outcome i) = Unit
+Gentle w (silence i) = Unit
+Gentle w (showing n) = ⊥
+Gentle w (writing n op) = ⊥
+Gentle w (alignment n p) = (holds n (w .holders) ≡ true) × (holds p (w .holders) ≡ true)
+Gentle w (batch n p from size) = (holds n (w .holders) ≡ true) × (holds p (w .holders) ≡ true)
+Gentle w (arrival n p i) = Unit
+Gentle w (counting i) = Unit
+Gentle w (joining i) = Unit
+Gentle w (suspicion n p) = Unit
+Gentle w (waiting i) = Unit
+
+-- the protocol gets there by such moves
+abbrev pub Gently : World → real.State → State → Type 0
+Gently w s a = (ms : List Move) × All (Gentle w) ms × Sim w s (proto.run a ms)
+
+pub rests : (w : World) (s : real.State) (a : State) → Sim w s a → Gently w s a
 unfolding proto.run
-then-moves w s a v r = (v ∷ r .0, r .1)
+rests w s a k = ([], tt, k)
+
+pub gently : (w : World) (s : real.State) (a : State) (v : Move) → Gentle w v → Sim w s (proto.step a v) → Gently w s a
+unfolding proto.run
+gently w s a v g k = (v ∷ [], (g, tt), k)
+
+pub then-gently : (w : World) (s : real.State) (a : State) (v : Move) → Gentle w v → Gently w s (proto.step a v) → Gently w s a
+unfolding proto.run
+then-gently w s a v g r = (v ∷ r .0, (g, r .1), r .2)
+
+pub reaches : (w : World) (s : real.State) (a : State) → Gently w s a → Reaches w s a
+reaches w s a r = (r .0, r .2)
 
 module _ (w : World) (s : real.State) (a : State) (k : Sim w s a) where
   abbrev top : ℕ

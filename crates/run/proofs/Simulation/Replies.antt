@@ -33,7 +33,7 @@ use Rattle.run.proofs.Protocol.State as proto
 use Rattle.run.proofs.Protocol.State.{Lead, Role, backup, lead, Node, State, Answer, adopts, stores, staleAlign, staleSend, Reply, withRole, withPeer, withAck, counting, joining}
 use Rattle.run.proofs.Simulation.Lists.{all-removed, map-join}
 use Rattle.run.proofs.Simulation.Relation.{World, RowsSim, LeadSim, HeldSim, NodeSim, ReplySim, OfferFits, proposalOf, deedFor, Sim}
-use Rattle.run.proofs.Simulation.Frame.{Reaches, stays, moves, then-moves, on-node, on-nodes, on-replies, on-offers}
+use Rattle.run.proofs.Simulation.Frame.{Gently, rests, gently, then-gently, on-node, on-nodes, on-replies, on-offers}
 use Rattle.run.proofs.Simulation.Rows.{row-holder, loose-rows, ack-rows, join-rows, or-no, or-yes}
 use Rattle.run.proofs.Simulation.AtNode.{leads, lead-at, at-key, node-with}
 
@@ -76,7 +76,7 @@ module _ (w : World) (s : real.State) (a : State) (k : Sim w s a) (i : ℕ) (q :
   next y = real.setReplies (real.setNode s n y) rest
 
   abbrev After : Result AckAnswer held.Node → Type 0
-  After v = FormedNode (v .after) → Reaches w (step.acked (next (v .after)) q (v .answer)) a
+  After v = FormedNode (v .after) → Gently w (step.acked (next (v .after)) q (v .answer)) a
 
   -- nothing happens
   quiet : (y : held.Node) → NodeSim w top n y b → Sim w (next y) a
@@ -84,15 +84,15 @@ module _ (w : World) (s : real.State) (a : State) (k : Sim w s a) (i : ℕ) (q :
 
   refused : (why : Refusal) (y : held.Node) → NodeSim w top n y b → After (record { answer = ackRefused why; after = y })
   unfolding step.acked
-  refused why y h f = stays w _ a (quiet y h)
+  refused why y h f = rests w _ a (quiet y h)
 
   still : (y : held.Node) → NodeSim w top n y b → After (record { answer = noted; after = y })
   unfolding step.acked
-  still y h f = stays w _ a (quiet y h)
+  still y h f = rests w _ a (quiet y h)
 
   module _ (y : holds n (w .holders) ≡ true) (h : Held) (hs : HeldSim w top n h b) where
     abbrev AfterHeld : Result AckAnswer Held → Type 0
-    AfterHeld v = FormedNode (withHeld x (v .after ∷ [])) → Reaches w (step.acked (next (withHeld x (v .after ∷ []))) q (v .answer)) a
+    AfterHeld v = FormedNode (withHeld x (v .after ∷ [])) → Gently w (step.acked (next (withHeld x (v .after ∷ []))) q (v .answer)) a
 
     same : FormedNode (withHeld x (h ∷ [])) → NodeSim w top n (withHeld x (h ∷ [])) b
     same f = node-with w top n x b (k .nodes n) b h y f hs
@@ -121,7 +121,7 @@ module _ (w : World) (s : real.State) (a : State) (k : Sim w s a) (i : ℕ) (q :
       takes : (h′ : Held) (role : Role) → proto.countedAs l last (q .peer) (rs .answer) ≡ role → HeldSim w top n h′ (withRole b role)
           → AfterHeld (gives noted h′)
       unfolding step.acked
-      takes h′ role e u f = moves w _ a (counting (rs .place)) (subst (Sim w _) (sym (counted role e)) (counts h′ role u f))
+      takes h′ role e u f = gently w _ a (counting (rs .place)) tt (subst (Sim w _) (sym (counted role e)) (counts h′ role u f))
 
       -- a record with other numbers of this peer
       with-peer : (u : ℕ) (t : Bool) (rows : List Peer) → RowsSim w n (withPeer l (q .peer) u t) rows
@@ -240,8 +240,8 @@ module _ (w : World) (s : real.State) (a : State) (k : Sim w s a) (i : ℕ) (q :
             let sim₂ = on-offers w (next (withHeld x (h′ ∷ []))) (proto.setNode a n b₂) sim (s .offers ++ (o ∷ [])) ps
             (map-join (proposalOf w) (s .offers) (o ∷ []) ∙ ap (λ (z : List proto.Proposal). z ++ (proposalOf w o ∷ [])) (k .offers))
             (all-snoc (OfferFits w top) (s .offers) o (k .offered) fits) in
-            then-moves w _ a (counting (rs .place))
-            (subst (Reaches w _) (sym (counted (lead l₁) e)) (moves w _ a₁ (joining (rs .place)) (subst (Sim w _) (sym (joins-to j)) sim₂)))
+            then-gently w _ a (counting (rs .place)) tt
+            (subst (Gently w _) (sym (counted (lead l₁) e)) (gently w _ a₁ (joining (rs .place)) tt (subst (Sim w _) (sym (joins-to j)) sim₂)))
 
         records : AfterHeld (doDeed h (q .peer) p (recordAck t by))
         unfolding doDeed
@@ -303,14 +303,14 @@ module _ (w : World) (s : real.State) (a : State) (k : Sim w s a) (i : ℕ) (q :
       (λ u. at-key w top n x b (k .nodes n) After (q .key) noted (ackHeld (q .epoch) (q .peer) (q .sent) (rs .message))
       (still x (k .nodes n)) (λ y h e hs same. at-held y h hs)))))
 
-  pub replied : Reaches w (step.replies s i (some q)) a
+  pub replied : Gently w (step.replies s i (some q)) a
   unfolding step.replies callAck
   replied = acks (ack-with-kept x (k .nodes n .formed) (wellFormedHeader x) (q .key) (q .epoch) (q .peer) (q .sent) (q .bytes))
 
-pub on-reply : (w : World) (s : real.State) (a : State) → Sim w s a → (i : ℕ) → Reaches w (step.onReply s i) a
+pub on-reply : (w : World) (s : real.State) (a : State) → Sim w s a → (i : ℕ) → Gently w (step.onReply s i) a
 unfolding step.onReply step.replies
 on-reply w s a k i = go (nth (s .replies) i) refl
   where
-    go : (o : Option real.Reply) → nth (s .replies) i ≡ o → Reaches w (step.replies s i o) a
-    go none e = stays w _ a k
+    go : (o : Option real.Reply) → nth (s .replies) i ≡ o → Gently w (step.replies s i o) a
+    go none e = rests w _ a k
     go (some q) e = replied w s a k i q e

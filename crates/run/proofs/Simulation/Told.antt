@@ -27,7 +27,7 @@ use Rattle.run.proofs.Protocol.State as proto
 use Rattle.run.proofs.Protocol.State.{Lead, Role, lead, Node, State, withRole, withAck}
 use Rattle.run.proofs.Simulation.Lists.{all-removed, collect-taken}
 use Rattle.run.proofs.Simulation.Relation.{World, LeadSim, RoleSim, HeldSim, NodeSim, OutcomeKey, shrinks, outcomeOf, Sim}
-use Rattle.run.proofs.Simulation.Frame.{Reaches, stays, moves, on-node, on-nodes, on-outcomes}
+use Rattle.run.proofs.Simulation.Frame.{Gently, rests, gently, on-node, on-nodes, on-outcomes}
 use Rattle.run.proofs.Simulation.Rows.{settled-rows, left-rows}
 use Rattle.run.proofs.Simulation.AtNode.{leads, lead-at, at-key, node-with}
 use Rattle.run.proofs.Simulation.Losses.{outcome-gone}
@@ -52,10 +52,10 @@ module _ (w : World) (s : real.State) (a : State) (k : Sim w s a) (i : ℕ) (o :
   keys = all-removed (OutcomeKey w) (s .outcomes) i (k .told)
 
   abbrev After : held.Node → Type 0
-  After y = FormedNode y → Reaches w (real.setOutcomes (real.setNode s n y) rest) a
+  After y = FormedNode y → Gently w (real.setOutcomes (real.setNode s n y) rest) a
 
   -- to the protocol the outcome is lost
-  quiet : (y : held.Node) → NodeSim w top n y b → Reaches w (real.setOutcomes (real.setNode s n y) rest) a
+  quiet : (y : held.Node) → NodeSim w top n y b → Gently w (real.setOutcomes (real.setNode s n y) rest) a
   unfolding real.setNode
   quiet y h = outcome-gone w (real.setNode s n y) a (on-node w s a k n y h) i o found rest refl keys
 
@@ -75,7 +75,7 @@ module _ (w : World) (s : real.State) (a : State) (k : Sim w s a) (i : ℕ) (o :
         peers = update (ofNode (o .peer)) (settledRow left) (h .peers);
       }
 
-      kept : FormedNode (withHeld x (after false ∷ [])) → Reaches w (real.setOutcomes (real.setNode s n (withHeld x (after false ∷ []))) rest) a
+      kept : FormedNode (withHeld x (after false ∷ [])) → Gently w (real.setOutcomes (real.setNode s n (withHeld x (after false ∷ []))) rest) a
       kept f =
           let led : LeadSim w top n (h .role) (h .replica) (update (ofNode (o .peer)) (settledRow false) (h .peers)) (c .0) = record {
             role = c .2 .role;
@@ -97,7 +97,7 @@ module _ (w : World) (s : real.State) (a : State) (k : Sim w s a) (i : ℕ) (o :
           }))
 
       gone : shrinks w o ≡ true → FormedNode (withHeld x (after true ∷ []))
-          → Reaches w (real.setOutcomes (real.setNode s n (withHeld x (after true ∷ []))) rest) a
+          → Gently w (real.setOutcomes (real.setNode s n (withHeld x (after true ∷ []))) rest) a
       unfolding proto.step proto.onTell proto.tellAs proto.toldAs proto.setNode proto.setOutcomes proto.withRole proto.withAck
       gone left f =
           let l : Lead = withAck (c .0) (without (o .peer) (c .0 .ack)) in
@@ -128,10 +128,10 @@ module _ (w : World) (s : real.State) (a : State) (k : Sim w s a) (i : ℕ) (o :
           let sim = on-outcomes w (real.setNode s n (withHeld x (after true ∷ []))) (proto.setNode a n b′)
           (on-nodes w s a k n (withHeld x (after true ∷ [])) b′ node) rest m
           (r .2 ∙ ap (λ (z : List proto.Outcome). removeAt z j) (k .outcomes)) keys in
-          moves w _ a (proto.outcome j) (subst (Sim w _) (sym moved) sim)
+          gently w _ a (proto.outcome j) tt (subst (Sim w _) (sym moved) sim)
 
       both : (left : Bool) → shrinks w o ≡ left → FormedNode (withHeld x (after left ∷ []))
-          → Reaches w (real.setOutcomes (real.setNode s n (withHeld x (after left ∷ []))) rest) a
+          → Gently w (real.setOutcomes (real.setNode s n (withHeld x (after left ∷ []))) rest) a
       both true e f = gone e f
       both false e f = kept f
 
@@ -148,14 +148,14 @@ module _ (w : World) (s : real.State) (a : State) (k : Sim w s a) (i : ℕ) (o :
       (λ p. at-key w top n x b (k .nodes n) (λ v. After (v .after)) (o .key) settled
       (outcomeAt (x .id) (o .epoch) (o .peer) (shrinks w o)) (λ f. quiet x (k .nodes n)) (λ y h e hs same. at-held y h hs))
 
-  pub learnt : Reaches w (step.learnt s i (some o)) a
+  pub learnt : Gently w (step.learnt s i (some o)) a
   unfolding step.learnt callOutcome
   learnt = learns (outcome-with-kept x (k .nodes n .formed) (wellFormedHeader x) (o .key) (o .epoch) (o .peer) (o .what) (o .applied))
 
-pub on-outcome : (w : World) (s : real.State) (a : State) → Sim w s a → (i : ℕ) → Reaches w (step.onOutcome s i) a
+pub on-outcome : (w : World) (s : real.State) (a : State) → Sim w s a → (i : ℕ) → Gently w (step.onOutcome s i) a
 unfolding step.onOutcome step.learnt
 on-outcome w s a k i = go (nth (s .outcomes) i) refl
   where
-    go : (o : Option real.Outcome) → nth (s .outcomes) i ≡ o → Reaches w (step.learnt s i o) a
-    go none e = stays w _ a k
+    go : (o : Option real.Outcome) → nth (s .outcomes) i ≡ o → Gently w (step.learnt s i o) a
+    go none e = rests w _ a k
     go (some o) e = learnt w s a k i o e

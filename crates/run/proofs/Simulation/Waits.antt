@@ -32,7 +32,7 @@ use Rattle.run.proofs.Protocol.State as proto
 use Rattle.run.proofs.Protocol.State.{Lead, Role, lead, Node, State, suspicion, allAcked}
 use Rattle.run.proofs.Simulation.Lists.{nth-map, map-join}
 use Rattle.run.proofs.Simulation.Relation.{World, isHolder, RowsSim, LeadSim, RoleSim, HeldSim, NodeSim, OfferFits, WriteKey, proposalOf, acceptedOf, acknowledgedOf, Sim}
-use Rattle.run.proofs.Simulation.Frame.{Reaches, stays, then-moves, on-node, on-offers, same-offers, on-acknowledged}
+use Rattle.run.proofs.Simulation.Frame.{Gently, rests, then-gently, on-node, on-offers, same-offers, on-acknowledged}
 use Rattle.run.proofs.Simulation.Rows.{ack-row, wait-rows}
 use Rattle.run.proofs.Simulation.AtNode.{leads, lead-at, at-key, node-with}
 
@@ -80,10 +80,10 @@ module _ (w : World) (v : real.Write) (l : Lead) (key : WriteKey w v) (same : l 
   -- the Shrinks that a wait proposes, one suspicion each
   suspects : (ps : List DataNodeId) → All (λ (d : DataNodeId). holds (d .0) (w .holders) ≡ true) ps → (s : real.State) (a : State) → Sim w s a
       → a .nodes (v .node) .role ≡ lead l → v .epoch ≤ a .map .epoch
-      → Reaches w (real.setOffers s (s .offers ++ map (step.shrinkOf v) ps)) a
+      → Gently w (real.setOffers s (s .offers ++ map (step.shrinkOf v) ps)) a
   unfolding real.setOffers proto.setProposals proto.step proto.onSuspect proto.suspectAs
   suspects [] hs s a k role upto =
-      stays w _ a
+      rests w _ a
       (subst (λ (z : List real.Offer). Sim w (real.setOffers s z) a) (sym (append-nil (s .offers)))
       (same-offers w s a k (s .offers) (k .offers) (k .offered)))
   suspects (p ∷ ps) hs s a k role upto =
@@ -99,8 +99,8 @@ module _ (w : World) (v : real.Write) (l : Lead) (key : WriteKey w v) (same : l 
       (all-snoc (OfferFits w (a .map .epoch)) (s .offers) o (k .offered)
       (record { key = key; peer = w .ids (p .0) (hs .0); upto = upto })) in
       let r = suspects ps (hs .1) s′ a′ k′ role upto in
-      let r′ = subst (λ (z : List real.Offer). Reaches w (real.setOffers s z) a′) (append-assoc (s .offers) (o ∷ []) (map (step.shrinkOf v) ps)) r in
-      then-moves w _ a (suspicion (v .node) (p .0)) (subst (Reaches w _) (sym moved) r′)
+      let r′ = subst (λ (z : List real.Offer). Gently w (real.setOffers s z) a′) (append-assoc (s .offers) (o ∷ []) (map (step.shrinkOf v) ps)) r in
+      then-gently w _ a (suspicion (v .node) (p .0)) tt (subst (Gently w _) (sym moved) r′)
 
 module _ (w : World) (s : real.State) (a : State) (k : Sim w s a) (i : ℕ) (v : real.Write) (found : nth (s .accepted) i ≡ some v)
     (now timeout : ℕ) where
@@ -117,11 +117,11 @@ module _ (w : World) (s : real.State) (a : State) (k : Sim w s a) (i : ℕ) (v :
   key = all-nth (WriteKey w) (s .accepted) i v (k .written) found
 
   abbrev After : Result WaitAnswer held.Node → Type 0
-  After r = FormedNode (r .after) → Reaches w (step.waited (real.setNode s n (r .after)) v (r .answer)) a
+  After r = FormedNode (r .after) → Gently w (step.waited (real.setNode s n (r .after)) v (r .answer)) a
 
   refused : (r : Refusal) (y : held.Node) → NodeSim w (a .map .epoch) n y b → After (record { answer = waitRefused r; after = y })
   unfolding step.waited
-  refused r y h f = stays w _ a (on-node w s a k n y h)
+  refused r y h f = rests w _ a (on-node w s a k n y h)
 
   module _ (y : holds n (w .holders) ≡ true) (h : Held) (hs : HeldSim w (a .map .epoch) n h b) where
     abbrev last : ℕ
@@ -170,11 +170,11 @@ module _ (w : World) (s : real.State) (a : State) (k : Sim w s a) (i : ℕ) (v :
       upto : v .epoch ≤ a .map .epoch
       upto = subst (λ (e : ℕ). e ≤ a .map .epoch) (c .3) (c .2 .upto)
 
-      more : Reaches w (step.waited s′ v (waiting ps)) a
+      more : Gently w (step.waited s′ v (waiting ps)) a
       unfolding step.waited
       more = suspects w v (c .0) key (c .3) ps peers s′ a sim (c .1) upto
 
-      enough : every (hasAcked (v .offset)) (h .peers) ≡ true → Reaches w (step.waited s′ v (done ps)) a
+      enough : every (hasAcked (v .offset)) (h .peers) ≡ true → Gently w (step.waited s′ v (done ps)) a
       unfolding step.waited real.setWrites real.setOffers real.setNode proto.step proto.onAcknowledge proto.ackAs proto.ackLead proto.addAcknowledged
       enough e =
           let at : nth (a .accepted) i ≡ some (acceptedOf w v) =
@@ -185,19 +185,19 @@ module _ (w : World) (s : real.State) (a : State) (k : Sim w s a) (i : ℕ) (v :
           ∙ ap (λ (z : Bool). cond z a′ a) (all-acked w n (c .0) (h .peers) (c .2 .rows) (v .offset) e) in
           let r = suspects w v (c .0) key (c .3) ps peers (real.setWrites s′ (s .accepted) (s .acknowledged ++ (v ∷ []))) a′
           (on-acknowledged w s′ a sim v key) (c .1) upto in
-          then-moves w _ a (proto.waiting i) (subst (Reaches w _) (sym moved) r)
+          then-gently w _ a (proto.waiting i) tt (subst (Gently w _) (sym moved) r)
 
     at-held : FormedNode (withHeld x (waitHeld now timeout (v .epoch) (v .offset) h .after ∷ []))
-        → Reaches w (step.waited (real.setNode s n (withHeld x (waitHeld now timeout (v .epoch) (v .offset) h .after ∷ []))) v
+        → Gently w (step.waited (real.setNode s n (withHeld x (waitHeld now timeout (v .epoch) (v .offset) h .after ∷ []))) v
         (waitHeld now timeout (v .epoch) (v .offset) h .answer)) a
     unfolding waitHeld
     at-held =
         let P : Result WaitAnswer Held → Type 0 = λ r. FormedNode (withHeld x (r .after ∷ []))
-        → Reaches w (step.waited (real.setNode s n (withHeld x (r .after ∷ []))) v (r .answer)) a in
+        → Gently w (step.waited (real.setNode s n (withHeld x (r .after ∷ []))) v (r .answer)) a in
         by-test P (not (leadsAt (h .role) (v .epoch)))
         (λ p f. refused _ (withHeld x (h ∷ [])) (node-with w (a .map .epoch) n x b (k .nodes n) b h y f hs) f)
         (λ p f. let t = not-false (leadsAt (h .role) (v .epoch)) p in
-        by-test (λ (z : WaitAnswer). Reaches w (step.waited (real.setNode s n (withHeld x (h′ ∷ []))) v z) a) (every (hasAcked (v .offset)) (h .peers))
+        by-test (λ (z : WaitAnswer). Gently w (step.waited (real.setNode s n (withHeld x (h′ ∷ []))) v z) a) (every (hasAcked (v .offset)) (h .peers))
         (λ e. enough t f e) (λ e. more t f))
 
   waits : After (callWait x now timeout (v .key) (v .epoch) (v .offset))
@@ -208,14 +208,14 @@ module _ (w : World) (s : real.State) (a : State) (k : Sim w s a) (i : ℕ) (v :
       (λ q. at-key w (a .map .epoch) n x b (k .nodes n) After (v .key) (waitRefused unknownShard) (waitHeld now timeout (v .epoch) (v .offset))
       (refused unknownShard x (k .nodes n)) (λ y h e hs same. at-held y h hs)))
 
-  pub waited : Reaches w (step.waitFor s now timeout (some v)) a
+  pub waited : Gently w (step.waitFor s now timeout (some v)) a
   unfolding step.waitFor callWait
   waited = waits (wait-with-kept x (k .nodes n .formed) (wellFormedHeader x) now timeout (v .key) (v .epoch) (v .offset))
 
-pub on-wait : (w : World) (s : real.State) (a : State) → Sim w s a → (i now timeout : ℕ) → Reaches w (step.onWait s i now timeout) a
+pub on-wait : (w : World) (s : real.State) (a : State) → Sim w s a → (i now timeout : ℕ) → Gently w (step.onWait s i now timeout) a
 unfolding step.onWait step.waitFor
 on-wait w s a k i now timeout = go (nth (s .accepted) i) refl
   where
-    go : (o : Option real.Write) → nth (s .accepted) i ≡ o → Reaches w (step.waitFor s now timeout o) a
-    go none e = stays w _ a k
+    go : (o : Option real.Write) → nth (s .accepted) i ≡ o → Gently w (step.waitFor s now timeout o) a
+    go none e = rests w _ a k
     go (some v) e = waited w s a k i v e now timeout

@@ -1,9 +1,9 @@
 -- Paper 01, 'Rules of a run', 'At a node', 'Messages': a worker's step. An Align or a Send that fits its buffer goes under way; Wait, Stop
 -- and a refusal do nothing. Assumes nothing.
-use Prim.Native.Nat.{ℕ, _+_, _-_, _≤_, max}
+use Prim.Native.Nat.{ℕ, zero, suc, _+_, _-_, _≤_, max}
 use mathlib.Core.Path.{_≡_, refl, sym, ap, _∙_, subst}
 use mathlib.Core.Bool.{true, false, not}
-use mathlib.Core.Logic.{inl, inr}
+use mathlib.Core.Logic.{_⊎_, inl, inr}
 use mathlib.Core.List.{List, [], _∷_, _++_, map}
 use mathlib.Core.Option.{Option, some}
 use native.Mathlib.Omega.{arith}
@@ -12,6 +12,7 @@ use lib.ListN.{length, take, drop, length-take}
 use borrow.Author.Tests.{eqb-true, eqb-false, not-true, not-false}
 use Rattle.model.specs.Keys.{Key}
 use Rattle.model.specs.Limits.{maxU64, maxEntries, maxBatch, maxTable}
+use Rattle.model.specs.Refusals.{noRoom}
 use Rattle.model.specs.Lists.{nth, any, find}
 use Rattle.model.specs.Log.{Op, Entry, Log, End, ShardReplica, epochEnds, entriesFrom}
 use Rattle.model.specs.Map.Change.{holds}
@@ -25,7 +26,7 @@ use Rattle.model.specs.Node.Shards.{leadsAt, ofNode, onNode}
 use Rattle.model.specs.Node.Wire.{wireOp, wireEntry}
 use Rattle.model.specs.Node.Worker as worker
 use Rattle.model.specs.Node.Worker.{Step, sendOf, stepRow, stepHeld, stepAt, onStep, Message, newEpochMessage, messageBytes, endOffset, copies, copyOf, loneOf, sending, requestHeld, requestAt, onRequest}
-use Rattle.model.specs.Node.Calls.{RequestAnswer, unsent, written, writtenIn, requestOf, requestWith, callRequest}
+use Rattle.model.specs.Node.Calls.{RequestAnswer, unsent, written, requestRefused, writtenIn, requestOf, requestWith, callRequest}
 use Rattle.model.specs.Node.WellFormed.{wellFormedLent}
 use Rattle.model.specs.declared.Metric.{Metric}
 use Rattle.model.specs.declared.Peer.{Peer}
@@ -43,10 +44,16 @@ use Rattle.run.proofs.Protocol.State.{Lead, Role, lead, Node, Request, 
 use Rattle.run.proofs.Simulation.Lists.{any-find}
 use Rattle.run.proofs.Simulation.Ops.{op-back}
 use Rattle.run.proofs.Simulation.Relation.{World, LeadSim, HeldSim, AlignSim, CopySim, LoneSim, RequestSim, Sim}
-use Rattle.run.proofs.Simulation.Frame.{Reaches, stays, moves, on-post}
+use Rattle.run.proofs.Simulation.Frame.{Gentle, Gently, rests, gently, on-post}
 use Rattle.run.proofs.Simulation.AtNode.{leads, shard-cases, log-facts, held-facts}
 use Rattle.run.proofs.Simulation.Commands.{u64-of}
 use Rattle.run.proofs.Simulation.Batches.{Ready, ready, Batch, batch, ends-good}
+
+-- as many as were taken
+take-taken : {A : Type 0} (n : ℕ) (l : List A) → take (length (take n l)) l ≡ take n l
+take-taken zero l = refl
+take-taken (suc n) [] = refl
+take-taken {A} (suc n) (y ∷ ys) = ap {A = List A} {B = List A} (λ v. y ∷ v) (take-taken n ys)
 
 module _ (w : World) (s : real.State) (a : State) (k : Sim w s a) (n : ℕ) (key : Key) (epoch peer : ℕ) (metric : Metric) (room : ℕ)
     (ne : eqb n peer ≡ false) where
@@ -60,31 +67,57 @@ module _ (w : World) (s : real.State) (a : State) (k : Sim w s a) (n : ℕ) (key
   top = a .map .epoch
 
   abbrev Goal : RequestAnswer → Type 0
-  Goal r = Reaches w (step.posted s n key epoch peer r) a
+  Goal r = Gently w (step.posted s n key epoch peer r) a
 
   idle : Goal unsent
   unfolding step.posted
-  idle = stays w s a k
+  idle = rests w s a k
 
-  -- bytes that are a request of the protocol
-  puts : (bytes : List ℕ) (r : Request) (v : proto.Move) → proto.step a v ≡ proto.post a n peer r
-      → RequestSim w peer (record { sent = step.sentOf bytes; key = key; epoch = epoch; bytes = bytes }) r → Goal (written bytes)
-  unfolding step.posted
-  puts bytes r v moved sim =
-      let q : real.Request = record { sent = step.sentOf bytes; key = key; epoch = epoch; bytes = bytes } in
-      moves w _ a v
-      (subst (Sim w _) (sym moved)
-      (on-post w s a k n peer q r sim))
-
-  -- a message is written where it fits
-  fits-in : (m : Message) → Goal (written (messageBytes m)) → Goal (writtenIn room (some m))
-  unfolding step.posted
-  fits-in m g = by-test Goal (ltb room (length (messageBytes m))) (λ t. stays w s a k) (λ t. g)
+  abbrev request : List ℕ → real.Request
+  request bytes = record { sent = step.sentOf bytes; key = key; epoch = epoch; bytes = bytes }
 
   module _ (h : Held) (is : x .held ≡ h ∷ []) (hs : HeldSim w top n h b) (same : key ≡ w .key) (l : Lead) (leading : b .role ≡ lead l)
-      (c : LeadSim w top n (h .role) (h .replica) (h .peers) l) (now : l .epoch ≡ epoch) (holder : holds peer (w .holders) ≡ true) where
+      (c : LeadSim w top n (h .role) (h .replica) (h .peers) l) (now : l .epoch ≡ epoch) (mine : holds n (w .holders) ≡ true)
+      (holder : holds peer (w .holders) ≡ true) where
     abbrev log : Log
     log = h .replica .log
+
+    -- what is left for the peer, one batch at most
+    abbrev pub due : Log
+    due = entriesFrom log (l .acked peer + 1) maxBatch
+
+    -- an alignment asks one that is not aligned, a batch is what is left for one that is
+    abbrev pub Asks : Request → Type 0
+    Asks (proto.align d end t) = l .aligned peer ≡ false
+    Asks (proto.send d v) = (l .aligned peer ≡ true) × (due ≡ v)
+
+    pub record Puts (r : RequestAnswer) : Type 0 where
+      pub bytes : List ℕ
+      pub written : r ≡ written bytes
+      pub asked : Request
+      pub move : proto.Move
+      pub gentle : Gentle w move
+      pub moved : proto.step a move ≡ proto.post a n peer asked
+      pub like : RequestSim w peer (request bytes) asked
+      pub asks : Asks asked
+
+    -- the step, named: one request goes under way, or nothing is left for the peer, or the request is longer than the room
+    abbrev pub Named : RequestAnswer → Type 0
+    Named r = Puts r ⊎ ((r ≡ unsent) × (l .aligned peer ≡ true) × (due ≡ [])) ⊎ (r ≡ requestRefused noRoom)
+
+    -- so it does in the protocol
+    does : (r : RequestAnswer) → Named r → Goal r
+    unfolding step.posted
+    does r (inl p) =
+        subst Goal (sym (p .written))
+        (gently w _ a (p .move) (p .gentle)
+        (subst (Sim w _) (sym (p .moved)) (on-post w s a k n peer (request (p .bytes)) (p .asked) (p .like))))
+    does r (inr (inl e)) = subst Goal (sym (e .0)) (rests w s a k)
+    does r (inr (inr e)) = subst Goal (sym e) (rests w s a k)
+
+    -- a message is written where it fits
+    fits-in : (m : Message) → Puts (written (messageBytes m)) → Named (writtenIn room (some m))
+    fits-in m g = by-test Named (ltb room (length (messageBytes m))) (λ t. inr (inr refl)) (λ t. inl g)
 
     own : h .replica .epoch ≡ epoch
     own = c .epoch ∙ now
@@ -106,10 +139,18 @@ module _ (w : World) (s : real.State) (a : State) (k : Sim w s a) (n : ℕ) (key
     abbrev aligning : message.NewEpoch
     aligning = worker.alignment h epoch metric
 
-    aligns : l .aligned peer ≡ false → Goal (writtenIn room (requestHeld epoch metric h worker.align))
+    aligns : l .aligned peer ≡ false → Named (writtenIn room (requestHeld epoch metric h worker.align))
     unfolding requestHeld messageBytes
-    aligns loose = fits-in (newEpochMessage aligning)
-        (puts (encodeNewEpoch aligning) (proto.align epoch (l .end) (l .table)) (proto.alignment n peer) moved sim)
+    aligns loose = fits-in (newEpochMessage aligning) (record {
+      bytes = encodeNewEpoch aligning;
+      written = refl;
+      asked = proto.align epoch (l .end) (l .table);
+      move = proto.alignment n peer;
+      gentle = (mine, holder);
+      moved = moved;
+      like = sim;
+      asks = loose;
+    })
       where
         moved : proto.step a (proto.alignment n peer) ≡ proto.post a n peer (proto.align epoch (l .end) (l .table))
         moved =
@@ -165,7 +206,7 @@ module _ (w : World) (s : real.State) (a : State) (k : Sim w s a) (n : ℕ) (key
 
     -- ---- Send
 
-    module _ (first count : ℕ) (tied : l .aligned peer ≡ true) (few : count ≤ maxBatch) where
+    module _ (first count : ℕ) (tied : l .aligned peer ≡ true) (few : count ≤ maxBatch) (all : due ≡ entriesFrom log first count) where
       abbrev es : Log
       es = entriesFrom log first count
 
@@ -187,14 +228,11 @@ module _ (w : World) (s : real.State) (a : State) (k : Sim w s a) (n : ℕ) (key
           ∙ ap (proto.sendBatch a n peer (l .epoch)) q
           ∙ ap (λ (d : ℕ). proto.post a n peer (proto.send d (e ∷ r))) now)
 
-      abbrev request : List ℕ → real.Request
-      request bytes = record { sent = step.sentOf bytes; key = key; epoch = epoch; bytes = bytes }
-
       abbrev copying : Log → message.Copied
       copying v = record { key = h .key; epoch = epoch; entries = map wireEntry v }
 
       -- several entries, or an older one alone
-      copies-out : (e : Entry) (r : Log) → es ≡ e ∷ r → Goal (writtenIn room (some (copyOf (h .key) epoch (e ∷ r))))
+      copies-out : (e : Entry) (r : Log) → es ≡ e ∷ r → Named (writtenIn room (some (copyOf (h .key) epoch (e ∷ r))))
       unfolding messageBytes step.sentOf encodeCopyShard
       copies-out e r q =
           let o : Batch epoch (e ∷ r) = subst (Batch epoch) q ok in
@@ -210,21 +248,28 @@ module _ (w : World) (s : real.State) (a : State) (k : Sim w s a) (n : ℕ) (key
             inside = o .inside;
             entries = o .same;
           } in
-          fits-in (copyOf (h .key) epoch (e ∷ r)) (puts (encodeCopyShard (copying (e ∷ r))) (proto.send epoch (e ∷ r))
-          (proto.batch n peer first count) (moved e r q)
-          (record {
-            key = same;
-            epoch = refl;
-            filled = refl;
-            formed = o .formed;
-            fits = o .fits;
-            upto = upto;
-            holder = holder;
-            way = inl copy;
-          }))
+          fits-in (copyOf (h .key) epoch (e ∷ r)) (record {
+            bytes = encodeCopyShard (copying (e ∷ r));
+            written = refl;
+            asked = proto.send epoch (e ∷ r);
+            move = proto.batch n peer first count;
+            gentle = (mine, holder);
+            moved = moved e r q;
+            like = record {
+              key = same;
+              epoch = refl;
+              filled = refl;
+              formed = o .formed;
+              fits = o .fits;
+              upto = upto;
+              holder = holder;
+              way = inl copy;
+            };
+            asks = (tied, all ∙ q);
+          })
 
       -- one entry of the epoch itself
-      goes-alone : (e : Entry) → es ≡ e ∷ [] → copies epoch (e .epoch) ≡ false → Goal (writtenIn room (some (loneOf (h .key) epoch e)))
+      goes-alone : (e : Entry) → es ≡ e ∷ [] → copies epoch (e .epoch) ≡ false → Named (writtenIn room (some (loneOf (h .key) epoch e)))
       unfolding messageBytes step.sentOf encodeReplicate
       goes-alone e q t =
           let o : Batch epoch (e ∷ []) = subst (Batch epoch) q ok in
@@ -244,77 +289,90 @@ module _ (w : World) (s : real.State) (a : State) (k : Sim w s a) (n : ℕ) (key
             entries =
                 ap (λ (d : ℕ). one d (e .op)) level ∙ ap (λ (v : Op). one epoch v) (sym (back .same));
           } in
-          fits-in (loneOf (h .key) epoch e) (puts (encodeReplicate m) (proto.send epoch (e ∷ [])) (proto.batch n peer first count) (moved e [] q)
-          (record {
-            key = same;
-            epoch = refl;
-            filled = refl;
-            formed = o .formed;
-            fits = o .fits;
-            upto = upto;
-            holder = holder;
-            way = inr lone;
-          }))
+          fits-in (loneOf (h .key) epoch e) (record {
+            bytes = encodeReplicate m;
+            written = refl;
+            asked = proto.send epoch (e ∷ []);
+            move = proto.batch n peer first count;
+            gentle = (mine, holder);
+            moved = moved e [] q;
+            like = record {
+              key = same;
+              epoch = refl;
+              filled = refl;
+              formed = o .formed;
+              fits = o .fits;
+              upto = upto;
+              holder = holder;
+              way = inr lone;
+            };
+            asks = (tied, all ∙ q);
+          })
         where
           one : ℕ → Op → Log
           one d v = record { epoch = d; offset = e .offset; op = v } ∷ []
 
-      sends : (v : Log) → es ≡ v → Goal (writtenIn room (sending (h .key) epoch v))
+      sends : (v : Log) → es ≡ v → Named (writtenIn room (sending (h .key) epoch v))
       unfolding sending
-      sends [] q = idle
+      sends [] q = inr (inl (refl, tied, all ∙ q))
       sends (e ∷ []) q =
-          by-test (λ (m : Message). Goal (writtenIn room (some m))) (copies epoch (e .epoch)) (λ t. copies-out e [] q)
+          by-test (λ (m : Message). Named (writtenIn room (some m))) (copies epoch (e .epoch)) (λ t. copies-out e [] q)
           (λ t. goes-alone e q t)
       sends (e ∷ d ∷ r) q = copies-out e (d ∷ r) q
 
     -- ---- the step of an aligned row
 
     row-step : (p : Peer) → find (ofNode peer) (h .peers) ≡ some p
-        → Goal (writtenIn room (requestHeld epoch metric h (stepRow log (some p))))
+        → Named (writtenIn room (requestHeld epoch metric h (stepRow log (some p))))
     unfolding stepRow
     row-step p here =
         let row = c .rows .row peer p here in
-        by-test (λ (z : Step). Goal (writtenIn room (requestHeld epoch metric h z))) (p .aligned)
-        (λ t. go (p .acked .0 + 1) (entriesFrom log (p .acked .0 + 1) maxBatch) refl (sym (row .aligned) ∙ t))
+        by-test (λ (z : Step). Named (writtenIn room (requestHeld epoch metric h z))) (p .aligned)
+        (λ t. go (p .acked .0 + 1) (entriesFrom log (p .acked .0 + 1) maxBatch) refl
+        (ap (λ (d : ℕ). entriesFrom log (d + 1) maxBatch) (sym (row .acked))) (sym (row .aligned) ∙ t))
         (λ t. aligns (sym (row .aligned) ∙ t))
       where
-        go : (first : ℕ) (v : Log) → entriesFrom log first maxBatch ≡ v → l .aligned peer ≡ true
-            → Goal (writtenIn room (requestHeld epoch metric h (sendOf first v)))
-        go first [] q t = unfold requestHeld in idle
-        go first (e ∷ r) q t =
+        go : (first : ℕ) (v : Log) → entriesFrom log first maxBatch ≡ v → due ≡ entriesFrom log first maxBatch → l .aligned peer ≡ true
+            → Named (writtenIn room (requestHeld epoch metric h (sendOf first v)))
+        go first [] q all t = unfold requestHeld in inr (inl (refl, t, all ∙ q))
+        go first (e ∷ r) q all t =
             unfold requestHeld in
-            sends first (length (e ∷ r)) t (count first (e ∷ r) q) (entriesFrom log first (length (e ∷ r))) refl
+            sends first (length (e ∷ r)) t (count first (e ∷ r) q)
+            (all ∙ subst (λ (v : Log). entriesFrom log first maxBatch ≡ entriesFrom log first (length v)) q
+            (unfold entriesFrom in sym (take-taken maxBatch (drop (max first 1 - 1) log))))
+            (entriesFrom log first (length (e ∷ r))) refl
           where
             count : (first : ℕ) (v : Log) → entriesFrom log first maxBatch ≡ v → length v ≤ maxBatch
             count first v q =
                 subst (λ (v : Log). length v ≤ maxBatch) q
                 (unfold entriesFrom in (let p = length-take maxBatch (drop (max first 1 - 1) log) in omega arith))
 
-    steps : Goal (writtenIn room (requestHeld epoch metric h (stepRow log (find (ofNode peer) (h .peers)))))
+    pub steps : Named (writtenIn room (requestHeld epoch metric h (stepRow log (find (ofNode peer) (h .peers)))))
     steps =
         let r = any-find (ofNode peer) (h .peers) (c .rows .has peer holder (λ e. eqb-false n peer ne (sym e))) in
-        subst (λ (o : Option Peer). Goal (writtenIn room (requestHeld epoch metric h (stepRow log o)))) (sym (r .1))
+        subst (λ (o : Option Peer). Named (writtenIn room (requestHeld epoch metric h (stepRow log o)))) (sym (r .1))
         (row-step (r .0) (r .1))
 
   -- the step at the held shard
-  at-held : (h : Held) → x .held ≡ h ∷ [] → HeldSim w top n h b → key ≡ w .key
+  at-held : holds n (w .holders) ≡ true → (h : Held) → x .held ≡ h ∷ [] → HeldSim w top n h b → key ≡ w .key
       → Goal (writtenIn room (requestHeld epoch metric h (stepHeld epoch peer h)))
   unfolding stepHeld requestHeld holds
-  at-held h is hs same =
+  at-held y h is hs same =
       let P : Step → Type 0 = λ z. Goal (writtenIn room (requestHeld epoch metric h z)) in
       by-test P (not (leadsAt (h .role) epoch)) (λ t. idle)
       (λ t. by-test P (not (any (onNode peer) (h .holders))) (λ u. idle)
       (λ u. let c = leads w top n (h .role) (h .replica) (h .peers) (b .role) (hs .role) epoch (not-false (leadsAt (h .role) epoch) t) in
-      steps h is hs same (c .0) (c .1) (c .2) (c .3)
-      (subst (λ (rs : List Replica). any (onNode peer) rs ≡ true) (hs .holders) (not-false (any (onNode peer) (h .holders)) u))))
+      let z : holds peer (w .holders) ≡ true =
+      subst (λ (rs : List Replica). any (onNode peer) rs ≡ true) (hs .holders) (not-false (any (onNode peer) (h .holders)) u) in
+      does h is hs same (c .0) (c .1) (c .2) (c .3) y z _ (steps h is hs same (c .0) (c .1) (c .2) (c .3) y z)))
 
-  pub worked : Reaches w (step.onWork s n key epoch peer metric room) a
+  pub worked : Gently w (step.onWork s n key epoch peer metric room) a
   unfolding step.onWork callRequest requestWith requestOf onRequest onStep
   worked =
-      by-test Goal (not (wellFormedLent x key)) (λ t. unfold step.posted in stays w s a k)
+      by-test Goal (not (wellFormedLent x key)) (λ t. unfold step.posted in rests w s a k)
       (λ t. shard-cases w top n x b (k .nodes n) (λ o. Goal (writtenIn room (requestAt epoch metric (stepAt epoch peer o) o))) key idle
-      (λ y h is hs same. at-held h is hs same))
+      (λ y h is hs same. at-held y h is hs same))
 
 pub on-work : (w : World) (s : real.State) (a : State) → Sim w s a → (n : ℕ) (key : Key) (epoch peer : ℕ) (metric : Metric) (room : ℕ)
-    → not (eqb n peer) ≡ true → Reaches w (step.onWork s n key epoch peer metric room) a
+    → not (eqb n peer) ≡ true → Gently w (step.onWork s n key epoch peer metric room) a
 on-work w s a k n key epoch peer metric room t = worked w s a k n key epoch peer metric room (not-true (eqb n peer) t)
