@@ -39,7 +39,6 @@ pub record Scene : Type 1 where
   pub log : Log
   pub Aligning : Type 0
   pub mine : holds a (world .holders) ≡ true
-  pub holder : holds p (world .holders) ≡ true
   pub other : a ≡ p → ⊥
 
 abbrev epochOf : Request → ℕ
@@ -310,15 +309,15 @@ module _ (c : Scene) where
         not-both (leadsFrom (s .nodes q .role) e) (ap (λ (y : Role). leadsFrom y e) r ∙ t) u
 
     -- p leads nothing at E
-    pub p-follows : (e : ℕ) → e ≡ E → leadsFrom (s .nodes p .role) e ≡ true → ⊥
+    pub p-follows : Holder p → (e : ℕ) → e ≡ E → leadsFrom (s .nodes p .role) e ≡ true → ⊥
     unfolding leadsFrom
-    p-follows e same = go (s .nodes p .role) refl
+    p-follows y e same = go (s .nodes p .role) refl
       where
         go : (r : Role) → s .nodes p .role ≡ r → leadsFrom r e ≡ true → ⊥
         go backup is t = not-both false t refl
         go (lead l) is t =
             let d = lead-of h s clauses p l is in
-            c .other (one-leads p l is (omega (arith, leb-true e (l .epoch) t, d .epoch, k .epochs p (c .holder), same)))
+            c .other (one-leads p l is (omega (arith, leb-true e (l .epoch) t, d .epoch, k .epochs p y, same)))
 
     fine : (b q e : ℕ) (x : Answer) → Told x → (b ≡ a → q ≡ p → ToldOf x) → ReplyFine (record { node = b; peer = q; epoch = e; answer = x })
     fine b q e x t f = (t, f)
@@ -334,7 +333,7 @@ module _ (c : Scene) where
       unfolding hearOne replied addReply setNode adopting cutTo
       hear-align e end t ask mine =
           by-test Kept (leadsFrom (s .nodes q .role) e)
-          (λ u. stale (λ eb eq. p-follows e (mine eb eq .0) (subst (λ (m : ℕ). leadsFrom (s .nodes m .role) e ≡ true) eq u)))
+          (λ u. stale (λ eb eq. p-follows (subst Holder eq (ask .1)) e (mine eb eq .0) (subst (λ (m : ℕ). leadsFrom (s .nodes m .role) e ≡ true) eq u)))
           (λ u. by-test Kept (ltb e (s .nodes q .replica .epoch))
           (λ y. stale (λ eb eq. omega (arith, ltb-true e (s .nodes q .replica .epoch) y, mine eb eq .0, k .epochs q (ask .1))))
           (λ y. by-test Kept (eqb e (s .nodes q .replica .epoch))
@@ -362,11 +361,13 @@ module _ (c : Scene) where
           (let z = store-all-epoch e (s .nodes q .replica) es in omega (arith, z)))
           (record { node = b; peer = q; epoch = e; answer = stores (length (storeAll (s .nodes q .replica) e es .log)) }) (tt, λ eb eq. tt))
           (λ u. add-reply K (s .nodes) (s .requests) (s .replies) k
-          (record { node = b; peer = q; epoch = e; answer = staleSend (s .nodes q .replica .epoch) })
-          (k .epochs q (ask .1), λ eb eq.
-          let f = mine eb eq in
-          let g : E ≤ s .nodes q .replica .epoch = subst (λ (m : ℕ). E ≤ s .nodes m .replica .epoch) (sym eq) (f .1) in
-          eqb-false e (s .nodes q .replica .epoch) u (omega (arith, f .0, g, k .epochs q (ask .1)))))
+          (record { node = b; peer = q; epoch = e; answer = staleSend (s .nodes q .replica .epoch) }) (
+            k .epochs q (ask .1),
+            λ eb eq.
+                let f = mine eb eq in
+                let g : E ≤ s .nodes q .replica .epoch = subst (λ (m : ℕ). E ≤ s .nodes m .replica .epoch) (sym eq) (f .1) in
+                eqb-false e (s .nodes q .replica .epoch) u (omega (arith, f .0, g, k .epochs q (ask .1))),
+          ))
         where
           not-a : a ≡ q → e ≡ s .nodes q .replica .epoch → ⊥
           not-a w is =

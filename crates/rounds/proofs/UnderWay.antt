@@ -225,7 +225,7 @@ module _ (s : State) (i : ℕ) (q : Reply) (found : nth (s .replies) i ≡ some 
       go : (o : Option Write) → Back (waitFor s now timeout o)
       go none = back
       go (some w) =
-            let r = callWait (s .nodes (w .node)) now timeout (w .key) (w .epoch) (w .offset) in act (setNode s (w .node) (r .after)) w (r .answer) back
+          let r = callWait (s .nodes (w .node)) now timeout (w .key) (w .epoch) (w .offset) in act (setNode s (w .node) (r .after)) w (r .answer) back
   told-stays (workerSteps n key epoch peer metric room) t = inr (go (callRequest (s .nodes n) room key epoch peer metric))
     where
       go : (r : RequestAnswer) → Back (posted s n key epoch peer r)
@@ -278,8 +278,8 @@ module _ (s : State) (i : ℕ) (q : Reply) (found : nth (s .replies) i ≡ some 
       go : (o : Option Offer) → Back (offered s j index seq o)
       go none = back
       go (some o) =
-            let r = applyBytes (s .map) (offerBytes s o index seq) in
-            act (setOffers (setMap s (r .map)) (removed (s .offers) j)) o (isApplied (r .answer)) back
+          let r = applyBytes (s .map) (offerBytes s o index seq) in
+          act (setOffers (setMap s (r .map)) (removed (s .offers) j)) o (isApplied (r .answer)) back
   told-stays (offerLost j) t = inr back
   told-stays (offerTimesOut j) t = inr (go (nth (s .offers) j))
     where
