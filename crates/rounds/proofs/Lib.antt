@@ -6,3 +6,5 @@ pub mod Calls
 pub mod Follow
 pub mod Asking
 pub mod CaughtUp
+pub mod Returns
+pub mod Instance

@@ -69,7 +69,7 @@ module _ {A : Type 0} where
 
 module _ (a p : ℕ) where
   -- another list between two nodes
-  link : (P : List Request → Type 0) (s : State) (from to : ℕ) (l : List Request) → (a ≡ from → p ≡ to → P l) → P (s .requests a p)
+  pub link : (P : List Request → Type 0) (s : State) (from to : ℕ) (l : List Request) → (a ≡ from → p ≡ to → P l) → P (s .requests a p)
       → P (setRequests s from to l .requests a p)
   unfolding setRequests at
   link P s from to l f g =

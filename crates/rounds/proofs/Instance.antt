@@ -1,0 +1,258 @@
+-- The theorem of request 2.13 put to the run of Returns.antt: every one of its premises is met, in two rounds of which neither is a list of
+-- unbroken exchanges. Assumes nothing.
+use Prim.Native.Nat.{ℕ, zero, suc, _≤_}
+use mathlib.Core.Path.{_≡_, refl, sym, ap, _∙_, subst}
+use mathlib.Core.Bool.{Bool, true, false, cond}
+use mathlib.Core.Logic.{_⊎_, inl, inr}
+use mathlib.Core.List.{List, [], _∷_, _++_}
+use mathlib.Core.Option.{Option, none, some}
+use native.Mathlib.Omega.{arith}
+use lib.Dec.{eqb}
+use lib.ListN.{length}
+use borrow.Author.Tests.{eqb-true}
+use Rattle.model.specs.Keys.{Key}
+use Rattle.model.specs.Map.Tables.{ShardInfo}
+use Rattle.model.specs.Node.Held.{Held}
+use Rattle.model.specs.Node.Shards.{heldShard}
+use Rattle.model.specs.Log.{Log}
+use Rattle.model.proofs.Lists.{not-both, none-some, some-same}
+use Rattle.model.specs.Lists.{nth, any, every}
+use Rattle.model.specs.Map.Apply.{shardAt}
+use Rattle.model.specs.Map.Change.{holds}
+use Rattle.model.specs.Layout.Message as message
+use Rattle.model.specs.Layout.Message.{decodeWrite}
+use Rattle.model.specs.Node.Client as client
+use Rattle.model.specs.Node.Client.{WriteAnswer}
+use Rattle.model.specs.Node.Ack.{AckAnswer, noted, expand, ackRefused}
+use Rattle.model.specs.Node.Backup.{BackupAnswer, replied, backupRefused}
+use Rattle.model.specs.Node.Calls.{callWrite, RequestAnswer, unsent, written, requestRefused, callRequest, callAck}
+use Rattle.model.specs.declared.Metric.{Metric}
+use Rattle.run.specs.State.{State, Request, Reply, setMap, setNode, setRequests, setReplies, setOffers, setWrites}
+use Rattle.run.specs.Event.{Event, command, mapShown, leaseGranted, clientWrites, workerSteps, requestArrives, replyArrives}
+use Rattle.run.specs.Step.{removed, sentOf, step, run, onShown, onCommand, onGrant, onWrite, recordWrite, onWork, posted, heard, answered, arrives, onArrival, acked, replies, onReply}
+use Rattle.run.specs.Rules.{allowedRun}
+use Rattle.run.specs.Claim.{logOf}
+use Rattle.run.proofs.Created.{started}
+use Rattle.run.proofs.Simulation.AtNode.{shard-cases}
+use Rattle.run.proofs.Demand3.{worldOf, invariant}
+use Rattle.run.proofs.Protocol.Base.{All, same-or, at-pair}
+use Rattle.run.proofs.Cases.Opened.{opened}
+use Rattle.run.proofs.Cases.Start.{start, created, info, key, entry}
+use Rattle.run.proofs.Cases.Fresh.{start-fresh, start-shard}
+use Rattle.rounds.specs.Rounds.{Leads, Still, holdersIn, isHolder, stepFor, stepsFor, Round, Rounds, CaughtUp}
+use Rattle.rounds.proofs.CaughtUp.{caught-up}
+use Rattle.rounds.proofs.UnderWay.{link}
+use Rattle.rounds.proofs.Returns.{cut, back, may-happen, primary's, first, second}
+
+-- ---- nothing is under way
+
+-- an event that touches no link but those between nodes 1 and 2
+abbrev Pair : (n m : ℕ) → Type 0
+Pair n m = ((n ≡ 1) × (m ≡ 2)) ⊎ ((n ≡ 2) × (m ≡ 1))
+
+data Only : Event → Type 0 where
+  shows : (n fresh : ℕ) → Only (mapShown n fresh)
+  commands : (bytes : List ℕ) → Only (command bytes)
+  grants : (n i sent lease : ℕ) → Only (leaseGranted n i sent lease)
+  writes : (n now least : ℕ) (bytes : List ℕ) → Only (clientWrites n now least bytes)
+  steps : (n : ℕ) (k : Key) (e m : ℕ) (metric : Metric) (room : ℕ) → Pair n m → Only (workerSteps n k e m metric room)
+  arrivals : (n m i : ℕ) → Pair n m → Only (requestArrives n m i)
+  counts : (i : ℕ) → Only (replyArrives i)
+
+module _ (a b : ℕ) (out : Pair a b → ⊥) where
+  abbrev Same : State → State → Type 0
+  Same s t = t .requests a b ≡ s .requests a b
+
+  apart : (n m : ℕ) → Pair n m → a ≡ n → b ≡ m → ⊥
+  apart n m (inl e) p q = out (inl (p ∙ e .0, q ∙ e .1))
+  apart n m (inr e) p q = out (inr (p ∙ e .0, q ∙ e .1))
+
+  elsewhere : (s : State) (e : Event) → Only e → Same s (step s e)
+  unfolding step onShown onCommand onGrant onWrite recordWrite onWork posted onArrival arrives answered onReply replies acked setMap setNode setReplies setOffers setWrites
+  elsewhere s e (shows n fresh) = refl
+  elsewhere s e (commands bytes) = refl
+  elsewhere s e (grants n i sent lease) = refl
+  elsewhere s e (writes n now least bytes) = go (decodeWrite bytes) (callWrite (s .nodes n) now least bytes .answer)
+    where
+      go : (o : Option message.Write) (v : WriteAnswer) → Same s (recordWrite (setNode s n (callWrite (s .nodes n) now least bytes .after)) n o v)
+      go none v = refl
+      go (some m) (client.writeRefused r) = refl
+      go (some m) (client.accepted o) = refl
+  elsewhere s e (steps n k d m metric room pair) = go (callRequest (s .nodes n) room k d m metric)
+    where
+      go : (r : RequestAnswer) → Same s (posted s n k d m r)
+      go unsent = refl
+      go (requestRefused r) = refl
+      go (written bytes) =
+          link a b (λ l. l ≡ s .requests a b) s n m (s .requests n m ++ (record { sent = sentOf bytes; key = k; epoch = d; bytes = bytes } ∷ []))
+          (λ p q. absurd (apart n m pair p q)) refl
+  elsewhere s e (arrivals n m i pair) = go (nth (s .requests n m) i)
+    where
+      after : (t : State) (q : Request) (v : BackupAnswer) → Same s t → Same s (answered t n m q v)
+      after t q (replied r) h = h
+      after t q (backupRefused r) h = h
+
+      go : (o : Option Request) → Same s (arrives s n m i o)
+      go none = refl
+      go (some q) =
+          let r = heard (s .nodes m) (q .sent) (q .bytes) in
+          after (setRequests (setNode s m (r .after)) n m (removed (s .requests n m) i)) q (r .answer)
+          (link a b (λ l. l ≡ s .requests a b) (setNode s m (r .after)) n m (removed (s .requests n m) i) (λ p q. absurd (apart n m pair p q)) refl)
+  elsewhere s e (counts i) = go (nth (s .replies) i)
+    where
+      after : (t : State) (q : Reply) (v : AckAnswer) → Same s t → Same s (acked t q v)
+      after t q noted h = h
+      after t q expand h = h
+      after t q (ackRefused r) h = h
+
+      go : (o : Option Reply) → Same s (replies s i o)
+      go none = refl
+      go (some q) =
+          let r = callAck (s .nodes (q .node)) (q .key) (q .epoch) (q .peer) (q .sent) (q .bytes) in
+          after (setReplies (setNode s (q .node) (r .after)) (removed (s .replies) i)) q (r .answer) refl
+
+  elsewhere-run : (es : List Event) (s : State) → All Only es → Same s (run s es)
+  unfolding run
+  elsewhere-run [] s o = refl
+  elsewhere-run (e ∷ es) s o = elsewhere-run es (step s e) (o .1) ∙ elsewhere s e (o .0)
+
+-- so it is enough to look between the two
+still-run : (s : State) (es : List Event) → ((a b : ℕ) → (Pair a b → ⊥) → s .requests a b ≡ []) → All Only es → run s es .requests 1 2 ≡ []
+    → run s es .requests 2 1 ≡ [] → run s es .replies ≡ [] → Still (run s es)
+still-run s es empty o one two silent = record {
+  requests = λ a b.
+      at-pair (run s es .requests a b ≡ []) a b 1 2
+      (λ p q. ap (λ (n : ℕ). run s es .requests n b) p ∙ ap (run s es .requests 1) q ∙ one)
+      (λ f. at-pair (run s es .requests a b ≡ []) a b 2 1
+      (λ p q. ap (λ (n : ℕ). run s es .requests n b) p ∙ ap (run s es .requests 2) q ∙ two)
+      (λ g. let out : Pair a b → ⊥ = either a b f g in elsewhere-run a b out es s o ∙ empty a b out));
+  replies = silent;
+}
+  where
+    either : (a b : ℕ) → (a ≡ 1 → b ≡ 2 → ⊥) → (a ≡ 2 → b ≡ 1 → ⊥) → Pair a b → ⊥
+    either a b f g (inl e) = f (e .0) (e .1)
+    either a b f g (inr e) = g (e .0) (e .1)
+
+onwards : (s : State) → Still s → (a b : ℕ) → (Pair a b → ⊥) → s .requests a b ≡ []
+onwards s k a b out = k .requests a b
+
+still-back : Still back
+unfolding back cut
+still-back =
+    still-run start cut (λ a b out. start-fresh .requests a b)
+    (grants 1 4 0 10, (writes _ _ _ _, (commands _, (shows 2 0, (grants 2 4 0 10, (writes _ _ _ _, tt))))))
+    (unfold opened in unfold start in unfold started in unfold created in refl) (unfold opened in unfold start in unfold started in unfold created in refl)
+    (unfold opened in unfold start in unfold started in unfold created in refl)
+
+still-first : Still (run back first)
+unfolding first
+still-first =
+    still-run back first (onwards back still-back)
+    (steps _ _ _ _ _ _ (inl (refl, refl)), (steps _ _ _ _ _ _ (inr (refl, refl)), (arrivals 2 1 0 (inr (refl, refl)), (arrivals 1 2 0 (inl (refl, refl)), (counts 1, (counts 0, tt))))))
+    (unfold opened in unfold back in unfold cut in unfold start in unfold started in unfold created in refl)
+    (unfold opened in unfold back in unfold cut in unfold start in unfold started in unfold created in refl)
+    (unfold opened in unfold back in unfold cut in unfold start in unfold started in unfold created in refl)
+
+still-second : Still (run (run back first) second)
+unfolding second
+still-second =
+    still-run (run back first) second (onwards (run back first) still-first)
+    (steps _ _ _ _ _ _ (inr (refl, refl)), (steps _ _ _ _ _ _ (inr (refl, refl)), (arrivals 2 1 1 (inr (refl, refl)), (counts 0, (arrivals 2 1 0 (inr (refl, refl)), (counts 0, tt))))))
+    (unfold opened in unfold back in unfold cut in unfold first in unfold start in unfold started in unfold created in refl)
+    (unfold opened in unfold back in unfold cut in unfold first in unfold start in unfold started in unfold created in refl)
+    (unfold opened in unfold back in unfold cut in unfold first in unfold start in unfold started in unfold created in refl)
+
+-- ---- node 2 leads at the highest epoch
+
+two-holders : (n : ℕ) → holds n (info .replicas) ≡ true → (n ≡ 1) ⊎ (n ≡ 2)
+unfolding holds any
+two-holders n = go (eqb 1 n) refl (eqb 2 n) refl
+  where
+    go : (b : Bool) → eqb 1 n ≡ b → (c : Bool) → eqb 2 n ≡ c → cond b true (cond c true false) ≡ true → (n ≡ 1) ⊎ (n ≡ 2)
+    go true e c f t = inl (sym (eqb-true 1 n e))
+    go false e true f t = inr (sym (eqb-true 2 n f))
+    go false e false f t = not-both false t refl
+
+abbrev AtMost : Option Held → Type 0
+AtMost none = Unit {0}
+AtMost (some h) = h .replica .epoch ≤ 2
+
+one-low : AtMost (heldShard (back .nodes 1) key)
+unfolding opened start started created cut back
+one-low = omega arith
+
+two-low : AtMost (heldShard (back .nodes 2) key)
+unfolding opened start started created cut back
+two-low = omega arith
+
+highest : (n : ℕ) (h : Held) → heldShard (back .nodes n) key ≡ some h → h .replica .epoch ≤ 2
+unfolding back
+highest n h found =
+    let v = invariant start start-fresh cut may-happen in
+    shard-cases (worldOf start start-fresh) (v .abstract .map .epoch) n (back .nodes n) (v .abstract .nodes n) (v .related .nodes n)
+    (λ o. o ≡ some h → h .replica .epoch ≤ 2) key (λ e. none-some e)
+    (λ y g is hs same e. go (two-holders n (ap (λ (i : ShardInfo). holds n (i .replicas)) (sym start-shard) ∙ y)) (some-same e) found) found
+  where
+    go : (n ≡ 1) ⊎ (n ≡ 2) → {g : Held} → g ≡ h → heldShard (back .nodes n) key ≡ some h → h .replica .epoch ≤ 2
+    go (inl e) same found = subst AtMost (ap (λ (m : ℕ). heldShard (back .nodes m) key) (sym e) ∙ found) one-low
+    go (inr e) same found = subst AtMost (ap (λ (m : ℕ). heldShard (back .nodes m) key) (sym e) ∙ found) two-low
+
+leads-back : Leads back key 2 2
+unfolding opened start started created cut back
+leads-back = record { held = _; found = refl; role = refl; highest = highest }
+
+-- ---- the rounds
+
+-- node 2's only other holder is node 1
+one-other : (p : ℕ) → holds p (info .replicas) ≡ true → (2 ≡ p → ⊥) → p ≡ 1
+one-other p y ne = go (two-holders p y)
+  where
+    go : (p ≡ 1) ⊎ (p ≡ 2) → p ≡ 1
+    go (inl e) = e
+    go (inr e) = absurd (ne (sym e))
+
+back-holders : holdersIn (shardAt (back .map .shards) key) ≡ info .replicas
+unfolding opened start started created cut back
+back-holders = refl
+
+later-holders : holdersIn (shardAt (run back first .map .shards) key) ≡ info .replicas
+unfolding opened start started created cut back first
+later-holders = refl
+
+first-step : stepsFor key 2 2 1 back first ≡ true
+unfolding opened start started created cut back first stepsFor stepFor
+first-step = refl
+
+second-step : stepsFor key 2 2 1 (run back first) second ≡ true
+unfolding opened start started created cut back first second stepsFor stepFor
+second-step = refl
+
+first-steps : (p : ℕ) → isHolder (back .map) key p ≡ true → (2 ≡ p → ⊥) → stepsFor key 2 2 p back first ≡ true
+unfolding isHolder
+first-steps p y ne = subst (λ (m : ℕ). stepsFor key 2 2 m back first ≡ true) (sym (one-other p (sym (ap (holds p) back-holders) ∙ y) ne)) first-step
+
+second-steps : (p : ℕ) → isHolder (run back first .map) key p ≡ true → (2 ≡ p → ⊥) → stepsFor key 2 2 p (run back first) second ≡ true
+unfolding isHolder
+second-steps p y ne =
+    subst (λ (m : ℕ). stepsFor key 2 2 m (run back first) second ≡ true) (sym (one-other p (sym (ap (holds p) later-holders) ∙ y) ne)) second-step
+
+first-allowed : allowedRun back first ≡ true
+unfolding opened start started created cut back first
+first-allowed = refl
+
+second-allowed : allowedRun (run back first) second ≡ true
+unfolding opened start started created cut back first second
+second-allowed = refl
+
+two : Rounds key 2 2 back (first ∷ second ∷ [])
+two = (record { rules = first-allowed; kinds = (unfold first in unfold every in refl); steps = first-steps; ends = still-first },
+    (record { rules = second-allowed; kinds = (unfold second in unfold every in refl); steps = second-steps; ends = still-second }, tt))
+
+-- the theorem, met
+pub all-alike : CaughtUp back (run (run back first) second) key 2
+unfolding back
+all-alike =
+    subst (λ (k : Key). Leads (run start cut) k 2 2 → Rounds k 2 2 (run start cut) (first ∷ second ∷ []) → length (logOf (run start cut .nodes 2) k) ≤ 256
+    → CaughtUp (run start cut) (run (run (run start cut) first) second) k 2) (ap (λ (i : ShardInfo). i .key) start-shard)
+    (λ l r n. caught-up start start-fresh cut may-happen 2 2 l still-back first (second ∷ []) r n) leads-back two
+    (let z : length (logOf (run start cut .nodes 2) key) ≡ 1 = ap length primary's in omega arith)
