@@ -7,4 +7,6 @@ pub mod Follow
 pub mod Asking
 pub mod CaughtUp
 pub mod Returns
+pub mod Links
 pub mod Instance
+pub mod Premises
