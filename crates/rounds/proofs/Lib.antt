@@ -10,4 +10,4 @@ pub mod Returns
 pub mod Links
 pub mod Instance
 pub mod Premises
-pub mod Wasted
+pub mod Late
