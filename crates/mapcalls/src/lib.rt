@@ -19,7 +19,7 @@ use rpcw::fit::text_fits;
 use state::Spec;
 
 mod lists;
-mod numbers;
+pub mod numbers;
 mod replaced;
 
 // Version and counts of a map without rows.
@@ -45,8 +45,8 @@ pub fn empty_map(map: &mut [u8]) -> u32
     0
 }
 
-// The answer where no map is lent: 21 comes before 24.
-fn unlent_number(request: &[u8]) -> u32
+// Internal: the answer where no map is lent: 21 comes before 24.
+pub fn unlent_number(request: &[u8]) -> u32
     ensures { λ r. ⌜ r ≡ unlentNumber (now (request .entry)) ⌝ }
 {
     let message = rpc::decode(request);

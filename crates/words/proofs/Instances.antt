@@ -3,13 +3,16 @@
 use Prim.Native.Nat.{ℕ, _≤_, _<_}
 use mathlib.Core.Path.{_≡_, refl, sym, ap, _∙_}
 use mathlib.Core.List.{List, [], _∷_}
+use mathlib.Core.Option.{some}
 use native.Mathlib.Omega.{arith}
 use lib.ListN.{length, getD}
 use Rattle.model.specs.Keys.{Key}
-use Rattle.model.specs.Refusals.{Rejection, reasonOf, exists, notAtIncarnation, noShard, noCollection}
-use Rattle.model.specs.Map.Tables.{rejected, Map, outcome}
+use Rattle.model.specs.Limits.{maxU64}
+use Rattle.model.specs.Refusals.{Rejection, reasonOf, exists, notAtIncarnation, noShard, noCollection, malformed, lastEpoch}
+use Rattle.model.specs.Map.Tables.{applied, rejected, Map, outcome, refused}
+use Rattle.model.specs.Map.Change.{nodeId}
 use Rattle.model.specs.Map.Calls.{applyCall}
-use Rattle.model.specs.Layout.Request.{Request, dropCollection}
+use Rattle.model.specs.Layout.Request.{Request, dropCollection, register, promotePrimary}
 use Rattle.model.specs.Layout.Writable.{GoodRequest}
 use Rattle.model.proofs.Opened.{opened}
 use Rattle.words.specs.Decimal.{spelled, decimal, value}
@@ -126,3 +129,40 @@ no-place = short-keeps told first 14 first-short
 pub place-with-room : length (applyInWords (applyInWords told first 14 .map) first 15 .map .sessions) ≡ 2
 unfolding opened words textOf inWords applyInWords
 place-with-room = ap (λ (x : AppliedInWords). length (x .map .sessions)) (sent-again told first 14 first-short 15)
+
+-- ---- with no room at all: an applied command, 24 and 25 have no text, so they are told
+
+abbrev joins : Request
+joins = record { index = 8; client = 10; seq = 1; command = register 1 [] 1 }
+
+pub applied-told : applyInWords told joins 0 .answer ≡ said (outcome applied)
+unfolding opened words textOf inWords applyInWords
+applied-told = refl
+
+-- one client twice
+abbrev malformedMap : Map
+malformedMap = record {
+  version = 7;
+  nodes = [];
+  collections = [];
+  shards = [];
+  sessions = record { client = 9; seq = 3; outcome = applied } ∷ record { client = 9; seq = 3; outcome = applied } ∷ [];
+}
+
+pub malformed-told : applyInWords malformedMap repeat 0 .answer ≡ said (refused malformed)
+unfolding opened words textOf inWords applyInWords
+malformed-told = refl
+
+-- a shard in its last epoch
+abbrev lastMap : Map
+lastMap = record {
+  version = 7;
+  nodes = [];
+  collections = [];
+  shards = record { key = right; replicas = record { node = nodeId 1; incarnation = 1 } ∷ []; primary = some 1; insync = nodeId 1 ∷ []; epoch = maxU64 } ∷ [];
+  sessions = [];
+}
+
+pub last-told : applyInWords lastMap (record { index = 8; client = 9; seq = 1; command = promotePrimary right 1 maxU64 }) 0 .answer ≡ said (refused lastEpoch)
+unfolding opened words textOf inWords applyInWords
+last-told = refl

@@ -29,11 +29,12 @@ module _ (m : Map) (a : Applied) (room : ℕ) where
   said-not-short : said (a .answer) ≡ shortBuffer → ⊥
   said-not-short e = let z : _≡_ {A = ℕ} 0 1 = cc in omega arith
 
-  pub short-keeps-all : inWords m a room .answer ≡ shortBuffer → inWords m a room .map ≡ m
+  -- 27 leaves the map, and says nothing
+  pub short-is : inWords m a room .answer ≡ shortBuffer → inWords m a room ≡ record { answer = shortBuffer; map = m; text = [] }
   unfolding inWords
-  short-keeps-all =
-      by-test (λ (x : AppliedInWords). x .answer ≡ shortBuffer → x .map ≡ m) (leb (length (textOf (a .answer))) room)
-      (λ _ e. absurd (said-not-short e)) (λ _ _. refl)
+  short-is =
+      by-test (λ (x : AppliedInWords). x .answer ≡ shortBuffer → x ≡ record { answer = shortBuffer; map = m; text = [] })
+      (leb (length (textOf (a .answer))) room) (λ _ e. absurd (said-not-short e)) (λ _ _. refl)
 
 -- ---- the call
 
@@ -41,7 +42,7 @@ module _ (m : Map) (r : Request) (room : ℕ) (short : applyInWords m r room .an
   -- 27: nothing is remembered
   pub short-keeps : applyInWords m r room .map ≡ m
   unfolding applyInWords
-  short-keeps = short-keeps-all m (applyCall m r) room short
+  short-keeps = ap (λ (x : AppliedInWords). x .map) (short-is m (applyCall m r) room short)
 
   -- sent again: what it would have got, whatever the room
   pub sent-again : (more : ℕ) → applyInWords (applyInWords m r room .map) r more ≡ applyInWords m r more
