@@ -16,13 +16,18 @@ fn word(w: Word) {
     }
 }
 
-// index, word, reason, version
-pub fn print(l: Line) {
+// index, word, reason, version; the line is left open
+pub fn put(l: Line) {
     io::print_decimal(1, l.index);
     let w = l.word;
     word(w);
     io::print_decimal(1, l.reason);
     io::write_all(1, b" ");
     io::print_decimal(1, l.version);
+}
+
+// The same, and its end.
+pub fn print(l: Line) {
+    put(l);
     io::write_all(1, b"\n");
 }

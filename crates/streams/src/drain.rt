@@ -4,8 +4,8 @@ ghost use mathlib.Core.Bool.{true};
 ghost use Rattle.model.specs.Map.WellFormed.{wellFormedMap};
 ghost use Rattle.state.specs.Counted.{TablesCounted};
 ghost use Rattle.state.specs.View.{viewMap};
+use crate::says::print;
 use lines::line_of;
-use lines::print::print;
 use requests::request_at;
 use settle::settle;
 use state::ShardMap;
@@ -26,7 +26,7 @@ pub fn drain(map: ShardMap, s: &[u8]) -> ShardMap
         let done = settle(m, r);
         let next = done.map;
         let verdict = done.verdict;
-        print(line_of(r.index, verdict, next.version));
+        print(line_of(r.index, verdict, next.version), verdict);
         m = next;
         at = read.next;
     }

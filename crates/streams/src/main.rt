@@ -1,7 +1,8 @@
 // Replays the oracle's stored streams of requests: records of a length u32 and as many bytes on standard input. Each
 // starts from an empty map; its requests are applied as program `applymap` applies them (paper 01), with a line for each,
-// and then the whole map is printed, which tells more than its version. stdin is oracle/stored/streams/all.in, stdout
-// all.out: what the oracle printed of the Rust's map. The map is crate settle's; this program shows it.
+// behind that of a rejected one its text (paper 02, 2.1), and then the whole map is printed, which tells more than its
+// version. stdin is oracle/stored/streams/all.in, stdout all.out: what the oracle printed of the Rust's map, in the Rust's
+// own words. The map is crate settle's, the texts are crate wording's; this program shows them.
 ghost use Rattle.state.specs.Counted.{TablesCounted};
 use drain::drain;
 use lines::words::number;
@@ -14,6 +15,7 @@ use state::ShardMap;
 
 mod drain;
 mod nodes;
+mod says;
 mod sessions;
 mod shards;
 mod words;

@@ -3,7 +3,7 @@
 use std::panic::{AssertUnwindSafe, catch_unwind, resume_unwind};
 
 use controlplane::state::{self, StateMachine};
-use rpc::{CollectionSpec, DataNodeId, Metric, Request, ShardKey};
+use rpc::{CollectionSpec, DataNodeId, Metric, Outcome, Request, ShardKey};
 use wire::Command;
 
 use crate::{convert, reason};
@@ -33,11 +33,18 @@ impl Map {
         self.machine.map().version
     }
 
-    /// Applies a request. The Rust works on a copy, which is kept unless it passes a limit.
+    /// Applies a request.
     pub fn apply(&mut self, request: &wire::Request) -> Answer {
+        self.apply_in_words(request).0
+    }
+
+    /// The same, with the Rust's own words of a rejection. The Rust works on a copy, which is kept
+    /// unless it passes a limit.
+    pub fn apply_in_words(&mut self, request: &wire::Request) -> (Answer, Option<String>) {
+        let refused = |number| (Answer::Refused(number), None);
         let sessions = self.machine.field_sessions();
         if sessions.len() >= CLIENTS && !sessions.contains_key(&request.client) {
-            return Answer::Refused(23);
+            return refused(23);
         }
         let command = Request {
             client: request.client,
@@ -50,17 +57,21 @@ impl Map {
             Ok(outcome) => outcome,
             // The one panic of the Rust here is a promotion past epoch 2^64 - 1.
             Err(_) if matches!(request.command, Command::Promote(_)) => {
-                return Answer::Refused(25);
+                return refused(25);
             }
             Err(panic) => resume_unwind(panic),
         };
         if over_limit(&next) {
-            return Answer::Refused(23);
+            return refused(23);
         }
         self.machine = next;
-        match reason::reason(&outcome) {
+        let answer = match reason::reason(&outcome) {
             None => Answer::Applied,
             Some(reason) => Answer::Rejected(reason.number),
+        };
+        match outcome {
+            Outcome::Applied => (answer, None),
+            Outcome::Rejected(words) => (answer, Some(words)),
         }
     }
 
