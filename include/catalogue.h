@@ -67,6 +67,7 @@ uint32_t catalogue_version(void);
 #define CATALOGUE_STARTS 13824u   /* room for any workers to start: 8 shards, 32 peers each */
 #define CATALOGUE_PEERS 256u      /* room for the peers that a wait names: 32 times u64 */
 #define CATALOGUE_LISTS 1024u     /* room for any placement: 16 lists of 8 nodes, u64 each */
+#define CATALOGUE_WORDS 108u      /* room for the words of any rejection */
 #define CATALOGUE_POSITION 16u    /* milliarcseconds: right ascension and declination, i64 each */
 #define CATALOGUE_FIELDS 28u      /* a position's seven fields, u32 each */
 #define CATALOGUE_VECTOR 17u      /* a position's vector as a Write has it: 04, four floats */
@@ -108,6 +109,7 @@ uint32_t catalogue_version(void);
 #define CATALOGUE_MALFORMED 24u       /* an image is too short, or no state that the engine makes */
 #define CATALOGUE_LAST_EPOCH 25u      /* the epoch cannot rise */
 #define CATALOGUE_NO_WORKER 26u       /* an ack for a peer without a worker */
+#define CATALOGUE_SHORT_TEXT 27u      /* a buffer shorter than the words of a rejection */
 #define CATALOGUE_OUT_OF_RANGE 30u    /* a position's field, or its milliarcseconds, out of range */
 #define CATALOGUE_NO_THOUSANDTH 31u   /* a right ascension with no whole thousandth of a second */
 
@@ -146,6 +148,15 @@ uint32_t catalogue_fresh_node(uint8_t *header, size_t header_len, uint64_t id, u
  * of the client (1 it does not); 21, 23, 24, 25 refused. The request's index stands at its bytes 1 to 8, the map's
  * version at the image's bytes 0 to 7. */
 uint32_t catalogue_apply(uint8_t *map, size_t map_len, const uint8_t *request, size_t request_len);
+
+/* The same, with the words of a rejection: ASCII but for the bytes of a name, not ended by a 0. 0 to 16: the text stands at
+ * the start of `text`, its length in `answer` (u64, 0 for an applied command), and what lies behind the text stays; the
+ * map is as catalogue_apply leaves it. On an equal seq they are the words of the old command. 27 a `text` shorter than the
+ * words, after every other answer of the command: nothing is remembered, and the request sent again with room gets what
+ * it would have got. CATALOGUE_WORDS bytes are never too few. Last, 23 an `answer` under 8 bytes. With 21 to 27 no byte
+ * of the three changes. */
+uint32_t catalogue_apply_words(uint8_t *map, size_t map_len, const uint8_t *request, size_t request_len, uint8_t *text,
+                               size_t text_len, uint8_t *answer, size_t answer_len);
 
 /* Where the replicas of new shards go. 0: `shards` lists of `replication` nodes stand in `lists`, u64 each, one behind
  * the other; 1 none; 23, 24. */

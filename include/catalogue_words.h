@@ -1,7 +1,8 @@
 /* What the engine's numbers mean, in words, for a host's log or screen.
  *
- * Refusals, 17 to 26 and 30, 31, mean the same in every call; rejections, 1 to 16, are catalogue_apply's. Other answers
- * are a call's own and stand at the call in catalogue.h. Each function answers NULL for a number that is not its own.
+ * Refusals, 17 to 27 and 30, 31, mean the same in every call; rejections, 1 to 16, are those of catalogue_apply and
+ * catalogue_apply_words. Other answers are a call's own and stand at the call in catalogue.h. Each function answers NULL
+ * for a number that is not its own. These words are no text of catalogue_apply_words: they name no node, key or number.
  */
 #ifndef CATALOGUE_WORDS_H
 #define CATALOGUE_WORDS_H
@@ -32,7 +33,7 @@ static inline const char *catalogue_rejection(uint32_t number)
     return words[number - CATALOGUE_REJECTED_OLDER];
 }
 
-/* Why a call was refused, 17 to 26, 30, 31. */
+/* Why a call was refused, 17 to 27, 30, 31. */
 static inline const char *catalogue_refusal(uint32_t number)
 {
     static const char *const words[] = {"the node does not hold the shard",
@@ -45,6 +46,8 @@ static inline const char *catalogue_refusal(uint32_t number)
                                         "an image that is too short or malformed",
                                         "the epoch cannot rise",
                                         "an ack for a peer without a worker"};
+    if (number == CATALOGUE_SHORT_TEXT)
+        return "a buffer shorter than the words of a rejection";
     if (number == CATALOGUE_OUT_OF_RANGE)
         return "a position out of range";
     if (number == CATALOGUE_NO_THOUSANDTH)

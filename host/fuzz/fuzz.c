@@ -535,6 +535,19 @@ static uint32_t call_apply(uint8_t *base)
     return catalogue_apply(GIVEN(map), GIVEN(message));
 }
 
+/* Any room for the words, none too. */
+static void for_apply_words(void)
+{
+    any_request();
+    outputs(below(CATALOGUE_WORDS + 1));
+}
+
+static uint32_t call_apply_words(uint8_t *base)
+{
+    (void)base;
+    return catalogue_apply_words(GIVEN(map), GIVEN(message), GIVEN(wide), GIVEN(answer));
+}
+
 static void for_place(void)
 {
     outputs(32);
@@ -766,6 +779,7 @@ static const struct entry entries[] = {
     {"catalogue_empty_map", OF_MAP, for_empty_map, call_empty_map, 0},
     {"catalogue_fresh_node", OF_NODE, for_fresh_node, call_fresh_node, 0},
     {"catalogue_apply", OF_MAP, any_request, call_apply, 16},
+    {"catalogue_apply_words", OF_MAP, for_apply_words, call_apply_words, 16},
     {"catalogue_place", OF_MAP, for_place, call_place, 1},
     {"catalogue_replacement", OF_MAP, for_key, call_replacement, 1},
     {"catalogue_show_map", OF_BOTH, for_show_map, call_show_map, 0},
@@ -801,6 +815,8 @@ static void check_refused(const struct entry *e, uint32_t said)
     bool listed = said >= CATALOGUE_UNKNOWN_SHARD && said <= CATALOGUE_NO_WORKER;
     if (e->whose == OF_NONE)
         listed = said == CATALOGUE_NO_ROOM || said == CATALOGUE_OUT_OF_RANGE || said == CATALOGUE_NO_THOUSANDTH;
+    if (e->call == call_apply_words)
+        listed = listed || said == CATALOGUE_SHORT_TEXT;
     if (!listed)
         fail(e->name, "answered what catalogue.h does not list", said);
     for (size_t i = 0; i < BUFFERS; i++) {

@@ -16,6 +16,8 @@ pub enum Refusal {
     Malformed,
     LastEpoch,
     NoWorker,
+    /// A buffer shorter than the words of a rejection; `Map::apply_in_words` lends enough.
+    ShortText,
     /// A position out of range.
     OutOfRange,
     NoThousandth,
@@ -35,6 +37,7 @@ impl Refusal {
             24 => Refusal::Malformed,
             25 => Refusal::LastEpoch,
             26 => Refusal::NoWorker,
+            27 => Refusal::ShortText,
             30 => Refusal::OutOfRange,
             31 => Refusal::NoThousandth,
             other => panic!("the engine answered {other}, which catalogue.h does not list here"),
@@ -53,6 +56,7 @@ impl Refusal {
             Refusal::Malformed => 24,
             Refusal::LastEpoch => 25,
             Refusal::NoWorker => 26,
+            Refusal::ShortText => 27,
             Refusal::OutOfRange => 30,
             Refusal::NoThousandth => 31,
         }
@@ -74,6 +78,7 @@ impl fmt::Display for Refusal {
             Refusal::Malformed => "a state that the engine does not make",
             Refusal::LastEpoch => "the epoch cannot rise",
             Refusal::NoWorker => "an ack for a peer without a worker",
+            Refusal::ShortText => "a buffer shorter than the words of a rejection",
             Refusal::OutOfRange => "a position out of range",
             Refusal::NoThousandth => "a right ascension with no whole thousandth of a second",
         };

@@ -11,7 +11,7 @@ pub mod sys;
 pub use answer::{
     Key, Metric, Neighbor, Outcome, Proposal, Refusal, Sent, Step, Waited, Worker,
 };
-pub use map::{MAP, Map};
+pub use map::{MAP, Map, WORDS};
 pub use node::{HEADER, Node, STORES};
 pub use position::{Fields, Position};
 

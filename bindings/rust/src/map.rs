@@ -6,6 +6,9 @@ use crate::{number, sys};
 /// Bytes of a map's image.
 pub const MAP: usize = 26536;
 
+/// Bytes that hold the words of any rejection.
+pub const WORDS: usize = 108;
+
 /// A shard map, as the image that the engine reads and writes.
 #[derive(Clone)]
 pub struct Map {
@@ -59,6 +62,32 @@ impl Map {
             1..=16 => Ok(Outcome::Rejected(said)),
             other => Err(Refusal::from(other, 0)),
         }
+    }
+
+    /// The same, with the words of a rejection; an applied command has none. A repeated request gets the old command's words.
+    pub fn apply_in_words(&mut self, request: &[u8]) -> Result<(Outcome, String), Refusal> {
+        let mut text = [0; WORDS];
+        let mut answer = [0; 8];
+        // SAFETY: pointers and lengths are those of four slices that do not overlap.
+        let said = unsafe {
+            sys::catalogue_apply_words(
+                self.image.as_mut_ptr(),
+                self.image.len(),
+                request.as_ptr(),
+                request.len(),
+                text.as_mut_ptr(),
+                text.len(),
+                answer.as_mut_ptr(),
+                answer.len(),
+            )
+        };
+        let outcome = match said {
+            0 => Outcome::Applied,
+            1..=16 => Outcome::Rejected(said),
+            other => return Err(Refusal::from(other, 0)),
+        };
+        let words = &text[..u64::from_le_bytes(answer) as usize];
+        Ok((outcome, String::from_utf8_lossy(words).into_owned()))
     }
 
     /// Where the replicas of new shards go: a list of nodes for each shard. None if there are too few live nodes.

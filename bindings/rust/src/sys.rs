@@ -14,6 +14,16 @@ unsafe extern "C" {
         request: *const u8,
         request_len: usize,
     ) -> u32;
+    pub fn catalogue_apply_words(
+        map: *mut u8,
+        map_len: usize,
+        request: *const u8,
+        request_len: usize,
+        text: *mut u8,
+        text_len: usize,
+        answer: *mut u8,
+        answer_len: usize,
+    ) -> u32;
     pub fn catalogue_place(
         map: *const u8,
         map_len: usize,

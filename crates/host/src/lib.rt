@@ -7,4 +7,5 @@ pub mod maps;
 pub mod peers;
 pub mod position;
 pub mod version;
+pub mod words;
 pub mod workers;

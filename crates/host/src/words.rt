@@ -1,0 +1,14 @@
+// Rejections in words (paper 02, 2.1).
+ghost use Rattle.wordcalls.specs.Calls.{AppliesInWordsTo};
+
+#[no_mangle]
+pub extern "C" fn catalogue_apply_words(
+    map: &mut [u8],
+    request: &[u8],
+    text: &mut [u8],
+    answer: &mut [u8],
+) -> u32
+    ensures { λ r. ⌜ AppliesInWordsTo (now (map .entry)) (now (map .exit)) (now (request .entry)) (now (text .entry)) (now (text .exit)) (now (answer .entry)) (now (answer .exit)) r ⌝ }
+{
+    wordcalls::apply_words(map, request, text, answer)
+}
