@@ -149,12 +149,12 @@ uint32_t catalogue_fresh_node(uint8_t *header, size_t header_len, uint64_t id, u
  * version at the image's bytes 0 to 7. */
 uint32_t catalogue_apply(uint8_t *map, size_t map_len, const uint8_t *request, size_t request_len);
 
-/* The same, with the words of a rejection: ASCII but for the bytes of a name, not ended by a 0. 0 to 16: the text stands at
- * the start of `text`, its length in `answer` (u64, 0 for an applied command), and what lies behind the text stays; the
- * map is as catalogue_apply leaves it. On an equal seq they are the words of the old command. 27 a `text` shorter than the
- * words, after every other answer of the command: nothing is remembered, and the request sent again with room gets what
- * it would have got. CATALOGUE_WORDS bytes are never too few. Last, 23 an `answer` under 8 bytes. With 21 to 27 no byte
- * of the three changes. */
+/* The same, with the words of a rejection: ASCII but for the bytes of a name, not ended by a 0. 0 to 16: the text
+ * stands at the start of `text`, its length in `answer` (u64, 0 for an applied command), and what lies behind the text
+ * stays; the map is as catalogue_apply leaves it. On an equal seq they are the words of the old command. 27 a `text`
+ * shorter than the words, after every other answer of the command: nothing is remembered, and the request sent again
+ * with room gets what it would have got. CATALOGUE_WORDS bytes are never too few. Last, 23 an `answer` under 8 bytes.
+ * With 21 to 27 no byte of the three changes. */
 uint32_t catalogue_apply_words(uint8_t *map, size_t map_len, const uint8_t *request, size_t request_len, uint8_t *text,
                                size_t text_len, uint8_t *answer, size_t answer_len);
 

@@ -1,8 +1,9 @@
 /* What the engine's numbers mean, in words, for a host's log or screen.
  *
  * Refusals, 17 to 27 and 30, 31, mean the same in every call; rejections, 1 to 16, are those of catalogue_apply and
- * catalogue_apply_words. Other answers are a call's own and stand at the call in catalogue.h. Each function answers NULL
- * for a number that is not its own. These words are no text of catalogue_apply_words: they name no node, key or number.
+ * catalogue_apply_words. Other answers are a call's own and stand at the call in catalogue.h. Each function answers
+ * NULL for a number that is not its own. These words are no text of catalogue_apply_words: they name no node, key or
+ * number.
  */
 #ifndef CATALOGUE_WORDS_H
 #define CATALOGUE_WORDS_H

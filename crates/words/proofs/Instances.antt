@@ -1,20 +1,27 @@
 -- The theorems put to values that a machine can have: two keys whose texts differ by the place of a slash, and a map that remembers a rejection
 -- with the largest numbers. Assumes nothing.
-use Prim.Native.Nat.{ℕ, _≤_, _<_}
+use Prim.Native.Nat.{ℕ, zero, suc, _≤_, _<_}
 use mathlib.Core.Path.{_≡_, refl, sym, ap, _∙_}
+use mathlib.Core.Bool.{true}
 use mathlib.Core.List.{List, [], _∷_}
 use mathlib.Core.Option.{some}
 use native.Mathlib.Omega.{arith}
 use lib.ListN.{length, getD}
+use lib.Dec.{ltb}
+use borrow.Author.Tests.{ltb-true}
 use Rattle.model.specs.Keys.{Key}
 use Rattle.model.specs.Limits.{maxU64}
 use Rattle.model.specs.Refusals.{Rejection, reasonOf, exists, notAtIncarnation, noShard, noCollection, malformed, lastEpoch}
 use Rattle.model.specs.Map.Tables.{applied, rejected, Map, outcome, refused}
 use Rattle.model.specs.Map.Change.{nodeId}
 use Rattle.model.specs.Map.Calls.{applyCall}
-use Rattle.model.specs.Layout.Request.{Request, dropCollection, register, promotePrimary}
+use Rattle.model.specs.Lists.{every}
+use Rattle.model.specs.Layout.Format.{Bytes}
+use Rattle.model.specs.Layout.Request.{Request, dropCollection, register, promotePrimary, encodeRequest}
 use Rattle.model.specs.Layout.Writable.{GoodRequest}
 use Rattle.model.proofs.Opened.{opened}
+use Rattle.model.proofs.LayoutLaws.Requests.{request-back}
+use Rattle.model.proofs.Map.Rows.{every-tail}
 use Rattle.words.specs.Decimal.{spelled, decimal, value}
 use Rattle.words.specs.Words.{words, textOf}
 use Rattle.words.specs.Calls.{said, shortBuffer, AppliedInWords, inWords, applyInWords}
@@ -22,7 +29,7 @@ use Rattle.words.specs.Small.{MapNumbers}
 use Rattle.words.proofs.OfDecimal.{decimal-back, decimal-leads}
 use Rattle.words.proofs.Fixes.{words-fix, number-and-words-fix, no-numbers-share}
 use Rattle.words.proofs.OfCalls.{short-keeps, sent-again, again-with-room}
-use Rattle.words.proofs.Roomy.{roomy-is-apply}
+use Rattle.words.proofs.Roomy.{roomy-is-apply, roomy-of-bytes}
 use Rattle.words.proofs.Cases.{slash-says}
 
 -- ---- keys 'a1'/2 and 'a'/12: their texts are 'no shard a1/2' and 'no shard a/12'
@@ -113,6 +120,22 @@ good = (omega arith, omega arith, omega arith, (omega arith, refl))
 
 pub roomy : applyInWords told repeat 108 .text ≡ words largest
 roomy = ap (λ (x : AppliedInWords). x .text) (roomy-is-apply told told-numbers repeat good 108 (omega arith)) ∙ old-words
+
+-- and as it comes, in bytes
+bytes-by : (l : List ℕ) → every (λ b. ltb b 256) l ≡ true → Bytes l
+bytes-by [] h i = omega arith
+bytes-by (b ∷ bs) h zero = ltb-true b 256 (every-tail (λ b. ltb b 256) b bs h .0)
+bytes-by (b ∷ bs) h (suc i) = bytes-by bs (every-tail (λ b. ltb b 256) b bs h .1) i
+
+in-bytes : every (λ b. ltb b 256) (encodeRequest repeat) ≡ true
+unfolding opened
+in-bytes = refl
+
+pub roomy-in-bytes : applyInWords told repeat 108 .text ≡ words largest
+roomy-in-bytes =
+    ap (λ (x : AppliedInWords). x .text)
+    (roomy-of-bytes told told-numbers (encodeRequest repeat) (bytes-by (encodeRequest repeat) in-bytes) repeat (request-back repeat good) 108 (omega arith))
+    ∙ old-words
 
 -- ---- a new client's first command, rejected: without room for 'no collection m' the client takes no place
 
