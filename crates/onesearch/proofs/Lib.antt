@@ -1,0 +1,10 @@
+pub mod Order
+pub mod Ordered
+pub mod Lists
+pub mod Full
+pub mod OneSearch
+pub mod Joins
+pub mod Decided
+pub mod Disjoint
+pub mod Cases
+pub mod Instances
