@@ -73,7 +73,7 @@ order-says (a ∷ b ∷ l) h zero x y e f =
     (subst (λ (z : Hit). nearerHit z a ≡ false) (some-same f) (not-true (nearerHit b a) (and-left (not (nearerHit b a)) (inOrder (b ∷ l)) h)))
 order-says (a ∷ b ∷ l) h (suc i) x y e f = order-says (b ∷ l) (and-right (not (nearerHit b a)) (inOrder (b ∷ l)) h) i x y e f
 
-order-holds : (l : List Hit) → InOrder l → inOrder l ≡ true
+pub order-holds : (l : List Hit) → InOrder l → inOrder l ≡ true
 unfolding nth inOrder
 order-holds [] h = refl
 order-holds (a ∷ []) h = refl
@@ -93,7 +93,7 @@ apart-says (a ∷ l) h zero (suc j) x y lt e f = λ q.
     (q ∙ ap (λ (w : Hit). w .id) (sym z)))
 apart-says (a ∷ l) h (suc i) (suc j) x y lt e f = apart-says l (and-right (not (any (sameId a) l)) (apart l) h) i j x y (omega arith) e f
 
-apart-holds : (l : List Hit) → Apart l → apart l ≡ true
+pub apart-holds : (l : List Hit) → Apart l → apart l ≡ true
 unfolding nth apart
 apart-holds [] h = refl
 apart-holds (a ∷ l) h =

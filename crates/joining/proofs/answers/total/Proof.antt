@@ -1,0 +1,48 @@
+-- `answers::total` meets its contract. Assumes nothing.
+use borrow.Author.Needs.{needs}
+use native.Mathlib.Omega.{arith}
+use mathlib.Core.Path.{_≡_, refl, sym, _∙_, ap}
+use mathlib.Core.List.{List, [], _∷_, _++_}
+use Prim.Native.Nat.{ℕ, _+_, _-_, _*_, _≤_, _<_}
+use lib.ListN.{length, getD, take, drop, set}
+use Rattle.onesearch.specs.Join.{allHits}
+use Rattle.joining.specs.View.{Stand, answersAt}
+use mathlib.Core.Path.{subst}
+use Rattle.joining.proofs.OfBytes.{stands-says, stand-first, stand-rest}
+use Rattle.joining.proofs.Walks.{total-on, total-end}
+use Rattle.joining.proofs.answers.total.Statement.{statement}
+use Rattle.joining.proofs.answers.total.Tie as tie
+
+abbrev Inv-loop : tie.InvT-loop
+Inv-loop s n sum₀ p₀ left₀ sum p left = (left ≤ 16) × (sum ≤ 1024 * (16 - left)) × Stand s left p × (sum + length (allHits (answersAt s left p)) ≡ length (allHits (answersAt s n 0)))
+
+abbrev μ-loop : tie.MeasureT-loop
+μ-loop s n sum₀ p₀ left₀ sum p left = left
+
+loop-holds : tie.Need-loop-holds Inv-loop μ-loop
+loop-holds c = ((c .before .pre) .1, omega arith, (c .before .pre) .0, omega arith)
+
+count-at-requires : tie.Need-count-at-requires Inv-loop μ-loop
+count-at-requires c κs = let h = stands-says _ _ (stand-first _ _ _ ((c .loop-test) .taken) ((c .before .loop) .inv .2)) .begins in omega arith
+
+add-sum : tie.Need-add-sum Inv-loop μ-loop
+add-sum c = let h = stands-says _ _ (stand-first _ _ _ ((c .before .loop-test) .taken) ((c .before .before .loop) .inv .2)) .few in let a = (c .before .before .loop) .inv .0 in let b = (c .before .before .loop) .inv .1 in omega (arith, (c .count-at) .ensures)
+
+after-requires : tie.Need-after-requires Inv-loop μ-loop
+after-requires c κs = stand-first _ _ _ ((c .before .loop-test) .taken) ((c .before .before .loop) .inv .2)
+
+sub-left : tie.Need-sub-left Inv-loop μ-loop
+sub-left c = search needs
+
+loop-less : tie.Need-loop-less Inv-loop μ-loop
+loop-less c = search needs
+
+loop-again : tie.Need-loop-again Inv-loop μ-loop
+loop-again c = let h = stands-says _ _ (stand-first _ _ _ ((c .before .before .loop-test) .taken) ((c .before .before .before .loop) .inv .2)) .few in let a = (c .before .before .before .loop) .inv .0 in let b = (c .before .before .before .loop) .inv .1 in let d = (c .before .before .before .loop) .inv .3 in let t = total-on ((c .before .before .before .before .before .args) .s .now) _ ((c .before .before .before .loop) .p) ((c .before .before .loop-test) .taken) in
+    (omega arith, omega (arith, (c .before .count-at) .ensures), subst (Stand ((c .before .before .before .before .before .args) .s .now) ((c .before .before .before .loop) .left - 1)) (sym ((c .after) .ensures)) (stand-rest _ _ _ ((c .before .before .loop-test) .taken) ((c .before .before .before .loop) .inv .2)), rw ((c .after) .ensures) (omega (arith, (c .before .count-at) .ensures)))
+
+returns : tie.Need-returns Inv-loop μ-loop
+returns c = let d = (c .before .loop) .inv .3 in let t = total-end ((c .before .before .before .args) .s .now) _ ((c .before .loop) .p) ((c .loop-test) .left) in omega arith
+
+pub total-spec : {M : Type 1} → statement M
+total-spec = tie.close (tie.spec Inv-loop μ-loop loop-holds count-at-requires add-sum after-requires sub-left loop-less loop-again returns)
