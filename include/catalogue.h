@@ -71,6 +71,8 @@ uint32_t catalogue_version(void);
 #define CATALOGUE_POSITION 16u    /* milliarcseconds: right ascension and declination, i64 each */
 #define CATALOGUE_FIELDS 28u      /* a position's seven fields, u32 each */
 #define CATALOGUE_VECTOR 17u      /* a position's vector as a Write has it: 04, four floats */
+#define CATALOGUE_ANSWERS 196704u /* room for any answers to join: 16 of 1,024 neighbours and 6 bytes */
+#define CATALOGUE_JOINED 196608u  /* room for any joined neighbours: 16 times 1,024 */
 #define CATALOGUE_STACK 524288u   /* stack that a call needs at most; `make fuzz` measures it: under 501,000 */
 
 /* ---- answers */
@@ -110,6 +112,8 @@ uint32_t catalogue_version(void);
 #define CATALOGUE_LAST_EPOCH 25u      /* the epoch cannot rise */
 #define CATALOGUE_NO_WORKER 26u       /* an ack for a peer without a worker */
 #define CATALOGUE_SHORT_TEXT 27u      /* a buffer shorter than the words of a rejection */
+#define CATALOGUE_OUT_OF_ORDER 28u    /* answers to join that are out of order, repeat an id or do not rise */
+#define CATALOGUE_WRONG_SHARD 29u     /* an answer to join names an id that is not of its shard */
 #define CATALOGUE_OUT_OF_RANGE 30u    /* a position's field, or its milliarcseconds, out of range */
 #define CATALOGUE_NO_THOUSANDTH 31u   /* a right ascension with no whole thousandth of a second */
 
@@ -265,6 +269,17 @@ uint32_t catalogue_position_fields(int64_t ra, int64_t dec, uint8_t *fields, siz
  * zero. 30 as above; 23. A search measures these floats as they are: nothing wraps around at 24 hours, and a thousandth
  * counts as much as an arcsecond. */
 uint32_t catalogue_position_vector(int64_t ra, int64_t dec, uint8_t *vector, size_t vector_len);
+
+/* ---- searching a whole collection. No state and no vector: 22 and 24 do not arise */
+
+/* The answers of a collection's shards to one query, joined into its first k neighbours. `answers` holds at most 16, one
+ * after the other by rising shard number: the shard, u32, how many neighbours, u16 up to 1,024, and those as
+ * catalogue_search left them in `hits`. `shards` is the collection's number of shards. Each shard is asked for the same k;
+ * if all of them answered, this is one search over all vectors together. 0: `answer` tells how many neighbours stand in
+ * `hits`, nearest first; there may be 16,384. 21 bytes that are no whole answers; 28 a 17th answer, shard numbers that do
+ * not rise, an answer that is out of order or names an id twice; 29 an id of another shard; 23. */
+uint32_t catalogue_join(uint32_t shards, uint32_t k, const uint8_t *answers, size_t answers_len, uint8_t *hits,
+                        size_t hits_len, uint8_t *answer, size_t answer_len);
 
 #ifdef __cplusplus
 }

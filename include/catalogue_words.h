@@ -1,6 +1,6 @@
 /* What the engine's numbers mean, in words, for a host's log or screen.
  *
- * Refusals, 17 to 27 and 30, 31, mean the same in every call; rejections, 1 to 16, are those of catalogue_apply and
+ * Refusals, 17 to 31, mean the same in every call; rejections, 1 to 16, are those of catalogue_apply and
  * catalogue_apply_words. Other answers are a call's own and stand at the call in catalogue.h. Each function answers
  * NULL for a number that is not its own. These words are no text of catalogue_apply_words: they name no node, key or
  * number.
@@ -34,7 +34,7 @@ static inline const char *catalogue_rejection(uint32_t number)
     return words[number - CATALOGUE_REJECTED_OLDER];
 }
 
-/* Why a call was refused, 17 to 27, 30, 31. */
+/* Why a call was refused, 17 to 31. */
 static inline const char *catalogue_refusal(uint32_t number)
 {
     static const char *const words[] = {"the node does not hold the shard",
@@ -49,6 +49,10 @@ static inline const char *catalogue_refusal(uint32_t number)
                                         "an ack for a peer without a worker"};
     if (number == CATALOGUE_SHORT_TEXT)
         return "a buffer shorter than the words of a rejection";
+    if (number == CATALOGUE_OUT_OF_ORDER)
+        return "answers that are out of order";
+    if (number == CATALOGUE_WRONG_SHARD)
+        return "an id of another shard";
     if (number == CATALOGUE_OUT_OF_RANGE)
         return "a position out of range";
     if (number == CATALOGUE_NO_THOUSANDTH)

@@ -752,6 +752,59 @@ static uint32_t call_position_vector(uint8_t *base)
     return catalogue_position_vector(place[0], place[1], GIVEN(reply));
 }
 
+/* The answers of some shards of a collection, each in order with ids of its own; then mutated. */
+static uint32_t of_shards;
+
+static void put_bytes(uint8_t *at, uint64_t number, int size)
+{
+    for (int i = 0; i < size; i++)
+        at[i] = (uint8_t)(number >> 8 * i);
+}
+
+static size_t put_hits(uint8_t *at, uint32_t answering)
+{
+    size_t n = below(8), put = 0;
+    uint32_t bits = (uint32_t)below(3);
+    uint64_t id = below(40);
+    for (; put < n; id++) {
+        if (catalogue_shard_of(id, of_shards) != answering)
+            continue;
+        put_bytes(at + 6 + CATALOGUE_HIT * put, id, 8);
+        put_bytes(at + 14 + CATALOGUE_HIT * put, bits, 4);
+        bits += (uint32_t)below(3);
+        put++;
+    }
+    put_bytes(at, answering, 4);
+    put_bytes(at + 4, n, 2);
+    return 6 + CATALOGUE_HIT * n;
+}
+
+static void for_join(void)
+{
+    static uint8_t bytes[17 * (6 + 8 * CATALOGUE_HIT)];
+    size_t length = 0;
+    of_shards = one_in(30) ? (uint32_t)any_number() % 17 : 1 + (uint32_t)below(16);
+    for (uint32_t s = 0; s < (one_in(40) ? 17 : of_shards); s++)
+        if (!one_in(6))
+            length += put_hits(bytes + length, of_shards == 0 ? 0 : s % of_shards);
+    fill(&message, bytes, length, one_in(3));
+    set_room(&wide, CATALOGUE_HIT * 12);
+    set_room(&answer, CATALOGUE_ANSWER);
+    numbers[0] = one_in(4) ? any_number() : below(100);
+}
+
+static uint32_t call_join(uint8_t *base)
+{
+    (void)base;
+    return catalogue_join(of_shards, (uint32_t)numbers[0], GIVEN(message), GIVEN(wide), GIVEN(answer));
+}
+
+static bool is_of_join(uint32_t said)
+{
+    return said == CATALOGUE_UNDECODABLE || said == CATALOGUE_OUT_OF_ORDER || said == CATALOGUE_WRONG_SHARD ||
+           said == CATALOGUE_NO_ROOM;
+}
+
 /* ---- the two calls that are lent nothing: any numbers are an answer, and there is no refusal */
 
 static void try_numbers(void)
@@ -796,6 +849,7 @@ static const struct entry entries[] = {
     {"catalogue_position", OF_NONE, for_position, call_position, 0},
     {"catalogue_position_fields", OF_NONE, for_position_fields, call_position_fields, 0},
     {"catalogue_position_vector", OF_NONE, for_position_vector, call_position_vector, 0},
+    {"catalogue_join", OF_NONE, for_join, call_join, 0},
 };
 
 /* ---- one trial */
@@ -817,6 +871,8 @@ static void check_refused(const struct entry *e, uint32_t said)
         listed = said == CATALOGUE_NO_ROOM || said == CATALOGUE_OUT_OF_RANGE || said == CATALOGUE_NO_THOUSANDTH;
     if (e->call == call_apply_words)
         listed = listed || said == CATALOGUE_SHORT_TEXT;
+    if (e->call == call_join)
+        listed = is_of_join(said);
     if (!listed)
         fail(e->name, "answered what catalogue.h does not list", said);
     for (size_t i = 0; i < BUFFERS; i++) {

@@ -18,6 +18,9 @@ pub enum Refusal {
     NoWorker,
     /// A buffer shorter than the words of a rejection; `Map::apply_in_words` lends enough.
     ShortText,
+    /// Answers to join: one out of order or with an id twice, or shards that do not rise.
+    OutOfOrder,
+    WrongShard,
     /// A position out of range.
     OutOfRange,
     NoThousandth,
@@ -38,6 +41,8 @@ impl Refusal {
             25 => Refusal::LastEpoch,
             26 => Refusal::NoWorker,
             27 => Refusal::ShortText,
+            28 => Refusal::OutOfOrder,
+            29 => Refusal::WrongShard,
             30 => Refusal::OutOfRange,
             31 => Refusal::NoThousandth,
             other => panic!("the engine answered {other}, which catalogue.h does not list here"),
@@ -57,6 +62,8 @@ impl Refusal {
             Refusal::LastEpoch => 25,
             Refusal::NoWorker => 26,
             Refusal::ShortText => 27,
+            Refusal::OutOfOrder => 28,
+            Refusal::WrongShard => 29,
             Refusal::OutOfRange => 30,
             Refusal::NoThousandth => 31,
         }
@@ -79,6 +86,8 @@ impl fmt::Display for Refusal {
             Refusal::LastEpoch => "the epoch cannot rise",
             Refusal::NoWorker => "an ack for a peer without a worker",
             Refusal::ShortText => "a buffer shorter than the words of a rejection",
+            Refusal::OutOfOrder => "answers that are out of order",
+            Refusal::WrongShard => "an id of another shard",
             Refusal::OutOfRange => "a position out of range",
             Refusal::NoThousandth => "a right ascension with no whole thousandth of a second",
         };

@@ -3,6 +3,7 @@
 //! that are valid and do not overlap, and one call at a time on one image. A call needs up to 512 KiB of stack.
 
 mod answer;
+mod join;
 mod map;
 mod node;
 mod position;
@@ -11,6 +12,7 @@ pub mod sys;
 pub use answer::{
     Key, Metric, Neighbor, Outcome, Proposal, Refusal, Sent, Step, Waited, Worker,
 };
+pub use join::{Answers, join};
 pub use map::{MAP, Map, WORDS};
 pub use node::{HEADER, Node, STORES};
 pub use position::{Fields, Position};

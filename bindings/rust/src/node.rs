@@ -11,7 +11,7 @@ pub const STORES: usize = 1392640;
 
 const KEY: usize = 37;
 const START: usize = 54;
-const HIT: usize = 12;
+pub(crate) const HIT: usize = 12;
 
 /// A node's state, as the images that the engine reads and writes.
 #[derive(Clone)]
@@ -354,7 +354,7 @@ fn worker(row: &[u8]) -> Worker {
     }
 }
 
-fn neighbor(row: &[u8]) -> Neighbor {
+pub(crate) fn neighbor(row: &[u8]) -> Neighbor {
     let bits = u32::from_le_bytes(row[8..HIT].try_into().expect("four bytes"));
     Neighbor {
         id: number(row),

@@ -174,6 +174,16 @@ unsafe extern "C" {
         command: u8,
         applied: u8,
     ) -> u32;
+    pub fn catalogue_join(
+        shards: u32,
+        k: u32,
+        answers: *const u8,
+        answers_len: usize,
+        hits: *mut u8,
+        hits_len: usize,
+        answer: *mut u8,
+        answer_len: usize,
+    ) -> u32;
     pub fn catalogue_position(
         hours: u32,
         minutes: u32,
