@@ -7,6 +7,7 @@ pub mod applymap;
 pub mod convert;
 pub mod decode;
 pub mod history;
+pub mod join;
 pub mod loadsheet;
 pub mod map;
 pub mod node;

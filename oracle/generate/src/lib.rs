@@ -7,6 +7,7 @@ pub mod dome;
 pub mod edits;
 pub mod floats;
 pub mod histories;
+pub mod joins;
 pub mod lists;
 pub mod maps;
 pub mod patterns;

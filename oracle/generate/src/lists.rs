@@ -3,7 +3,7 @@
 use front::replay::{Record, call};
 
 use crate::stream::{Stream, Tally};
-use crate::{damage, dome, histories, maps, patterns, placements, rng::Rng, scripts, searches};
+use crate::{damage, dome, histories, joins, maps, patterns, placements, rng::Rng, scripts, searches};
 
 /// One stored input with its answers.
 pub struct List {
@@ -22,6 +22,7 @@ pub fn all() -> Vec<List> {
     all.extend(loadsheet());
     all.extend(search());
     all.extend(history());
+    all.extend(join());
     all.extend(placement());
     all.extend(decode());
     all.extend(replay());
@@ -166,6 +167,20 @@ fn search() -> Vec<List> {
             searches::orders().concat().concat(),
             run,
         ),
+    ]
+}
+
+fn join() -> Vec<List> {
+    let run = front::join::run;
+    // the answers are the Rust's own, of one search over all vectors
+    let (input, output) = joins::collections(8, 40);
+    let mut whole = list("join", "whole", input, run);
+    assert_eq!(whole.output, output, "the second reading of 2.2 joins to one search");
+    whole.output = output;
+    vec![
+        whole,
+        list("join", "chosen", joins::chosen(), run),
+        list("join", "full", joins::full(), run),
     ]
 }
 

@@ -1,0 +1,5 @@
+//! Program `join`: standard input to standard output.
+
+fn main() {
+    front::main(front::join::run);
+}
