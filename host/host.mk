@@ -9,7 +9,7 @@ FUZZ_FLAGS ?= -O1 -g -pthread -fsanitize=address,undefined -fno-sanitize-recover
 RUNS ?= 200
 STEPS ?= 2000
 
-.PHONY: host-library replay dome minimal stuck replace position fuzz bindings simulate simulate-wrong picture
+.PHONY: host-library replay dome minimal stuck replace position collection fuzz bindings simulate simulate-wrong picture
 
 host-library: $(HOST_LIBRARY) ## the engine as a static library (target/staticlib/libhost.a)
 
@@ -25,6 +25,11 @@ position: $(HOST_LIBRARY) ## a position in hours and degrees typed in, written, 
 	@mkdir -p $(HOST_BUILD)
 	@$(CC) $(HOST_CFLAGS) examples/position.c $(HOST_LIBRARY) -o $(HOST_BUILD)/position
 	@$(HOST_BUILD)/position
+
+collection: need-cc $(HOST_LIBRARY) ## a collection of four shards searched as a whole (examples/collection.c)
+	@mkdir -p $(HOST_BUILD)
+	@$(CC) $(HOST_CFLAGS) examples/collection.c $(HOST_LIBRARY) -o $(HOST_BUILD)/collection
+	@$(HOST_BUILD)/collection
 
 picture: dome ## the dome's run as a space-time diagram (docs/dome.svg)
 	@[ -w docs ] || { echo "make: docs/ cannot be written" >&2; exit 1; }

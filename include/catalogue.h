@@ -272,12 +272,12 @@ uint32_t catalogue_position_vector(int64_t ra, int64_t dec, uint8_t *vector, siz
 
 /* ---- searching a whole collection. No state and no vector: 22 and 24 do not arise */
 
-/* The answers of a collection's shards to one query, joined into its first k neighbours. `answers` holds at most 16, one
- * after the other by rising shard number: the shard, u32, how many neighbours, u16 up to 1,024, and those as
- * catalogue_search left them in `hits`. `shards` is the collection's number of shards. Each shard is asked for the same k;
- * if all of them answered, this is one search over all vectors together. 0: `answer` tells how many neighbours stand in
- * `hits`, nearest first; there may be 16,384. 21 bytes that are no whole answers; 28 a 17th answer, shard numbers that do
- * not rise, an answer that is out of order or names an id twice; 29 an id of another shard; 23. */
+/* The answers of a collection's shards to one query, joined into its first k neighbours. `answers` holds at most 16,
+ * one after the other by rising shard number: the shard, u32, how many neighbours, u16 up to 1,024, and those as
+ * catalogue_search left them in `hits`. `shards` is the collection's number of shards. Each shard is asked for the same
+ * k; if all of them answered, this is one search over all vectors together. 0: `answer` tells how many neighbours stand
+ * in `hits`, nearest first; there may be 16,384. 21 bytes that are no whole answers; 28 a 17th answer, shard numbers
+ * that do not rise, an answer that is out of order or names an id twice; 29 an id of another shard; 23. */
 uint32_t catalogue_join(uint32_t shards, uint32_t k, const uint8_t *answers, size_t answers_len, uint8_t *hits,
                         size_t hits_len, uint8_t *answer, size_t answer_len);
 
