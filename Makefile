@@ -57,5 +57,6 @@ include make/install.mk
 include oracle/oracle.mk
 
 # The engine beside plain C and beside the Rust, timed.
+include bench/join/bench.mk
 include bench/layout/bench.mk
 include bench/rust/bench.mk
