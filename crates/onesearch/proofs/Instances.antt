@@ -9,6 +9,7 @@ use lib.IntN.{pos}
 use lib.Ieee.{Float, fin, add, sub, mul, binary32, toBits}
 use Rattle.model.specs.declared.Metric.the-variants.{Euclidean}
 use Rattle.model.specs.Lists.{_and_, nth, every, any, rising}
+use Rattle.model.specs.Layout.Format.{concatMap}
 use Rattle.model.specs.Layout.ShardOf.{shardOf, mixed}
 use Rattle.model.specs.Log.{Vectors}
 use Rattle.model.specs.Nearest.Root.{rootBy, root, rootUnits, sqrt}
@@ -16,12 +17,14 @@ use Rattle.model.specs.Nearest.Order.{before, class}
 use Rattle.model.specs.Nearest.Distance.{sumFrom, distance}
 use Rattle.model.specs.Nearest.Search.{Vector, neighbor, nearer, insert, ordered}
 use Rattle.model.specs.Nearest.Search as nearest
-use Rattle.onesearch.specs.Join.{Hit, Answer, hit, nearerHit, inOrder, apart, sound, owned, allHits, joined, found, outOfOrder, otherShard, joinAnswers}
+use Rattle.onesearch.specs.Join.{Hit, Answer, hit, nearerHit, inOrder, apart, sound, owned, allHits, joined, found, outOfOrder, otherShard, noRoom, joinAnswers}
 use Rattle.onesearch.specs.Collection.{fullAnswers, HoldOwn}
 use Rattle.onesearch.specs.Words.{Sound, Owned}
 use Rattle.onesearch.proofs.OneSearch.{one-search}
-use Rattle.onesearch.proofs.Decided.{sound-says, owned-says, tells-28, told-28, told-29}
+use Rattle.onesearch.proofs.Decided.{sound-says, owned-says, tells-28, tells-29, tells-23, tells-found, told-28, told-29}
+use Rattle.onesearch.specs.Answers.{answersIn}
 use Rattle.onesearch.proofs.Disjoint.{disjoint}
+use Rattle.onesearch.proofs.Reading.{answerBytes, read-back}
 use Rattle.onesearch.proofs.Cases.{at, answer, near, mid, far, order-first, wrong-shard}
 
 -- ---- one search
@@ -84,3 +87,21 @@ strayed = answer 0 (at 3 near ∷ at 1 mid ∷ []) ∷ []
 
 pub not-owned : Sound strayed × (Owned 3 strayed → ⊥)
 not-owned = told-29 3 1 0 strayed wrong-shard
+
+pub told-strayed : joinAnswers 3 1 0 (some strayed) ≡ otherShard
+told-strayed = tells-29 3 1 0 strayed (not-owned .0) (not-owned .1)
+
+pub told-short : joinAnswers 3 9 3 (some answers) ≡ noRoom
+unfolding allHits
+told-short = tells-23 3 9 3 answers is-sound is-owned (omega arith)
+
+pub told-found : joinAnswers 3 9 4 (some answers) ≡ found (joined 9 answers)
+unfolding allHits
+told-found = tells-found 3 9 4 answers (record { sounds = is-sound; owns = is-owned; fits = omega arith })
+
+-- ---- as bytes: 60 of them
+pub read : answersIn (concatMap answerBytes answers) ≡ some answers
+read = read-back answers (
+  (omega arith, (omega arith, omega arith, ((omega arith, omega arith), ((omega arith, omega arith), tt)))),
+  ((omega arith, (omega arith, omega arith, ((omega arith, omega arith), ((omega arith, omega arith), tt)))), tt),
+)

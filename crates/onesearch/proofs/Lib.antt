@@ -6,5 +6,6 @@ pub mod OneSearch
 pub mod Joins
 pub mod Decided
 pub mod Disjoint
+pub mod Reading
 pub mod Cases
 pub mod Instances
