@@ -9,7 +9,7 @@ use lib.IntN.{pos}
 use lib.Ieee.{Float, fin, add, sub, mul, binary32, toBits}
 use Rattle.model.specs.declared.Metric.the-variants.{Euclidean}
 use Rattle.model.specs.Lists.{_and_, nth, every, any, rising}
-use Rattle.model.specs.Layout.Format.{concatMap}
+use Rattle.model.specs.Layout.Format.{concatMap, All}
 use Rattle.model.specs.Layout.ShardOf.{shardOf, mixed}
 use Rattle.model.specs.Log.{Vectors}
 use Rattle.model.specs.Nearest.Root.{rootBy, root, rootUnits, sqrt}
@@ -24,7 +24,7 @@ use Rattle.onesearch.proofs.OneSearch.{one-search}
 use Rattle.onesearch.proofs.Decided.{sound-says, owned-says, tells-28, tells-29, tells-23, tells-found, told-28, told-29}
 use Rattle.onesearch.specs.Answers.{answersIn}
 use Rattle.onesearch.proofs.Disjoint.{disjoint}
-use Rattle.onesearch.proofs.Reading.{answerBytes, read-back}
+use Rattle.onesearch.proofs.Reading.{GoodAnswer, answerBytes, read-back, one-search-bytes}
 use Rattle.onesearch.proofs.Cases.{at, answer, near, mid, far, order-first, wrong-shard}
 
 -- ---- one search
@@ -56,6 +56,20 @@ searched = one-search Euclidean query 4 4 shards all (omega arith) own reversed 
 pub searched-is : map hit (nearest.hits Euclidean query all 4) ≡ at 2 near ∷ at 3 near ∷ at 1 mid ∷ at 7 mid ∷ []
 unfolding nearest.hits ordered insert nearer neighbor before class distance sumFrom sqrt rootUnits root rootBy add sub mul toBits
 searched-is = refl
+
+full-good : All GoodAnswer (fullAnswers Euclidean query 4 0 shards)
+unfolding fullAnswers nearest.hits ordered insert nearer neighbor before class distance sumFrom sqrt rootUnits root rootBy add sub mul toBits
+full-good = (
+  (omega arith, (omega arith, omega arith, ((omega arith, omega arith), ((omega arith, omega arith), tt)))),
+  (
+    (omega arith, (omega arith, omega arith, ((omega arith, omega arith), ((omega arith, omega arith), tt)))),
+    ((omega arith, (omega arith, omega arith, ((omega arith, omega arith), ((omega arith, omega arith), tt)))), tt),
+  ),
+)
+
+pub searched-bytes : joinAnswers 3 4 4 (answersIn (concatMap answerBytes (fullAnswers Euclidean query 4 0 shards)))
+    ≡ found (map hit (nearest.hits Euclidean query all 4))
+searched-bytes = one-search-bytes Euclidean query 4 4 shards all (omega arith) own reversed (omega arith) full-good
 
 -- ---- 28, 29, and no id in two answers
 abbrev answers : List Answer

@@ -1,20 +1,26 @@
 -- Answers within the format's limits, written one after the other, are read back. Assumes nothing.
-use Prim.Native.Nat.{ℕ, zero, suc, _+_, _≤_, _<_}
+use Prim.Native.Nat.{ℕ, zero, suc, _+_, _≤_, _<_, min}
 use mathlib.Core.Path.{_≡_, refl, sym, ap, _∙_, subst}
 use mathlib.Core.Bool.{Bool, true, false, cond}
-use mathlib.Core.List.{List, [], _∷_, _++_, map, append-nil}
+use mathlib.Core.List.{List, [], _∷_, _++_, map, flatten, List·Permᴰ}
 use mathlib.Core.Option.{Option, none, some}
 use native.Mathlib.Omega.{arith}
 use borrow.Author.Tests.{eq-eqb, ne-eqb}
 use lib.Dec.{eqb}
 use lib.ListN.{length, drop, length-drop, length-append}
+use lib.Ieee.{Float}
+use Rattle.model.specs.declared.Metric.{Metric}
+use Rattle.model.specs.Log.{Vectors}
+use Rattle.model.specs.Nearest.Search as nearest
 use Rattle.model.specs.Lists.{_and_}
 use Rattle.model.specs.Layout.Format.{encode, fits, next, value, concatMap, Good, All}
 use Rattle.model.specs.Layout.Format as format
 use Rattle.model.proofs.LayoutLaws.Formats.{wrote}
 use Rattle.model.proofs.LayoutLaws.Bytes.{cut-append, room}
-use Rattle.onesearch.specs.Join.{Hit, Answer}
+use Rattle.onesearch.specs.Join.{Hit, Answer, hit, found, joinAnswers}
 use Rattle.onesearch.specs.Answers.{hitOf, wireHit, answerF, answerOf, wireAnswer, andThen, answersFrom, answersIn}
+use Rattle.onesearch.specs.Collection.{fullAnswers, HoldOwn}
+use Rattle.onesearch.proofs.OneSearch.{one-search}
 
 -- a shard below 2^32, at most 1,024 hits, ids below 2^64 and patterns below 2^32
 abbrev pub GoodAnswer : Answer → Type 0
@@ -64,3 +70,10 @@ few-bytes (x ∷ xs) = let k = few-bytes xs in let l = length-append (answerByte
 pub read-back : (xs : List Answer) → All GoodAnswer xs → answersIn (concatMap answerBytes xs) ≡ some xs
 unfolding answersIn
 read-back xs g = from-read (concatMap answerBytes xs) xs 0 (length (concatMap answerBytes xs)) (few-bytes xs) g (omega arith) refl
+
+-- one search, of the answers' bytes
+pub one-search-bytes : (m : Metric) (q : List Float) (k room : ℕ) (vss : List Vectors) (all : Vectors) → length vss ≤ 16 → HoldOwn (length vss) 0 vss
+    → List·Permᴰ all (flatten vss) → min k (length all) ≤ room → All GoodAnswer (fullAnswers m q k 0 vss)
+    → joinAnswers (length vss) k room (answersIn (concatMap answerBytes (fullAnswers m q k 0 vss))) ≡ found (map hit (nearest.hits m q all k))
+one-search-bytes m q k room vss all few own p fits good =
+    ap (joinAnswers (length vss) k room) (read-back (fullAnswers m q k 0 vss) good) ∙ one-search m q k room vss all few own p fits

@@ -3,7 +3,7 @@
 //! each way, alone and two at once.
 
 use datanode::shard::ShardReplica;
-use front::{convert, search};
+use front::{convert, join, search};
 use rpc::{Epoch, Neighbor};
 use wire::Op;
 
@@ -31,10 +31,7 @@ fn answer(shard: u32, hits: &[(u64, u32)]) -> Vec<u8> {
 }
 
 fn pairs(found: &[Neighbor]) -> Vec<(u64, u32)> {
-    found
-        .iter()
-        .map(|n| (n.id, n.distance.to_bits()))
-        .collect()
+    found.iter().map(|n| (n.id, n.distance.to_bits())).collect()
 }
 
 /// A collection's shards asked one by one, and the lines of one search over all vectors.
@@ -122,7 +119,14 @@ pub fn chosen() -> Vec<u8> {
     let stray = answer(1, &[(b[0], 1), (c[0], 2)]);
     let zeros = answer(1, &[(b[0], 0x8000_0000), (b[1], 0), (b[2], 0x7fc0_0000)]);
     let zeros_back = answer(1, &[(b[0], 0), (b[1], 0x8000_0000)]);
-    let low_nan = answer(1, &[(b[0], 0xffc0_0000), (b[1], 0xff80_0000), (b[2], 0x8000_0001)]);
+    let low_nan = answer(
+        1,
+        &[
+            (b[0], 0xffc0_0000),
+            (b[1], 0xff80_0000),
+            (b[2], 0x8000_0001),
+        ],
+    );
     let both = |x: &[u8], y: &[u8]| [x, y].concat();
     let mut out = Vec::new();
     for (k, room) in [(0, 0), (1, 1), (1, 0), (3, 3), (5, 5), (9, 5), (9, 4)] {
@@ -178,9 +182,11 @@ pub fn full() -> Vec<u8> {
     out
 }
 
-/// A random case, or one with a byte of its answers changed.
+/// A random case, of which the second reading and the Rust's one search agree; or one with a byte
+/// of its answers changed.
 pub fn random(rng: &mut Rng) -> Vec<u8> {
-    let (mut bytes, _) = whole(rng, false);
+    let (mut bytes, lines) = whole(rng, false);
+    assert_eq!(join::run(&bytes), lines, "the answers join to one search");
     if bytes.len() > 16 && rng.once_in(2) {
         let at = 16 + rng.below(bytes.len() - 16);
         bytes[at] = rng.next() as u8;

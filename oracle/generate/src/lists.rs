@@ -3,7 +3,9 @@
 use front::replay::{Record, call};
 
 use crate::stream::{Stream, Tally};
-use crate::{damage, dome, histories, joins, maps, patterns, placements, rng::Rng, scripts, searches};
+use crate::{
+    damage, dome, histories, joins, maps, patterns, placements, rng::Rng, scripts, searches,
+};
 
 /// One stored input with its answers.
 pub struct List {
@@ -175,7 +177,10 @@ fn join() -> Vec<List> {
     // the answers are the Rust's own, of one search over all vectors
     let (input, output) = joins::collections(8, 40);
     let mut whole = list("join", "whole", input, run);
-    assert_eq!(whole.output, output, "the second reading of 2.2 joins to one search");
+    assert_eq!(
+        whole.output, output,
+        "the second reading of 2.2 joins to one search"
+    );
     whole.output = output;
     vec![
         whole,

@@ -11,7 +11,7 @@ use std::time::{Duration, Instant};
 
 use front::replay::Record;
 use generate::rng::Rng;
-use generate::{damage, dome, histories, maps, placements, searches, stream};
+use generate::{damage, dome, histories, joins, maps, placements, searches, stream};
 
 /// A program of which both sides have one.
 struct Program {
@@ -23,7 +23,7 @@ struct Program {
     describe: fn(&[u8]) -> String,
 }
 
-const PROGRAMS: [Program; 11] = [
+const PROGRAMS: [Program; 12] = [
     Program {
         name: "replay",
         variable: "ENGINE_REPLAY",
@@ -62,6 +62,14 @@ const PROGRAMS: [Program; 11] = [
         default: "target/host/search",
         oracle: front::search::run,
         fresh: fresh_search,
+        describe: |_| String::new(),
+    },
+    Program {
+        name: "join",
+        variable: "ENGINE_JOIN",
+        default: "target/host/join",
+        oracle: front::join::run,
+        fresh: |rng| (0..20).map(|_| joins::random(rng)).collect(),
         describe: |_| String::new(),
     },
     Program {
