@@ -13,11 +13,11 @@ impl Answers {
         Answers::default()
     }
 
-    /// What one shard answered. There are at most 1,024 neighbours in it; of more the count says too few, and the bytes
-    /// are refused.
+    /// What one shard answered: at most 1,024 neighbours, or the bytes do not decode.
     pub fn put(&mut self, shard: u32, neighbors: &[Neighbor]) {
         self.0.extend(shard.to_le_bytes());
-        self.0.extend((neighbors.len() as u16).to_le_bytes());
+        let count = u16::try_from(neighbors.len()).unwrap_or(u16::MAX);
+        self.0.extend(count.to_le_bytes());
         for n in neighbors {
             self.0.extend(n.id.to_le_bytes());
             self.0.extend(n.distance.to_bits().to_le_bytes());
