@@ -18,10 +18,15 @@ enum-known-n : tie.Need-enum-known-n
 enum-known-n c = search needs
 
 returns : tie.Need-returns
-returns c = refused-23 _ _ _ _ (is-short _ _ _ _ _ (subst (Checks ((c .before .before .before .before .before .before .before .args) .shards) ((c .before .before .before .before .before .before .before .args) .k) ((c .before .before .before .before .before .before .before .args) .answers .now)) ((c .before .before .n) .given .1) ((c .before .before .before .before .check) .ensures)) _ ((c .if1) .taken))
+returns c =
+    let args = c .before .before .before .before .before .before .before .args in
+    refused-23 _ _ _ _ (is-short _ _ _ _ _ (subst (Checks (args .shards) (args .k) (args .answers .now)) ((c .before .before .n) .given .1) ((c .before .before .before .before .check) .ensures)) _ ((c .if1) .taken))
 
 merge-requires : tie.Need-merge-requires
-merge-requires c κs = let p = (subst (Checks ((c .before .before .before .before .before .before .before .before .args) .shards) ((c .before .before .before .before .before .before .before .before .args) .k) ((c .before .before .before .before .before .before .before .before .args) .answers .now)) ((c .before .before .before .n) .given .1) ((c .before .before .before .before .before .check) .ensures)) in let a = p .asked in (p .stand, p .sounds, omega arith, omega arith)
+merge-requires c κs =
+    let args = c .before .before .before .before .before .before .before .before .args in
+    let p = (subst (Checks (args .shards) (args .k) (args .answers .now)) ((c .before .before .before .n) .given .1) ((c .before .before .before .before .before .check) .ensures)) in
+    let a = p .asked in (p .stand, p .sounds, omega arith, omega arith)
 
 enum-told : tie.Need-enum-told
 enum-told c = search needs
@@ -36,16 +41,24 @@ same-length : tie.Need-same-length
 same-length c = search needs
 
 returns-2 : tie.Need-returns-2
-returns-2 c = joins _ _ _ _ _ (subst (Checks ((c .before .before .before .before .before .before .before .before .before .before .before .args) .shards) ((c .before .before .before .before .before .before .before .before .before .before .before .args) .k) ((c .before .before .before .before .before .before .before .before .before .before .before .args) .answers .now)) ((c .before .before .before .before .before .before .n) .given .1) ((c .before .before .before .before .before .before .before .before .check) .ensures)) _ _ (omega arith) ((c .before .before .merge) .ensures)
+returns-2 c =
+    let args = c .before .before .before .before .before .before .before .before .before .before .before .args in
+    joins _ _ _ _ _ (subst (Checks (args .shards) (args .k) (args .answers .now)) ((c .before .before .before .before .before .before .n) .given .1) ((c .before .before .before .before .before .before .before .before .check) .ensures)) _ _ (omega arith) ((c .before .before .merge) .ensures)
 
 returns-3 : tie.Need-returns-3
-returns-3 c = refused-21 _ _ _ _ (subst (Checks ((c .before .before .before .before .before .args) .shards) ((c .before .before .before .before .before .args) .k) ((c .before .before .before .before .before .args) .answers .now)) ((c .enum-told) .given .1) ((c .before .before .check) .ensures))
+returns-3 c =
+    let args = c .before .before .before .before .before .args in
+    refused-21 _ _ _ _ (subst (Checks (args .shards) (args .k) (args .answers .now)) ((c .enum-told) .given .1) ((c .before .before .check) .ensures))
 
 returns-4 : tie.Need-returns-4
-returns-4 c = refused-28 _ _ _ _ (subst (Checks ((c .before .before .before .before .before .args) .shards) ((c .before .before .before .before .before .args) .k) ((c .before .before .before .before .before .args) .answers .now)) ((c .enum-told2) .given .1) ((c .before .before .check) .ensures))
+returns-4 c =
+    let args = c .before .before .before .before .before .args in
+    refused-28 _ _ _ _ (subst (Checks (args .shards) (args .k) (args .answers .now)) ((c .enum-told2) .given .1) ((c .before .before .check) .ensures))
 
 returns-5 : tie.Need-returns-5
-returns-5 c = refused-29 _ _ _ _ (subst (Checks ((c .before .before .before .before .before .args) .shards) ((c .before .before .before .before .before .args) .k) ((c .before .before .before .before .before .args) .answers .now)) ((c .enum-told3) .given .1) ((c .before .before .check) .ensures))
+returns-5 c =
+    let args = c .before .before .before .before .before .args in
+    refused-29 _ _ _ _ (subst (Checks (args .shards) (args .k) (args .answers .now)) ((c .enum-told3) .given .1) ((c .before .before .check) .ensures))
 
 pub join-spec : {M : Type 1} → statement M
 join-spec = tie.close (tie.spec check-requires enum-known-n returns merge-requires enum-told enum-told-2 enum-told-3 same-length returns-2 returns-3 returns-4 returns-5)

@@ -18,13 +18,20 @@ enum-known-n : tie.Need-enum-known-n
 enum-known-n c = search needs
 
 returns : tie.Need-returns
-returns c = refused-for-23 _ _ _ _ _ (is-short _ _ _ _ _ (subst (Checks ((c .before .before .before .before .before .before .before .before .args) .shards) ((c .before .before .before .before .before .before .before .before .args) .k) ((c .before .before .before .before .before .before .before .before .args) .answers .now)) ((c .before .before .n) .given .1) ((c .before .before .before .before .check) .ensures)) _ ((c .if1) .taken))
+returns c =
+    let args = c .before .before .before .before .before .before .before .before .args in
+    refused-for-23 _ _ _ _ _ (is-short _ _ _ _ _ (subst (Checks (args .shards) (args .k) (args .answers .now)) ((c .before .before .n) .given .1) ((c .before .before .before .before .check) .ensures)) _ ((c .if1) .taken))
 
 returns-2 : tie.Need-returns-2
-returns-2 c = no-count _ _ _ _ _ (subst (Checks ((c .before .before .before .before .before .before .before .before .before .args) .shards) ((c .before .before .before .before .before .before .before .before .before .args) .k) ((c .before .before .before .before .before .before .before .before .before .args) .answers .now)) ((c .before .before .before .n) .given .1) ((c .before .before .before .before .before .check) .ensures)) _ _ (omega arith) ((c .if2) .taken)
+returns-2 c =
+    let args = c .before .before .before .before .before .before .before .before .before .args in
+    no-count _ _ _ _ _ (subst (Checks (args .shards) (args .k) (args .answers .now)) ((c .before .before .before .n) .given .1) ((c .before .before .before .before .before .check) .ensures)) _ _ (omega arith) ((c .if2) .taken)
 
 merge-requires : tie.Need-merge-requires
-merge-requires c κs = let p = (subst (Checks ((c .before .before .before .before .before .before .before .before .before .before .args) .shards) ((c .before .before .before .before .before .before .before .before .before .before .args) .k) ((c .before .before .before .before .before .before .before .before .before .before .args) .answers .now)) ((c .before .before .before .before .n) .given .1) ((c .before .before .before .before .before .before .check) .ensures)) in let a = p .asked in (p .stand, p .sounds, omega arith, omega arith)
+merge-requires c κs =
+    let args = c .before .before .before .before .before .before .before .before .before .before .args in
+    let p = (subst (Checks (args .shards) (args .k) (args .answers .now)) ((c .before .before .before .before .n) .given .1) ((c .before .before .before .before .before .before .check) .ensures)) in
+    let a = p .asked in (p .stand, p .sounds, omega arith, omega arith)
 
 put8-requires : tie.Need-put8-requires
 put8-requires c κs = search needs
@@ -45,16 +52,24 @@ same-length-2 : tie.Need-same-length-2
 same-length-2 c = search needs
 
 returns-3 : tie.Need-returns-3
-returns-3 c = joins-for _ _ _ _ _ (subst (Checks ((c .before .before .before .before .before .before .before .before .before .before .before .before .before .before .before .before .before .args) .shards) ((c .before .before .before .before .before .before .before .before .before .before .before .before .before .before .before .before .before .args) .k) ((c .before .before .before .before .before .before .before .before .before .before .before .before .before .before .before .before .before .args) .answers .now)) ((c .before .before .before .before .before .before .before .before .before .before .before .n) .given .1) ((c .before .before .before .before .before .before .before .before .before .before .before .before .before .check) .ensures)) _ _ (omega arith) ((c .before .before .before .before .before .before .merge) .ensures) _ _ (omega arith) ((c .before .before .put8) .ensures)
+returns-3 c =
+    let args = c .before .before .before .before .before .before .before .before .before .before .before .before .before .before .before .before .before .args in
+    joins-for _ _ _ _ _ (subst (Checks (args .shards) (args .k) (args .answers .now)) ((c .before .before .before .before .before .before .before .before .before .before .before .n) .given .1) ((c .before .before .before .before .before .before .before .before .before .before .before .before .before .check) .ensures)) _ _ (omega arith) ((c .before .before .before .before .before .before .merge) .ensures) _ _ (omega arith) ((c .before .before .put8) .ensures)
 
 returns-4 : tie.Need-returns-4
-returns-4 c = refused-for-21 _ _ _ _ _ (subst (Checks ((c .before .before .before .before .before .before .args) .shards) ((c .before .before .before .before .before .before .args) .k) ((c .before .before .before .before .before .before .args) .answers .now)) ((c .enum-told) .given .1) ((c .before .before .check) .ensures))
+returns-4 c =
+    let args = c .before .before .before .before .before .before .args in
+    refused-for-21 _ _ _ _ _ (subst (Checks (args .shards) (args .k) (args .answers .now)) ((c .enum-told) .given .1) ((c .before .before .check) .ensures))
 
 returns-5 : tie.Need-returns-5
-returns-5 c = refused-for-28 _ _ _ _ _ (subst (Checks ((c .before .before .before .before .before .before .args) .shards) ((c .before .before .before .before .before .before .args) .k) ((c .before .before .before .before .before .before .args) .answers .now)) ((c .enum-told2) .given .1) ((c .before .before .check) .ensures))
+returns-5 c =
+    let args = c .before .before .before .before .before .before .args in
+    refused-for-28 _ _ _ _ _ (subst (Checks (args .shards) (args .k) (args .answers .now)) ((c .enum-told2) .given .1) ((c .before .before .check) .ensures))
 
 returns-6 : tie.Need-returns-6
-returns-6 c = refused-for-29 _ _ _ _ _ (subst (Checks ((c .before .before .before .before .before .before .args) .shards) ((c .before .before .before .before .before .before .args) .k) ((c .before .before .before .before .before .before .args) .answers .now)) ((c .enum-told3) .given .1) ((c .before .before .check) .ensures))
+returns-6 c =
+    let args = c .before .before .before .before .before .before .args in
+    refused-for-29 _ _ _ _ _ (subst (Checks (args .shards) (args .k) (args .answers .now)) ((c .enum-told3) .given .1) ((c .before .before .check) .ensures))
 
 pub join-call-spec : {M : Type 1} → statement M
 join-call-spec = tie.close (tie.spec check-requires enum-known-n returns returns-2 merge-requires put8-requires enum-told enum-told-2 enum-told-3 same-length same-length-2 returns-3 returns-4 returns-5 returns-6)

@@ -10,19 +10,28 @@ use Rattle.joining.proofs.answers.after.Statement.{statement}
 use Rattle.joining.proofs.answers.after.Tie as tie
 
 add-result : tie.Need-add-result
-add-result c = let h = stands-says _ _ ((c .before .pre)) in let b = h .begins in omega arith
+add-result c =
+    let h = stands-says _ _ ((c .before .pre)) in
+    let b = h .begins in omega arith
 
 count-at-requires : tie.Need-count-at-requires
-count-at-requires c κs = let h = stands-says _ _ ((c .before .pre)) in let b = h .begins in omega arith
+count-at-requires c κs =
+    let h = stands-says _ _ ((c .before .pre)) in
+    let b = h .begins in omega arith
 
 mul-result : tie.Need-mul-result
-mul-result c = let h = stands-says _ _ ((c .before .before .pre)) in let b = h .few in omega (arith, (c .count-at) .ensures)
+mul-result c =
+    let h = stands-says _ _ ((c .before .before .pre)) in
+    let b = h .few in omega (arith, (c .count-at) .ensures)
 
 add-result-2 : tie.Need-add-result-2
-add-result-2 c = let h = stands-says _ _ ((c .before .before .pre)) in let b = h .ends in omega (arith, (c .count-at) .ensures)
+add-result-2 c =
+    let h = stands-says _ _ ((c .before .before .pre)) in
+    let b = h .ends in omega (arith, (c .count-at) .ensures)
 
 returns : tie.Need-returns
-returns c = omega (arith, (c .count-at) .ensures)
+returns c =
+    omega (arith, (c .count-at) .ensures)
 
 pub after-spec : {M : Type 1} → statement M
 after-spec = tie.close (tie.spec add-result count-at-requires mul-result add-result-2 returns)

@@ -22,7 +22,8 @@ abbrev μ-loop : tie.MeasureT-loop
 μ-loop s p n shard shards q₀ left₀ q left = left
 
 loop-holds : tie.Need-loop-holds Inv-loop μ-loop
-loop-holds c = ((c .before .pre), refl)
+loop-holds c =
+    ((c .before .pre), refl)
 
 get8-requires : tie.Need-get8-requires Inv-loop μ-loop
 get8-requires c κs = search needs
@@ -31,7 +32,10 @@ shard-of-requires : tie.Need-shard-of-requires Inv-loop μ-loop
 shard-of-requires c κs = search needs
 
 returns : tie.Need-returns Inv-loop μ-loop
-returns c = let r = (c .before .shard-of) .ensures ∙ ap (λ (i : ℕ). shardOf i ((c .before .before .before .before .before .before .args) .shards)) ((c .before .before .get8) .ensures) in sym (sym ((c .before .before .before .before .loop) .inv .1) ∙ hits-stop ((c .before .before .before .before .before .before .args) .s .now) (λ (h : Hit). eqb (shardOf (h .id) ((c .before .before .before .before .before .before .args) .shards)) ((c .before .before .before .before .before .before .args) .shard)) ((c .before .before .before .before .loop) .left) ((c .before .before .before .before .loop) .q) ((c .before .before .before .loop-test) .taken) (ne-eqb _ _ (λ e. ((c .if1) .taken) (r ∙ e))))
+returns c =
+    let args = c .before .before .before .before .before .before .args in
+    let loop = c .before .before .before .before .loop in
+    let r = (c .before .shard-of) .ensures ∙ ap (λ (i : ℕ). shardOf i (args .shards)) ((c .before .before .get8) .ensures) in sym (sym (loop .inv .1) ∙ hits-stop (args .s .now) (λ (h : Hit). eqb (shardOf (h .id) (args .shards)) (args .shard)) (loop .left) (loop .q) ((c .before .before .before .loop-test) .taken) (ne-eqb _ _ (λ e. ((c .if1) .taken) (r ∙ e))))
 
 add-q : tie.Need-add-q Inv-loop μ-loop
 add-q c = search needs
@@ -43,10 +47,16 @@ loop-less : tie.Need-loop-less Inv-loop μ-loop
 loop-less c = search needs
 
 loop-again : tie.Need-loop-again Inv-loop μ-loop
-loop-again c = let r = (c .before .shard-of) .ensures ∙ ap (λ (i : ℕ). shardOf i ((c .before .before .before .before .before .before .args) .shards)) ((c .before .before .get8) .ensures) in (omega arith, sym (hits-on ((c .before .before .before .before .before .before .args) .s .now) (λ (h : Hit). eqb (shardOf (h .id) ((c .before .before .before .before .before .before .args) .shards)) ((c .before .before .before .before .before .before .args) .shard)) ((c .before .before .before .before .loop) .left) ((c .before .before .before .before .loop) .q) ((c .before .before .before .loop-test) .taken) (eq-eqb _ _ (sym r ∙ (c .if1) .left))) ∙ (c .before .before .before .before .loop) .inv .1)
+loop-again c =
+    let args = c .before .before .before .before .before .before .args in
+    let loop = c .before .before .before .before .loop in
+    let r = (c .before .shard-of) .ensures ∙ ap (λ (i : ℕ). shardOf i (args .shards)) ((c .before .before .get8) .ensures) in (omega arith, sym (hits-on (args .s .now) (λ (h : Hit). eqb (shardOf (h .id) (args .shards)) (args .shard)) (loop .left) (loop .q) ((c .before .before .before .loop-test) .taken) (eq-eqb _ _ (sym r ∙ (c .if1) .left))) ∙ loop .inv .1)
 
 returns-2 : tie.Need-returns-2 Inv-loop μ-loop
-returns-2 c = sym (sym ((c .before .loop) .inv .1) ∙ hits-end ((c .before .before .before .args) .s .now) (λ (h : Hit). eqb (shardOf (h .id) ((c .before .before .before .args) .shards)) ((c .before .before .before .args) .shard)) ((c .before .loop) .left) ((c .before .loop) .q) (omega arith))
+returns-2 c =
+    let args = c .before .before .before .args in
+    let loop = c .before .loop in
+    sym (sym (loop .inv .1) ∙ hits-end (args .s .now) (λ (h : Hit). eqb (shardOf (h .id) (args .shards)) (args .shard)) (loop .left) (loop .q) (omega arith))
 
 pub owns-spec : {M : Type 1} → statement M
 owns-spec = tie.close (tie.spec Inv-loop μ-loop loop-holds get8-requires shard-of-requires returns add-q sub-left loop-less loop-again returns-2)
