@@ -18,7 +18,7 @@ use rpc::Message;
 use rpcw::fit::text_fits;
 use state::Spec;
 
-mod lists;
+pub mod lists;
 pub mod numbers;
 mod replaced;
 

@@ -1,4 +1,4 @@
-// The answer of place as bytes: 8 for each node, a list behind the other.
+// The answer of place as bytes: 8 for each node, a list behind the other. Internal.
 ghost use mathlib.Core.Path.{_≡_};
 ghost use Prim.Native.Nat.{_+_, _≤_};
 ghost use lib.ListN.{length};
@@ -21,9 +21,9 @@ fn list_size(l: NodeList) -> usize
     8 * in_use(8, l.count)
 }
 
-// And all of them.
-fn lists_size(p: Placement) -> usize
-    ensures { λ r. ⌜ r ≡ length (listsBytes (viewPlacement p)) ⌝ }
+// Internal: and all of them.
+pub fn lists_size(p: Placement) -> usize
+    ensures { λ r. ⌜ (r ≡ length (listsBytes (viewPlacement p))) × (r ≤ 1024) ⌝ }
 {
     let n = in_use(16, p.count);
     let mut size: usize = 0;
@@ -49,12 +49,13 @@ fn put_list(out: &mut [u8], at: usize, l: NodeList)
     }
 }
 
-fn put_lists(out: &mut [u8], p: Placement)
-    requires { ⌜ length (listsBytes (viewPlacement p)) ≤ length (now out) ⌝ }
-    ensures { λ r. ⌜ now (out .exit) ≡ sets (now (out .entry)) 0 (listsBytes (viewPlacement p)) ⌝ }
+// Internal: the lists, from a place on.
+pub fn put_lists(out: &mut [u8], from: usize, p: Placement)
+    requires { ⌜ from + length (listsBytes (viewPlacement p)) ≤ length (now out) ⌝ }
+    ensures { λ r. ⌜ now (out .exit) ≡ sets (now (out .entry)) from (listsBytes (viewPlacement p)) ⌝ }
 {
     let n = in_use(16, p.count);
-    let mut at: usize = 0;
+    let mut at = from;
     let mut i: usize = 0;
     while i < n {
         let l = p.lists[i];
@@ -71,7 +72,7 @@ fn put_placement(out: &mut [u8], p: Placement) -> u32
     if out.len() < lists_size(p) {
         return 23;
     }
-    put_lists(out, p);
+    put_lists(out, 0, p);
     0
 }
 

@@ -19,7 +19,8 @@ use Rattle.model.specs.Map.Calls.{placeCall, replacementCall}
 use Rattle.model.specs.Map.WellFormed.{wellFormedMap}
 use Rattle.model.specs.declared.Replica.{Replica}
 use Rattle.state.specs.Names.{viewKey}
-use Rattle.state.specs.View.{viewMap, viewSpec, viewNodes, viewShards}
+use Rattle.state.specs.View.{viewMap, viewSpec, viewNodes, viewShards, viewHolders}
+use Rattle.state.specs.declared.Holders.{Holders}
 use Rattle.state.specs.declared.ShardKey.{ShardKey}
 use Rattle.state.specs.declared.ShardMap.{ShardMap}
 use Rattle.state.specs.declared.Spec as spec
@@ -41,6 +42,18 @@ module _ {ℓ} {A : Type ℓ} (x y : A) where
   taken-first true b e = rw e
   taken-first false b e = absurd (let z : _≡_ {A = ℕ} 0 1 = cc in omega arith)
 
+-- the loads of the live nodes, where nobody holds anything that is asked for
+pub live-loads : (m : ShardMap) → freeLoads [] (viewShards (m .shards)) (viewNodes (m .nodes)) ≡ loadsOf (λ i. i .alive) (viewMap m)
+unfolding loadsOf _and_ holds any
+live-loads m = collect-same (mayTake []) (λ (i : NodeInfo). i .alive) _ _ (λ i. nobody-holds i) (λ i. refl) (viewNodes (m .nodes))
+  where
+    and-on : (t : Bool) → t and true ≡ t
+    and-on true = refl
+    and-on false = refl
+
+    nobody-holds : (i : NodeInfo) → mayTake [] i ≡ i .alive
+    nobody-holds i = and-on (i .alive)
+
 module _ (m : ShardMap) (s : spec.Spec) where
   pub place-24 : wellFormedLent m ≡ false → placeLent m s ≡ notPlaced malformed
   unfolding placeLent placeCall wellFormedLent
@@ -48,17 +61,8 @@ module _ (m : ShardMap) (s : spec.Spec) where
 
   -- on the live nodes with their loads
   pub place-on : wellFormedLent m ≡ true → placeLent m s ≡ placeOn (viewSpec s) (freeLoads [] (viewShards (m .shards)) (viewNodes (m .nodes)))
-  unfolding placeLent placeCall wellFormedLent place.place loadsOf _and_ holds any
-  place-on e =
-      taken-first _ _ (counted m) (wellFormedMap (viewMap m)) e
-      ∙ ap (placeOn (viewSpec s)) (sym (collect-same (mayTake []) (λ (i : NodeInfo). i .alive) _ _ (λ i. nobody-holds i) (λ i. refl) (viewNodes (m .nodes))))
-    where
-      and-on : (t : Bool) → t and true ≡ t
-      and-on true = refl
-      and-on false = refl
-
-      nobody-holds : (i : NodeInfo) → mayTake [] i ≡ i .alive
-      nobody-holds i = and-on (i .alive)
+  unfolding placeLent placeCall wellFormedLent place.place
+  place-on e = taken-first _ _ (counted m) (wellFormedMap (viewMap m)) e ∙ ap (placeOn (viewSpec s)) (sym (live-loads m))
 
   pub place-loads : (l : List Load) → wellFormedLent m ≡ true → (rs : List Replica) → rs ≡ []
       → l ≡ freeLoads rs (viewShards (m .shards)) (viewNodes (m .nodes)) → placeLent m s ≡ placeOn (viewSpec s) l
@@ -74,6 +78,10 @@ module _ (m : ShardMap) (k : ShardKey) where
       → replacementLent m k ≡ replaceIn (viewMap m) o
   unfolding replacementLent replacementCall wellFormedLent place.replacement
   replace-on e o q = taken-first _ _ (counted m) (wellFormedMap (viewMap m)) e ∙ ap (replaceIn (viewMap m)) q
+
+-- nobody holds anything
+pub nobody : (h : Holders) → h .count ≡ 0 → viewHolders h ≡ []
+nobody h e = ap (λ (k : ℕ). take k (h .items)) e
 
 -- ---- none, then 23, then a placement
 

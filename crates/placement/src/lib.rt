@@ -6,9 +6,9 @@ use crate::choose::lightest_of;
 use crate::counting::holders_at;
 use crate::counting::loads_of;
 use crate::counting::no_holders;
-use crate::lists::no_lists;
 use crate::lists::no_nodes;
-use crate::placed::place_lists;
+use crate::placed::place_on;
+use crate::placed::unplaced;
 use mapcheck::well_formed;
 use model::DataNodeId;
 use state::NodeList;
@@ -20,9 +20,9 @@ use state::Spec;
 use state::shard_table::shard_at;
 
 mod choose;
-mod counting;
+pub mod counting;
 mod lists;
-mod placed;
+pub mod placed;
 
 // A node that may be chosen, with the number of replicas it has.
 pub struct Load {
@@ -68,16 +68,6 @@ pub enum Replaced {
     Refused(Refusal),
 }
 
-fn unplaced(how: Placing) -> PlaceAnswer
-    ensures { λ r. ⌜ r .how ≡ how ⌝ }
-{
-    let empty = no_lists();
-    PlaceAnswer {
-        how: how,
-        placement: empty,
-    }
-}
-
 // Paper 01, 'Place'. Lists past the placement's count and nodes past a list's are free.
 pub fn place(m: ShardMap, spec: Spec) -> PlaceAnswer
     ensures { λ r. ⌜ placedOf r ≡ placeLent m spec ⌝ }
@@ -86,22 +76,7 @@ pub fn place(m: ShardMap, spec: Spec) -> PlaceAnswer
         return unplaced(Placing::Refused(Refusal::Malformed));
     }
     let loads = loads_of(m.nodes, no_holders(), m.shards);
-    let shards = spec.shards as usize;
-    let replication = spec.replication as usize;
-    if loads.count < replication {
-        return unplaced(Placing::Nowhere);
-    }
-    if 16 < shards {
-        return unplaced(Placing::Refused(Refusal::NoRoom));
-    }
-    if 8 < replication {
-        return unplaced(Placing::Refused(Refusal::NoRoom));
-    }
-    let placement = place_lists(loads, shards, replication);
-    PlaceAnswer {
-        how: Placing::Placed,
-        placement: placement,
-    }
+    place_on(loads, spec)
 }
 
 // The lightest live node that does not hold the shard; none if the map lacks the shard or such a node.

@@ -66,7 +66,7 @@ returns c =
     let y = size-end (rowsOf (a .t1)) (l .i) z in
     let u : l .size + length (concatMap rowBytes (drop (l .i) (rowsOf (a .t1)))) ≡ length (concatMap rowBytes (rowsOf (a .t1))) = l .inv .2 in
     let v : l .size ≡ length (concatMap rowBytes (rowsOf (a .t1))) = omega arith in
-    v ∙ sym (ap length (rows-bytes (rowsOf (a .t1))))
+    (v ∙ sym (ap length (rows-bytes (rowsOf (a .t1)))), omega (arith, l .inv .0, l .inv .1, l .inv .3))
 
 pub lists-size-spec : {M : Type 1} → statement M
 lists-size-spec = tie.close (tie.spec Inv-loop μ-loop in-use-requires loop-holds mul-l element-copy-out-l list-size-requires add-size add-i loop-less loop-again returns)

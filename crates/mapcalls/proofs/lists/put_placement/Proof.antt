@@ -9,7 +9,7 @@ lists-size-requires : tie.Need-lists-size-requires
 lists-size-requires c κs = search needs
 
 returns : tie.Need-returns
-returns c = lists-short (viewPlacement (c .before .before .before .args .p)) (c .before .before .before .args .out .now) (c .before .lists-size .result) (c .before .lists-size .ensures) (c .if1 .taken)
+returns c = lists-short (viewPlacement (c .before .before .before .args .p)) (c .before .before .before .args .out .now) (c .before .lists-size .result) (c .before .lists-size .ensures .0) (c .if1 .taken)
 
 put-lists-requires : tie.Need-put-lists-requires
 put-lists-requires c κs = search needs
@@ -18,7 +18,7 @@ same-length : tie.Need-same-length
 same-length c = search needs
 
 returns-2 : tie.Need-returns-2
-returns-2 c = lists-long (viewPlacement (c .before .before .before .before .before .before .before .args .p)) (c .before .before .before .before .before .before .before .args .out .now) _ (c .before .before .before .before .before .lists-size .result) (c .before .before .before .before .before .lists-size .ensures) (c .before .before .before .before .if1 .left) (c .before .before .put-lists .ensures)
+returns-2 c = lists-long (viewPlacement (c .before .before .before .before .before .before .before .args .p)) (c .before .before .before .before .before .before .before .args .out .now) _ (c .before .before .before .before .before .lists-size .result) (c .before .before .before .before .before .lists-size .ensures .0) (c .before .before .before .before .if1 .left) (c .before .before .put-lists .ensures)
 
 pub put-placement-spec : {M : Type 1} → statement M
 put-placement-spec = tie.close (tie.spec lists-size-requires returns put-lists-requires same-length returns-2)
