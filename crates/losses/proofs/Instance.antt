@@ -20,8 +20,9 @@ use Rattle.model.specs.Cases.Commands.{c, d, sized, node, from}
 use Rattle.model.proofs.Map.Lightest.{Has}
 use Rattle.model.proofs.Opened.{opened}
 use Rattle.losses.specs.Losses.{Loss, markedDead, sameAll, sameLists, samePlaced, lossOf, matters, lossesOf, lossesIn, losses, lost, lossesCall}
+use Rattle.losses.specs.Loads.{liveLoads}
 use Rattle.losses.proofs.Cases.{hall, loss, all, formed}
-use Rattle.losses.proofs.Loads.{liveLoads, withoutLoad, place-by-loads, dead-loads}
+use Rattle.losses.proofs.Loads.{place-by-loads, dead-loads}
 use Rattle.losses.proofs.Exactly.{Matters, listed-matters, matters-listed, lacking, lossBelow, ids-rise}
 use Rattle.losses.proofs.Marked.{decided, as-committed, new-answer}
 use Rattle.losses.proofs.Never23.{never-23}

@@ -3,7 +3,7 @@
 use Prim.Native.Nat.{ℕ, suc, _≤_, _<_}
 use native.Mathlib.Omega.{arith}
 use mathlib.Core.Path.{_≡_, refl, sym, ap, _∙_}
-use mathlib.Core.Bool.{Bool, true, false, cond, not}
+use mathlib.Core.Bool.{Bool, true, false, cond}
 use mathlib.Core.Logic.{inl, inr}
 use mathlib.Core.List.{List, [], _∷_}
 use lib.ListN.{length}
@@ -13,19 +13,12 @@ use Rattle.model.specs.Lists.{filter, collect, rising}
 use Rattle.model.specs.Map.Tables.{NodeInfo, Spec, Map}
 use Rattle.model.specs.Map.Create.{isNode}
 use Rattle.model.specs.Map.Apply.{nodeBelow, update, dead}
-use Rattle.model.specs.Map.Place.{Load, isLoad, loadsOf, replicasOf, place}
+use Rattle.model.specs.Map.Place.{Load, loadsOf, replicasOf, place}
 use Rattle.model.proofs.Rising.{rising-tail}
 use Rattle.model.proofs.Map.Orders.{nodes-by-id}
 use Rattle.model.proofs.Map.Lightest.{Has, above}
 use Rattle.losses.specs.Losses.{markedDead}
-
--- the loads of the live nodes
-abbrev pub liveLoads : Map → List Load
-liveLoads m = loadsOf (λ i. i .alive) m
-
--- the loads of all nodes but one
-abbrev pub withoutLoad : ℕ → List Load → List Load
-withoutLoad n l = filter (λ x. not (isLoad n x)) l
+use Rattle.losses.specs.Loads.{liveLoads, withoutLoad}
 
 -- two maps whose live nodes have the same loads place alike
 pub place-by-loads : (m n : Map) (spec : Spec) → liveLoads m ≡ liveLoads n → place m spec ≡ place n spec

@@ -16,7 +16,8 @@ use Rattle.model.specs.Map.Create.{Placement}
 use Rattle.model.specs.Map.Place.{Load, Placed, nowhere, placedOn, notPlaced, placeShards, placeOn, place}
 use Rattle.model.proofs.Map.Lightest.{Has}
 use Rattle.losses.specs.Losses.{Loss, markedDead, losses}
-use Rattle.losses.proofs.Loads.{liveLoads, dead-fewer}
+use Rattle.losses.specs.Loads.{liveLoads}
+use Rattle.losses.proofs.Loads.{dead-fewer}
 use Rattle.losses.proofs.Exactly.{Matters, listed-matters}
 
 -- 23 of some loads is 23 of no fewer

@@ -1,0 +1,41 @@
+-- The list of losses by the loads of the live nodes: one run of place for all of them, and one without each. That it is the list of the
+-- definition is shown in proofs/OnLoads.antt. Definitions only.
+use Prim.Native.Nat.{ℕ, _≤_}
+use mathlib.Core.Path.{_≡_}
+use mathlib.Core.Bool.{Bool, not}
+use mathlib.Core.List.{List}
+use lib.ListN.{length}
+use Rattle.model.specs.Lists.{collect}
+use Rattle.model.specs.Map.Tables.{Spec}
+use Rattle.model.specs.Map.Place as place
+use Rattle.model.specs.Map.Place.{placeOn}
+use Rattle.losses.specs.Losses.{Loss, samePlaced}
+use Rattle.losses.specs.Loads.{liveLoads, withoutLoad}
+use Rattle.state.specs.View.{viewMap}
+use Rattle.state.specs.declared.ShardMap.{ShardMap}
+use Rattle.placement.specs.Read.{viewLoads, Light}
+use Rattle.placement.specs.declared.Loads.{Loads}
+
+-- the answer without a node
+unfoldable pub lossOn : Spec → List place.Load → place.Load → Loss
+lossOn spec l x = record { node = x .node; then = placeOn spec (withoutLoad (x .node) l) }
+
+-- it is another
+unfoldable pub mattersOn : Spec → List place.Load → place.Load → Bool
+mattersOn spec l x = not (samePlaced (lossOn spec l x .then) (placeOn spec l))
+
+unfoldable pub lossesOn : Spec → List place.Load → List Loss
+lossesOn spec l = collect (mattersOn spec l) (lossOn spec l) l
+
+-- the loads of a map's live nodes
+pub record LiveLoads (m : ShardMap) (r : Loads) : Type 0 where
+  pub loads : viewLoads r ≡ liveLoads (viewMap m)
+  pub size : length (viewLoads r) ≡ r .count
+  pub count : r .count ≤ 32
+  pub light : Light 512 (viewLoads r)
+
+-- those without a node
+pub record Left (l : Loads) (n : ℕ) (r : Loads) : Type 0 where
+  pub loads : viewLoads r ≡ withoutLoad n (viewLoads l)
+  pub size : length (viewLoads r) ≡ r .count
+  pub count : r .count ≤ 32
