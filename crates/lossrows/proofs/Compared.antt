@@ -67,7 +67,7 @@ module _ {A B : Type 0} (v : A → B) (same : B → B → Bool) (xs ys : List A)
 -- ---- two answers
 
 -- no refusal has the number of none or of lists
-above-16 : (r : Refusal) → 16 < numberOf r
+pub above-16 : (r : Refusal) → 16 < numberOf r
 above-16 unknownShard = omega arith
 above-16 (notPrimary e) = omega arith
 above-16 noLease = omega arith

@@ -1,0 +1,92 @@
+// Which projector matters, as a host asks it (paper 02, 2.9): the map is a byte image that the host lends for reading (docs/IMAGES.md). What an
+// answer says stands in specs/Calls.antt, a row's bytes in specs/Rows.antt.
+ghost use mathlib.Core.Path.{_≡_};
+ghost use mathlib.Core.Bool.{true};
+ghost use mathlib.Core.List.{[]};
+ghost use Prim.Native.Nat.{_≤_};
+ghost use lib.ListN.{length, take};
+ghost use Rattle.mapcheck.specs.Lent.{wellFormedLent};
+ghost use Rattle.state.specs.View.{viewMap, viewSpec};
+ghost use Rattle.losses.specs.Losses.{lossesOf};
+ghost use Rattle.losscalls.specs.Rows.{lossesBytes};
+ghost use Rattle.losscalls.specs.Calls.{AnswersRows, Loses};
+use crate::rows::put_losses;
+use asked::answer::put_number;
+use asked::named::key_named;
+use lossrows::left::live_loads;
+use mapcheck::well_formed;
+use mapimage::read_map;
+use rpcput::put::put_bytes;
+use rpcw::fit::text_fits;
+use state::ShardMap;
+use state::Spec;
+use state::collection_table::collection_at;
+
+mod rows;
+
+// The rows that were put: how many, and their bytes.
+pub struct Put {
+    pub rows: u64,
+    pub size: usize,
+}
+
+fn answer_rows(list: &mut [u8], answer: &mut [u8], rows: &[u8], put: Put) -> u32
+    requires { ⌜ put .size ≤ length (now rows) ⌝ }
+    ensures { λ r. ⌜ AnswersRows (take (put .size) (now (rows .entry))) (put .rows) (now (list .entry)) (now (list .exit)) (now (answer .entry)) (now (answer .exit)) r ⌝ }
+{
+    if list.len() < put.size {
+        return 23;
+    }
+    if !put_number(answer, put.rows) {
+        return 23;
+    }
+    let size = put.size;
+    put_bytes(list, 0, &rows[..size]);
+    0
+}
+
+// The list of a collection that the map lacks.
+fn answer_none(list: &[u8], answer: &mut [u8]) -> u32
+    ensures { λ r. ⌜ AnswersRows [] 0 (now (list .entry)) (now (list .entry)) (now (answer .entry)) (now (answer .exit)) r ⌝ }
+{
+    if put_number(answer, 0) { 0 } else { 23 }
+}
+
+// Rows are made in a buffer of their own first: until all are there nobody knows whether the list has room for them.
+fn answer_losses(list: &mut [u8], answer: &mut [u8], m: ShardMap, spec: Spec) -> u32
+    requires { ⌜ wellFormedLent m ≡ true ⌝ }
+    ensures { λ r. ⌜ AnswersRows (lossesBytes (lossesOf (viewMap m) (viewSpec spec))) (length (lossesOf (viewMap m) (viewSpec spec))) (now (list .entry)) (now (list .exit)) (now (answer .entry)) (now (answer .exit)) r ⌝ }
+{
+    let loads = live_loads(m);
+    let mut rows = [0u8; 33280];
+    let put = put_losses(&mut rows, loads, spec);
+    answer_rows(list, answer, &rows, put)
+}
+
+// Which single live node, marked dead, changes the answer of place for the collection of that name. 0: `answer` tells in its first 8 bytes how
+// many rows stand in `list`; 21 the name, 24 the map, 23 a short `list` or `answer`, last. A refusal changes no byte.
+pub fn place_losses(map: &[u8], name: &[u8], list: &mut [u8], answer: &mut [u8]) -> u32
+    ensures { λ r. ⌜ Loses (now (map .entry)) (now (name .entry)) (now (list .entry)) (now (list .exit)) (now (answer .entry)) (now (answer .exit)) r ⌝ }
+{
+    if !text_fits(name, 32) {
+        return 21;
+    }
+    let lent = read_map(map);
+    if !lent.found {
+        return 24;
+    }
+    let m = lent.map;
+    if !well_formed(m) {
+        return 24;
+    }
+    let key = key_named(name, 0);
+    let table = m.collections;
+    let at = collection_at(table, key.collection);
+    let count = table.count;
+    if count <= at {
+        return answer_none(list, answer);
+    }
+    let row = table.items[at];
+    let spec = row.spec;
+    answer_losses(list, answer, m, spec)
+}
