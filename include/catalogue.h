@@ -68,6 +68,7 @@ uint32_t catalogue_version(void);
 #define CATALOGUE_PEERS 256u      /* room for the peers that a wait names: 32 times u64 */
 #define CATALOGUE_LISTS 1024u     /* room for any placement: 16 lists of 8 nodes, u64 each */
 #define CATALOGUE_WORDS 108u      /* room for the words of any rejection */
+#define CATALOGUE_LOSSES 33280u   /* room for the losses of any collection: 32 rows with a placement each */
 #define CATALOGUE_POSITION 16u    /* milliarcseconds: right ascension and declination, i64 each */
 #define CATALOGUE_FIELDS 28u      /* a position's seven fields, u32 each */
 #define CATALOGUE_VECTOR 17u      /* a position's vector as a Write has it: 04, four floats */
@@ -170,6 +171,15 @@ uint32_t catalogue_place(const uint8_t *map, size_t map_len, uint32_t shards, ui
 /* Which node takes a replica of the shard next. 0: it stands in `answer`; 1 none; 21, 23, 24. */
 uint32_t catalogue_replacement(const uint8_t *map, size_t map_len, const uint8_t *name, size_t name_len, uint32_t shard,
                                uint8_t *answer, size_t answer_len);
+
+/* Which single live node, marked dead, would change the answer of catalogue_place for the collection of that name, asked
+ * with the collection's own shards and replication. 0: `answer` tells how many rows stand in `list`, by rising node; none
+ * where the map has no such collection. A row is the node, u64, and a code, u64: CATALOGUE_NONE where place then answers
+ * none, 0 where its lists follow as catalogue_place leaves them. How many lists, and how many nodes in each, the row does
+ * not tell: they are the collection's own numbers, to be read from the map. 21 the name, 24; 23 a short `list` or
+ * `answer`, last. */
+uint32_t catalogue_place_losses(const uint8_t *map, size_t map_len, const uint8_t *name, size_t name_len, uint8_t *list,
+                                size_t list_len, uint8_t *answer, size_t answer_len);
 
 /* Which shard of a collection of so many holds an id: 0 to shards - 1, and 0 of none. Writes of the id go to that shard
  * alone; a search asks them all. Every number is an answer, none a refusal. */

@@ -41,6 +41,16 @@ unsafe extern "C" {
         answer: *mut u8,
         answer_len: usize,
     ) -> u32;
+    pub fn catalogue_place_losses(
+        map: *const u8,
+        map_len: usize,
+        name: *const u8,
+        name_len: usize,
+        list: *mut u8,
+        list_len: usize,
+        answer: *mut u8,
+        answer_len: usize,
+    ) -> u32;
     pub fn catalogue_shard_of(id: u64, shards: u32) -> u32;
     pub fn catalogue_version() -> u32;
     pub fn catalogue_show_map(

@@ -4,6 +4,7 @@ pub mod clients;
 pub mod headers;
 pub mod ids;
 pub mod join;
+pub mod losses;
 pub mod maps;
 pub mod peers;
 pub mod position;

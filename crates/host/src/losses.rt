@@ -1,0 +1,14 @@
+// Which projector matters (paper 02, 2.9).
+ghost use Rattle.losscalls.specs.Calls.{Loses};
+
+#[no_mangle]
+pub extern "C" fn catalogue_place_losses(
+    map: &[u8],
+    name: &[u8],
+    list: &mut [u8],
+    answer: &mut [u8],
+) -> u32
+    ensures { λ r. ⌜ Loses (now (map .entry)) (now (name .entry)) (now (list .entry)) (now (list .exit)) (now (answer .entry)) (now (answer .exit)) r ⌝ }
+{
+    losscalls::place_losses(map, name, list, answer)
+}
