@@ -20,13 +20,14 @@ target/staticlib/lib%.a: $(ENGINE_SOURCES) | need-rt need-target
 	@make/prove.sh $(@D)/$*.log --library $*
 
 # The engine's programs, and where the targets below find them.
-PROGRAMS := applymap coordinates histories joins loadsheet messages orders placements roots searches shards streams
+PROGRAMS := applymap coordinates histories joins loadsheet messages orders outages placements roots searches shards streams
 export ENGINE_APPLYMAP ?= target/bin/applymap
 export ENGINE_DECODE ?= target/bin/messages
 export ENGINE_HISTORY ?= target/bin/histories
 export ENGINE_JOIN ?= target/bin/joins
 export ENGINE_LOADSHEET ?= target/bin/loadsheet
 export ENGINE_ORDER ?= target/bin/orders
+export ENGINE_LOSSES ?= target/bin/outages
 export ENGINE_PLACEMENT ?= target/bin/placements
 export ENGINE_POSITIONS ?= target/bin/coordinates
 export ENGINE_REPLAY ?= target/host/replay

@@ -14,7 +14,7 @@ printed=target/conformance.out
 mkdir -p target
 passed=0 failed=0
 ENGINE_SHARDOF_C="${ENGINE_REPLAY:-target/host/replay} --shard-of"
-for program in applymap decode history join loadsheet order placement positions replay roots search shardof shardof_c streams; do
+for program in applymap decode history join loadsheet losses order placement positions replay roots search shardof shardof_c streams; do
     variable=ENGINE_$(echo "$program" | tr '[:lower:]' '[:upper:]')
     eval "command=\${$variable:-target/host/$program}"
     program=${program%_c}

@@ -573,6 +573,17 @@ static uint32_t call_replacement(uint8_t *base)
     return catalogue_replacement(GIVEN(map), GIVEN(name), shard, GIVEN(answer));
 }
 
+static void for_losses(void)
+{
+    outputs(2 * (16 + 32));
+}
+
+static uint32_t call_losses(uint8_t *base)
+{
+    (void)base;
+    return catalogue_place_losses(GIVEN(map), GIVEN(name), GIVEN(wide), GIVEN(answer));
+}
+
 static void for_show_map(void)
 {
     outputs(2 * CATALOGUE_START);
@@ -835,6 +846,7 @@ static const struct entry entries[] = {
     {"catalogue_apply_words", OF_MAP, for_apply_words, call_apply_words, 16},
     {"catalogue_place", OF_MAP, for_place, call_place, 1},
     {"catalogue_replacement", OF_MAP, for_key, call_replacement, 1},
+    {"catalogue_place_losses", OF_MAP, for_losses, call_losses, 0},
     {"catalogue_show_map", OF_BOTH, for_show_map, call_show_map, 0},
     {"catalogue_grant", OF_NODE, some_numbers, call_grant, 0},
     {"catalogue_write", OF_NODE, for_write, call_write, 0},

@@ -311,7 +311,61 @@ fn images_place() {
     }
 }
 
+/// The same by trying every live node on a copy of the map.
+fn tried(map: &rpc::ShardMap, spec: &CollectionSpec) -> usize {
+    let now = state::place(map, spec);
+    let mut count = 0;
+    let mut left = map.clone();
+    for (id, node) in &map.nodes {
+        if node.status != rpc::NodeStatus::Alive {
+            continue;
+        }
+        left.nodes.get_mut(id).expect("a node").status = rpc::NodeStatus::Dead;
+        count += usize::from(std::hint::black_box(state::place(&left, spec)) != now);
+        left.nodes.get_mut(id).expect("a node").status = rpc::NodeStatus::Alive;
+    }
+    count
+}
+
+fn images_losses() {
+    measure::head("the losses of a collection, over the map's image");
+    for (name, f) in &FILLINGS {
+        let (image, machine, _) = filled(f);
+        let name_of = b"catalogue-00";
+        let spec = machine.map().collections["catalogue-00"].clone();
+        let (mut list, mut answer) = (vec![0; 33280], [0; 8]);
+        let row = measure::row(
+            &format!("losses, {name}"),
+            1.0,
+            &mut || {
+                let said = unsafe {
+                    sys::catalogue_place_losses(
+                        image.as_ptr(),
+                        image.len(),
+                        name_of.as_ptr(),
+                        name_of.len(),
+                        list.as_mut_ptr(),
+                        list.len(),
+                        answer.as_mut_ptr(),
+                        answer.len(),
+                    )
+                };
+                assert_eq!(said, 0);
+            },
+            &mut || {
+                std::hint::black_box(tried(machine.map(), &spec));
+            },
+        );
+        measure::print(&row);
+        assert_eq!(
+            u64::from_le_bytes(answer) as usize,
+            tried(machine.map(), &spec)
+        );
+    }
+}
+
 pub fn images() {
     images_apply();
     images_place();
+    images_losses();
 }

@@ -3,6 +3,16 @@
 use crate::answer::{Key, Outcome, Refusal};
 use crate::{number, sys};
 
+/// Room for the losses of any collection.
+pub const LOSSES: usize = 33280;
+
+/// A node whose loss changes the answer of `place`, with the answer then.
+#[derive(Debug, Clone, PartialEq, Eq)]
+pub struct Loss {
+    pub node: u64,
+    pub then: Result<Option<Vec<Vec<u64>>>, Refusal>,
+}
+
 /// Bytes of a map's image.
 pub const MAP: usize = 26536;
 
@@ -136,6 +146,59 @@ impl Map {
             1 => Ok(None),
             other => Err(Refusal::from(other, 0)),
         }
+    }
+
+    /// Which single live node, marked dead, changes the answer of `place` for the collection of that name, lowest id
+    /// first. Of a collection that the map lacks there is none.
+    pub fn place_losses(&self, name: &[u8]) -> Result<Vec<Loss>, Refusal> {
+        let (mut list, mut answer) = (vec![0; LOSSES], [0; 8]);
+        // SAFETY: pointers and lengths are those of four slices, the two borrowed mutably apart from all others.
+        let said = unsafe {
+            sys::catalogue_place_losses(
+                self.image.as_ptr(),
+                self.image.len(),
+                name.as_ptr(),
+                name.len(),
+                list.as_mut_ptr(),
+                list.len(),
+                answer.as_mut_ptr(),
+                answer.len(),
+            )
+        };
+        if said != 0 {
+            return Err(Refusal::from(said, 0));
+        }
+        let (shards, replication) = self.spec(name).unwrap_or((0, 0));
+        let (mut rest, mut losses) = (&list[..], vec![]);
+        for _ in 0..number(&answer) {
+            let (node, code) = (number(rest), number(&rest[8..]));
+            rest = &rest[16..];
+            let then = match code {
+                0 => {
+                    let width = 8 * replication;
+                    let lists = (0..shards).map(|i| numbers(&rest[i * width..(i + 1) * width]));
+                    let lists = lists.collect();
+                    rest = &rest[shards * width..];
+                    Ok(Some(lists))
+                }
+                1 => Ok(None),
+                other => Err(Refusal::from(other as u32, 0)),
+            };
+            losses.push(Loss { node, then });
+        }
+        Ok(losses)
+    }
+
+    /// Shards and replication of a collection, as its row of the image has them (docs/IMAGES.md).
+    fn spec(&self, name: &[u8]) -> Option<(usize, usize)> {
+        let count = number(&self.image[16..]) as usize;
+        let rows = self.image[3112..4008].chunks_exact(56).take(count);
+        let word = |row: &[u8], at: usize| {
+            u32::from_le_bytes(row[at..at + 4].try_into().expect("4 bytes")) as usize
+        };
+        rows.filter(|row| row[8..40].get(..number(row) as usize) == Some(name))
+            .map(|row| (word(row, 48), word(row, 52)))
+            .next()
     }
 }
 

@@ -98,6 +98,12 @@ fn dome() -> (Map, Node, Node, Worker) {
     assert_eq!(map.apply(&register(2, 2)), Ok(Outcome::Applied));
     assert_eq!(map.place(1, 2), Ok(Some(vec![vec![1, 2]])));
     assert_eq!(map.apply(&create(3)), Ok(Outcome::Applied));
+    let lost = |node| Loss {
+        node,
+        then: Ok(None),
+    };
+    assert_eq!(map.place_losses(b"stars"), Ok(vec![lost(1), lost(2)]));
+    assert_eq!(map.place_losses(b"moons"), Ok(vec![]));
     let (mut first, mut second) = (Node::new(1, 1), Node::new(2, 1));
     let mut workers = first.show_map(&map, 2).unwrap();
     assert_eq!(second.show_map(&map, 2), Ok(vec![]));

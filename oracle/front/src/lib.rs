@@ -9,6 +9,7 @@ pub mod decode;
 pub mod history;
 pub mod join;
 pub mod loadsheet;
+pub mod losses;
 pub mod map;
 pub mod node;
 pub mod placement;

@@ -3,7 +3,7 @@
 use std::panic::{AssertUnwindSafe, catch_unwind, resume_unwind};
 
 use controlplane::state::{self, StateMachine};
-use rpc::{CollectionSpec, DataNodeId, Metric, Outcome, Request, ShardKey};
+use rpc::{CollectionSpec, DataNodeId, Metric, Outcome, Request, ShardKey, ShardMap};
 use wire::Command;
 
 use crate::{convert, reason};
@@ -75,26 +75,33 @@ impl Map {
         }
     }
 
-    /// None if there are too few live nodes; then 23 above a placement's limits.
-    pub fn place(&self, shards: u32, replication: u32) -> Result<Option<Vec<Vec<DataNodeId>>>, u8> {
-        let spec = |shards| CollectionSpec {
-            dimension: 1,
-            metric: Metric::Euclidean,
-            shards,
-            replication,
-        };
-        if state::place(self.machine.map(), &spec(0)).is_none() {
-            return Ok(None);
-        }
-        if shards > SHARDS_PLACED || replication > wire::REPLICAS as u32 {
-            return Err(23);
-        }
-        Ok(state::place(self.machine.map(), &spec(shards)))
+    pub fn place(&self, shards: u32, replication: u32) -> Placed {
+        place_on(self.machine.map(), shards, replication)
     }
 
     pub fn replacement(&self, key: &ShardKey) -> Option<DataNodeId> {
         state::replacement(self.machine.map(), key)
     }
+}
+
+/// A placement, none, or a refusal.
+pub type Placed = Result<Option<Vec<Vec<DataNodeId>>>, u8>;
+
+/// None if there are too few live nodes; then 23 above a placement's limits.
+pub fn place_on(map: &ShardMap, shards: u32, replication: u32) -> Placed {
+    let spec = |shards| CollectionSpec {
+        dimension: 1,
+        metric: Metric::Euclidean,
+        shards,
+        replication,
+    };
+    if state::place(map, &spec(0)).is_none() {
+        return Ok(None);
+    }
+    if shards > SHARDS_PLACED || replication > wire::REPLICAS as u32 {
+        return Err(23);
+    }
+    Ok(state::place(map, &spec(shards)))
 }
 
 fn over_limit(machine: &StateMachine) -> bool {

@@ -22,7 +22,7 @@ pub mod call {
 }
 
 /// The lines of an answer, or the refusal in their place.
-type Lines = Result<String, u8>;
+pub type Lines = Result<String, u8>;
 
 fn read(input: &[u8]) -> Option<(u8, &[u8], &[u8])> {
     let (&[call, low, high], rest) = input.split_first_chunk::<3>()?;
@@ -54,7 +54,7 @@ fn empty(map: &mut Map, operands: &[u8]) -> Lines {
     Ok("ok\n".into())
 }
 
-fn apply(map: &mut Map, operands: &[u8]) -> Lines {
+pub fn apply(map: &mut Map, operands: &[u8]) -> Lines {
     let Some(Message::Request(request)) = wire::read(operands) else {
         return Err(21);
     };
@@ -77,7 +77,7 @@ fn place(map: &Map, operands: &[u8]) -> Lines {
 }
 
 /// A name is of 20 to 7E hexadecimal, and no longer than a name may be.
-fn is_name(name: &[u8]) -> bool {
+pub fn is_name(name: &[u8]) -> bool {
     name.len() <= wire::NAME_BYTES && name.iter().all(|b| (0x20..=0x7e).contains(b))
 }
 

@@ -9,6 +9,7 @@ pub mod floats;
 pub mod histories;
 pub mod joins;
 pub mod lists;
+pub mod losses;
 pub mod maps;
 pub mod patterns;
 pub mod placements;

@@ -4,7 +4,7 @@ use front::replay::{Record, call};
 
 use crate::stream::{Stream, Tally};
 use crate::{
-    damage, dome, histories, joins, maps, patterns, placements, rng::Rng, scripts, searches,
+    damage, dome, histories, joins, losses, maps, patterns, placements, rng::Rng, scripts, searches,
 };
 
 /// One stored input with its answers.
@@ -26,6 +26,7 @@ pub fn all() -> Vec<List> {
     all.extend(history());
     all.extend(join());
     all.extend(placement());
+    all.extend(lost());
     all.extend(decode());
     all.extend(replay());
     all.extend(float_patterns());
@@ -221,6 +222,18 @@ fn placement() -> Vec<List> {
         ));
     }
     all
+}
+
+fn lost() -> Vec<List> {
+    let from = |name: &str, made: losses::Made| {
+        let input = made.records.concat();
+        list("losses", name, input, front::losses::run)
+    };
+    vec![
+        from("chosen", losses::chosen()),
+        from("random-1", losses::random(1, 120)),
+        from("random-2", losses::random(2, 120)),
+    ]
 }
 
 fn decode() -> Vec<List> {

@@ -11,7 +11,7 @@ use std::time::{Duration, Instant};
 
 use front::replay::Record;
 use generate::rng::Rng;
-use generate::{damage, dome, histories, joins, maps, placements, searches, stream};
+use generate::{damage, dome, histories, joins, losses, maps, placements, searches, stream};
 
 /// A program of which both sides have one.
 struct Program {
@@ -86,6 +86,14 @@ const PROGRAMS: [Program; 12] = [
         default: "target/host/placement",
         oracle: front::placement::run,
         fresh: |rng| placements::random(rng.next(), 40 + rng.below(200)).records,
+        describe: |record| format!("call {}", record[0]),
+    },
+    Program {
+        name: "losses",
+        variable: "ENGINE_LOSSES",
+        default: "target/host/losses",
+        oracle: front::losses::run,
+        fresh: |rng| losses::random(rng.next(), 40 + rng.below(200)).records,
         describe: |record| format!("call {}", record[0]),
     },
     Program {

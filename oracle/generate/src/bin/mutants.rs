@@ -8,11 +8,12 @@ use std::fs;
 use std::path::{Path, PathBuf};
 use std::process::{Command, ExitCode, Stdio};
 
-const PROGRAMS: [&str; 11] = [
+const PROGRAMS: [&str; 12] = [
     "applymap",
     "decode",
     "history",
     "loadsheet",
+    "losses",
     "order",
     "placement",
     "replay",
