@@ -1,6 +1,6 @@
 //! A write goes from a client to two nodes and is acknowledged; what is refused changes nothing.
 
-use catalogue::{Key, Map, Neighbor, Node, Outcome, Refusal, Sent, Step, Worker};
+use catalogue::{Key, Loss, Map, Neighbor, Node, Outcome, Refusal, Sent, Step, Worker};
 
 const LEASE: u64 = 1_000;
 
