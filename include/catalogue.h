@@ -172,12 +172,12 @@ uint32_t catalogue_place(const uint8_t *map, size_t map_len, uint32_t shards, ui
 uint32_t catalogue_replacement(const uint8_t *map, size_t map_len, const uint8_t *name, size_t name_len, uint32_t shard,
                                uint8_t *answer, size_t answer_len);
 
-/* Which single live node, marked dead, would change the answer of catalogue_place for the collection of that name, asked
- * with the collection's own shards and replication. 0: `answer` tells how many rows stand in `list`, by rising node; none
- * where the map has no such collection. A row is the node, u64, and a code, u64: CATALOGUE_NONE where place then answers
- * none, 0 where its lists follow as catalogue_place leaves them. How many lists, and how many nodes in each, the row does
- * not tell: they are the collection's own numbers, to be read from the map. 21 the name, 24; 23 a short `list` or
- * `answer`, last. */
+/* Which single live node, marked dead, would change the answer of catalogue_place for the collection of that name,
+ * asked with the collection's own shards and replication. 0: `answer` tells how many rows stand in `list`, by rising
+ * node; none where the map has no such collection. A row is the node, u64, and a code, u64: CATALOGUE_NONE where place
+ * then answers none, 0 where its lists follow as catalogue_place leaves them. How many lists, and how many nodes in
+ * each, the row does not tell: they are the collection's own numbers, to be read from the map. 21 the name, 24; 23 a
+ * short `list` or `answer`, last. */
 uint32_t catalogue_place_losses(const uint8_t *map, size_t map_len, const uint8_t *name, size_t name_len, uint8_t *list,
                                 size_t list_len, uint8_t *answer, size_t answer_len);
 

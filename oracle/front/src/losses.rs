@@ -7,8 +7,8 @@ use std::fmt::Write;
 
 use rpc::{DataNodeId, NodeStatus, ShardMap};
 
-use crate::map::{place_on, Map, Placed};
-use crate::placement::{apply, is_name, Lines};
+use crate::map::{Map, Placed, place_on};
+use crate::placement::{Lines, apply, is_name};
 use crate::{convert, replay};
 
 /// Calls by number.
