@@ -1,0 +1,9 @@
+pub mod HowMany
+pub mod Powers
+pub mod Members
+pub mod Once
+pub mod Room
+pub mod Endings
+pub mod Closed
+pub mod Cover
+pub mod Instances
