@@ -66,7 +66,7 @@ fn lists_match(p: Placement, replication: u32) -> bool
 }
 
 // Internal: whether the map knows the node as alive.
-fn is_alive(t: Nodes, node: DataNodeId) -> bool
+pub fn is_alive(t: Nodes, node: DataNodeId) -> bool
     requires { ⌜ t .count ≤ 32 ⌝ }
     ensures { λ r. ⌜ r ≡ isAlive (nodeAt (viewNodes t) (node .0)) ⌝ }
 {

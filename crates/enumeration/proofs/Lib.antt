@@ -1,5 +1,6 @@
 pub mod HowMany
 pub mod Powers
+pub mod Sums
 pub mod Members
 pub mod Once
 pub mod Room

@@ -1,0 +1,5 @@
+pub mod OfIds
+pub mod OfSums
+pub mod OfTests
+pub mod OfSix
+pub mod OfAnswer

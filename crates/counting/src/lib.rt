@@ -1,0 +1,84 @@
+// How many placements Create accepts, and how many end in each of 2, 3, 4, 5 and 23 (paper 02, 2.14), by sums of powers: no placement is walked.
+// What is counted is enumeration's Counts; that the sums are the counts, its proofs/Closed. What an answer says stands in specs/Answers.antt.
+ghost use mathlib.Core.Path.{_≡_};
+ghost use Rattle.counting.specs.Answers.{countingOf, countLent};
+use crate::given::too_wide;
+use crate::six::no_counts;
+use crate::six::six_of;
+use crate::sums::geometric;
+use mapcheck::well_formed;
+use state::Name;
+use state::ShardMap;
+use state::Spec;
+
+mod given;
+mod six;
+mod sums;
+mod tests;
+
+// The ids that nodes are drawn from: the first `count`; the rest is free.
+pub struct IdSet {
+    pub items: [u64; 4],
+    pub count: usize,
+}
+
+// 1 + b + .. + bⁿ and its last term, where the sum is within 64 bits; where it is not, both are free.
+pub struct Summed {
+    pub fits: bool,
+    pub sum: u64,
+    pub last: u64,
+}
+
+// How `count_placements` ends: six counts, 35, 36, or 24.
+pub enum Ending {
+    Counted,
+    Beyond,
+    TooWide,
+    Malformed,
+}
+
+// Accepted, 2, 3, 4, 5, 23. Unless `how` is `Counted`, all are 0.
+pub struct Counting {
+    pub how: Ending,
+    pub six: [u64; 6],
+}
+
+fn uncounted(how: Ending) -> Counting
+    ensures { λ r. ⌜ r .how ≡ how ⌝ }
+{
+    let none = no_counts();
+    Counting {
+        how: how,
+        six: none,
+    }
+}
+
+// 24, 36, 35, then the counts.
+pub fn count_placements(
+    m: ShardMap,
+    name: Name,
+    spec: Spec,
+    ids: IdSet,
+    lists: u32,
+    nodes: u32,
+) -> Counting
+    ensures { λ r. ⌜ countingOf r ≡ countLent m name spec ids lists nodes ⌝ }
+{
+    if !well_formed(m) {
+        return uncounted(Ending::Malformed);
+    }
+    if too_wide(ids, lists, nodes) {
+        return uncounted(Ending::TooWide);
+    }
+    let given = ids.count as u64;
+    let each = geometric(given, nodes);
+    let total = geometric(each.sum, lists);
+    if !total.fits {
+        return uncounted(Ending::Beyond);
+    }
+    let six = six_of(m, name, spec, ids, lists, nodes, total.sum);
+    Counting {
+        how: Ending::Counted,
+        six: six,
+    }
+}
