@@ -69,6 +69,7 @@ uint32_t catalogue_version(void);
 #define CATALOGUE_LISTS 1024u     /* room for any placement: 16 lists of 8 nodes, u64 each */
 #define CATALOGUE_WORDS 108u      /* room for the words of any rejection */
 #define CATALOGUE_LOSSES 33280u   /* room for the losses of any collection: 32 rows with a placement each */
+#define CATALOGUE_COUNTS 48u      /* how many placements end how: six counts, u64 each */
 #define CATALOGUE_POSITION 16u    /* milliarcseconds: right ascension and declination, i64 each */
 #define CATALOGUE_FIELDS 28u      /* a position's seven fields, u32 each */
 #define CATALOGUE_VECTOR 17u      /* a position's vector as a Write has it: 04, four floats */
@@ -117,6 +118,8 @@ uint32_t catalogue_version(void);
 #define CATALOGUE_WRONG_SHARD 29u     /* an answer to join names an id that is not of its shard */
 #define CATALOGUE_OUT_OF_RANGE 30u    /* a position's field, or its milliarcseconds, out of range */
 #define CATALOGUE_NO_THOUSANDTH 31u   /* a right ascension with no whole thousandth of a second */
+#define CATALOGUE_TOO_MANY 35u        /* more placements than 64 bits count */
+#define CATALOGUE_TOO_WIDE 36u        /* more than 4 ids, an id given twice, above 16 lists or 8 nodes */
 
 /* ---- numbers in images and outputs, least significant byte first */
 
@@ -180,6 +183,16 @@ uint32_t catalogue_replacement(const uint8_t *map, size_t map_len, const uint8_t
  * short `list` or `answer`, last. */
 uint32_t catalogue_place_losses(const uint8_t *map, size_t map_len, const uint8_t *name, size_t name_len, uint8_t *list,
                                 size_t list_len, uint8_t *answer, size_t answer_len);
+
+/* Among all placements of at most `lists` lists (up to 16), each of at most `nodes` nodes (up to 8) of the given ids (up
+ * to 4, u64 each, none twice), how many Create would accept for that name and spec, and how many would end in 2, 3, 4, 5
+ * and 23. The empty placement, empty lists, and a node more than once in a list are among them. 0: six counts stand in
+ * `counts` in that order, CATALOGUE_COUNTS bytes; they add up to all there are. A count of 23 is of placements; as the
+ * number that the call answers, 23 is a short `counts`. 21 a name that no message carries or bytes that are no whole ids,
+ * 24, 36, 35, 23. The map is only read. */
+uint32_t catalogue_count_placements(const uint8_t *map, size_t map_len, const uint8_t *name, size_t name_len,
+                                    uint32_t dimension, uint32_t shards, uint32_t replication, const uint8_t *ids,
+                                    size_t ids_len, uint32_t lists, uint32_t nodes, uint8_t *counts, size_t counts_len);
 
 /* Which shard of a collection of so many holds an id: 0 to shards - 1, and 0 of none. Writes of the id go to that shard
  * alone; a search asks them all. Every number is an answer, none a refusal. */

@@ -1,6 +1,6 @@
 /* What the engine's numbers mean, in words, for a host's log or screen.
  *
- * Refusals, 17 to 31, mean the same in every call; rejections, 1 to 16, are those of catalogue_apply and
+ * Refusals, 17 to 31, 35 and 36, mean the same in every call; rejections, 1 to 16, are those of catalogue_apply and
  * catalogue_apply_words. Other answers are a call's own and stand at the call in catalogue.h. Each function answers
  * NULL for a number that is not its own. These words are no text of catalogue_apply_words: they name no node, key or
  * number.
@@ -34,7 +34,7 @@ static inline const char *catalogue_rejection(uint32_t number)
     return words[number - CATALOGUE_REJECTED_OLDER];
 }
 
-/* Why a call was refused, 17 to 31. */
+/* Why a call was refused, 17 to 31, 35, 36. */
 static inline const char *catalogue_refusal(uint32_t number)
 {
     static const char *const words[] = {"the node does not hold the shard",
@@ -57,6 +57,10 @@ static inline const char *catalogue_refusal(uint32_t number)
         return "a position out of range";
     if (number == CATALOGUE_NO_THOUSANDTH)
         return "a right ascension with no whole thousandth of a second";
+    if (number == CATALOGUE_TOO_MANY)
+        return "more placements than 64 bits count";
+    if (number == CATALOGUE_TOO_WIDE)
+        return "more than 4 ids, an id given twice, above 16 lists or 8 nodes";
     if (number < CATALOGUE_UNKNOWN_SHARD || number > CATALOGUE_NO_WORKER)
         return NULL;
     return words[number - CATALOGUE_UNKNOWN_SHARD];

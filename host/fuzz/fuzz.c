@@ -584,6 +584,28 @@ static uint32_t call_losses(uint8_t *base)
     return catalogue_place_losses(GIVEN(map), GIVEN(name), GIVEN(wide), GIVEN(answer));
 }
 
+static uint32_t sizes[2];
+
+static void for_counts(void)
+{
+    uint8_t ids[40] = {0};
+    outputs(CATALOGUE_COUNTS);
+    shard = any_shard();
+    size_t count = below(6);
+    for (size_t i = 0; i < count; i++)
+        ids[8 * i] = (uint8_t)(one_in(4) ? below(3) : i);
+    fill(&message, ids, 8 * count, one_in(4));
+    sizes[0] = (uint32_t)(one_in(16) ? any_number() : below(6));
+    sizes[1] = (uint32_t)(one_in(16) ? any_number() : below(4));
+}
+
+static uint32_t call_count_placements(uint8_t *base)
+{
+    (void)base;
+    return catalogue_count_placements(GIVEN(map), GIVEN(name), (uint32_t)numbers[0], (uint32_t)numbers[1],
+                                      (uint32_t)numbers[2], GIVEN(message), sizes[0], sizes[1], GIVEN(wide));
+}
+
 static void for_show_map(void)
 {
     outputs(2 * CATALOGUE_START);
@@ -847,6 +869,7 @@ static const struct entry entries[] = {
     {"catalogue_place", OF_MAP, for_place, call_place, 1},
     {"catalogue_replacement", OF_MAP, for_key, call_replacement, 1},
     {"catalogue_place_losses", OF_MAP, for_losses, call_losses, 0},
+    {"catalogue_count_placements", OF_MAP, for_counts, call_count_placements, 0},
     {"catalogue_show_map", OF_BOTH, for_show_map, call_show_map, 0},
     {"catalogue_grant", OF_NODE, some_numbers, call_grant, 0},
     {"catalogue_write", OF_NODE, for_write, call_write, 0},
@@ -885,6 +908,8 @@ static void check_refused(const struct entry *e, uint32_t said)
         listed = listed || said == CATALOGUE_SHORT_TEXT;
     if (e->call == call_join)
         listed = is_of_join(said);
+    if (e->call == call_count_placements)
+        listed = listed || said == CATALOGUE_TOO_MANY || said == CATALOGUE_TOO_WIDE;
     if (!listed)
         fail(e->name, "answered what catalogue.h does not list", said);
     for (size_t i = 0; i < BUFFERS; i++) {

@@ -24,6 +24,10 @@ pub enum Refusal {
     /// A position out of range.
     OutOfRange,
     NoThousandth,
+    /// More placements than 64 bits count.
+    TooMany,
+    /// More than 4 ids, an id given twice, above 16 lists or 8 nodes.
+    TooWide,
 }
 
 impl Refusal {
@@ -45,6 +49,8 @@ impl Refusal {
             29 => Refusal::WrongShard,
             30 => Refusal::OutOfRange,
             31 => Refusal::NoThousandth,
+            35 => Refusal::TooMany,
+            36 => Refusal::TooWide,
             other => panic!("the engine answered {other}, which catalogue.h does not list here"),
         }
     }
@@ -66,6 +72,8 @@ impl Refusal {
             Refusal::WrongShard => 29,
             Refusal::OutOfRange => 30,
             Refusal::NoThousandth => 31,
+            Refusal::TooMany => 35,
+            Refusal::TooWide => 36,
         }
     }
 }
@@ -90,6 +98,8 @@ impl fmt::Display for Refusal {
             Refusal::WrongShard => "an id of another shard",
             Refusal::OutOfRange => "a position out of range",
             Refusal::NoThousandth => "a right ascension with no whole thousandth of a second",
+            Refusal::TooMany => "more placements than 64 bits count",
+            Refusal::TooWide => "more than 4 ids, an id given twice, above 16 lists or 8 nodes",
         };
         f.write_str(words)
     }

@@ -13,7 +13,7 @@ pub use answer::{
     Key, Metric, Neighbor, Outcome, Proposal, Refusal, Sent, Step, Waited, Worker,
 };
 pub use join::{Answers, join};
-pub use map::{LOSSES, Loss, MAP, Map, WORDS};
+pub use map::{Asked, Counts, LOSSES, Loss, MAP, Map, WORDS};
 pub use node::{HEADER, Node, STORES};
 pub use position::{Fields, Position};
 

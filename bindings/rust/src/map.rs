@@ -202,6 +202,71 @@ impl Map {
     }
 }
 
+/// What a collection would be created with; its metric has no part in the answer.
+#[derive(Clone, Copy, Debug, PartialEq, Eq)]
+pub struct Asked {
+    pub dimension: u32,
+    pub shards: u32,
+    pub replication: u32,
+}
+
+/// How many placements end how; together they are all there are.
+#[derive(Clone, Copy, Debug, PartialEq, Eq)]
+pub struct Counts {
+    pub accepted: u64,
+    pub exists: u64,
+    pub zero: u64,
+    pub mismatched: u64,
+    pub not_alive: u64,
+    pub no_room: u64,
+}
+
+impl Map {
+    /// Of all placements of at most so many lists, each of at most so many nodes of the ids, how many Create would accept
+    /// under that name, and how many end in 2, 3, 4, 5 and 23.
+    pub fn count_placements(
+        &self,
+        name: &[u8],
+        asked: Asked,
+        ids: &[u64],
+        lists: u32,
+        nodes: u32,
+    ) -> Result<Counts, Refusal> {
+        let given: Vec<u8> = ids.iter().flat_map(|id| id.to_le_bytes()).collect();
+        let mut counts = [0; 48];
+        // SAFETY: pointers and lengths are those of four slices that do not overlap.
+        let said = unsafe {
+            sys::catalogue_count_placements(
+                self.image.as_ptr(),
+                self.image.len(),
+                name.as_ptr(),
+                name.len(),
+                asked.dimension,
+                asked.shards,
+                asked.replication,
+                given.as_ptr(),
+                given.len(),
+                lists,
+                nodes,
+                counts.as_mut_ptr(),
+                counts.len(),
+            )
+        };
+        let six = numbers(&counts);
+        match said {
+            0 => Ok(Counts {
+                accepted: six[0],
+                exists: six[1],
+                zero: six[2],
+                mismatched: six[3],
+                not_alive: six[4],
+                no_room: six[5],
+            }),
+            other => Err(Refusal::from(other, 0)),
+        }
+    }
+}
+
 /// Numbers that stand side by side, u64 each.
 pub(crate) fn numbers(bytes: &[u8]) -> Vec<u64> {
     bytes.chunks_exact(8).map(number).collect()

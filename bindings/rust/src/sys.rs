@@ -51,6 +51,21 @@ unsafe extern "C" {
         answer: *mut u8,
         answer_len: usize,
     ) -> u32;
+    pub fn catalogue_count_placements(
+        map: *const u8,
+        map_len: usize,
+        name: *const u8,
+        name_len: usize,
+        dimension: u32,
+        shards: u32,
+        replication: u32,
+        ids: *const u8,
+        ids_len: usize,
+        lists: u32,
+        nodes: u32,
+        counts: *mut u8,
+        counts_len: usize,
+    ) -> u32;
     pub fn catalogue_shard_of(id: u64, shards: u32) -> u32;
     pub fn catalogue_version() -> u32;
     pub fn catalogue_show_map(
