@@ -1,14 +1,17 @@
 // Replays the oracle's stored answers of `place` and `replacement` (paper 01, 'Place'; state.rs) on maps that requests have built: calls on
 // one map on standard input, each a number u8, a length u16 and as many bytes of operands, and what each answers on standard output.
 // An unknown call or a record that is cut short ends the program. stdin is oracle/stored/placement/chosen.in, random-1.in and random-2.in one
-// after the other, stdout their .out: the answers of the Rust. The map is a byte image, the calls are crate mapcalls'.
+// after the other, then counts.in, stdout their .out: the answers of the Rust. The map is a byte image, the calls are crate mapcalls', and for how
+// many placements pass (paper 02, 2.14) crate countcalls'; where they are few, each is asked of Create's own code too.
 use answers::apply;
 use answers::empty;
 use answers::place;
 use answers::replacement;
+use counts::count;
 use lines::parts::first;
 
 mod answers;
+mod counts;
 
 // One call with its operands.
 fn on_call(map: &mut [u8], call: u8, s: &[u8]) {
@@ -24,7 +27,11 @@ fn on_call(map: &mut [u8], call: u8, s: &[u8]) {
         place(map, s);
         return;
     }
-    replacement(map, s);
+    if call == 3 {
+        replacement(map, s);
+        return;
+    }
+    count(map, s);
 }
 
 // Fills the first n bytes of a buffer. False where the input or the buffer ends before.
@@ -50,7 +57,7 @@ fn one(map: &mut [u8]) -> bool {
         return false;
     }
     let call = head[0];
-    if 3 < call {
+    if 4 < call {
         return false;
     }
     let n = length_of(&head);

@@ -5,6 +5,7 @@
 
 pub mod applymap;
 pub mod convert;
+pub mod counts;
 pub mod decode;
 pub mod history;
 pub mod join;

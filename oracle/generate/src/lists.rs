@@ -221,6 +221,7 @@ fn placement() -> Vec<List> {
             placements::random(seed, 120),
         ));
     }
+    all.push(from("counts", placements::counts()));
     all
 }
 

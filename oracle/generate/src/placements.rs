@@ -51,6 +51,17 @@ impl Made {
         self.raw(call::REPLACEMENT, &operands);
     }
 
+    /// How many placements of at most so many lists of at most so many nodes pass, for a spec of
+    /// dimension, shards and replication.
+    fn count(&mut self, name: &[u8], spec: [u32; 3], ids: &[u64], lists: u32, nodes: u32) {
+        let numbers = [spec[0], spec[1], spec[2], lists, nodes].map(u32::to_le_bytes);
+        let mut operands = numbers.concat();
+        operands.push(8 * ids.len() as u8);
+        operands.extend(ids.iter().flat_map(|id| id.to_le_bytes()));
+        operands.extend(name);
+        self.raw(call::COUNT, &operands);
+    }
+
     /// A placement of each of some sizes, and a replacement for each shard of the map.
     fn ask(&mut self) {
         for (shards, replication) in [(1, 1), (5, 1), (3, 2), (2, 3), (2, 5)] {
@@ -239,6 +250,111 @@ fn operands(m: &mut Made) {
     m.replacement(&[b'p'; 32], 0);
     m.replacement(&[0x1f], 0);
     m.replacement(&[b'p', 0x7f], 0);
+}
+
+/// How many placements pass: every ending, no list and no node, more lists than shards and fewer,
+/// more nodes than the replication and fewer, unknown, dead and no ids, a full map, 35 and 36.
+pub fn counts() -> Made {
+    let mut m = Made::new();
+    sizes(&mut m);
+    (1..=3).for_each(|n| m.apply(register(n, 1)));
+    m.apply(dead(2, 1));
+    sizes(&mut m);
+    m.apply(create("a", 2, &[&[1], &[3]]));
+    sizes(&mut m);
+    m.count(b"a", [2, 2, 2], &[1, 2], 2, 2);
+    m.count(b"", [2, 1, 1], &[1], 1, 1);
+    bounds(&mut m);
+    crowd(&mut m);
+    m
+}
+
+/// Small sizes of one spec after the other.
+fn sizes(m: &mut Made) {
+    for ids in [&[][..], &[1], &[1, 2], &[3, 1, 9], &[1, 2, 3, 9]] {
+        for (lists, nodes) in [
+            (0, 0),
+            (1, 0),
+            (0, 2),
+            (1, 1),
+            (2, 1),
+            (3, 1),
+            (2, 2),
+            (1, 3),
+        ] {
+            let each: u64 = (0..=nodes).map(|n| (ids.len() as u64).pow(n)).sum();
+            if (0..=lists).map(|n| each.pow(n)).sum::<u64>() > 1000 {
+                continue;
+            }
+            for spec in [
+                [2, 1, 1],
+                [2, 2, 1],
+                [1, 1, 2],
+                [2, 2, 2],
+                [1, 2, 9],
+                [1, 3, 1],
+            ] {
+                m.count(b"b", spec, ids, lists, nodes);
+            }
+        }
+    }
+    for spec in [[0, 1, 1], [1, 0, 1], [1, 1, 0], [1, u32::MAX, u32::MAX]] {
+        m.count(b"b", spec, &[1, 2], 2, 1);
+    }
+    m.count(b"b", [1, 16, 1], &[], 16, 8);
+    m.count(b"b", [1, 4, 3], &[1], 4, 3);
+    m.count(b"b", [1, 3, 2], &[1, 9], 3, 2);
+}
+
+/// 35 and 36, at and past each edge; 36 first; names and ids that are none.
+fn bounds(m: &mut Made) {
+    let four = &[1, 2, 3, 4][..];
+    for (ids, lists, nodes) in [
+        (four, 16, 8),
+        (four, 10, 3),
+        (&four[..2], 13, 4),
+        (&four[..3], 13, 3),
+    ] {
+        m.count(b"b", [1, 1, 1], ids, lists, nodes);
+    }
+    for (ids, lists, nodes) in [
+        (&[1, 1][..], 16, 8),
+        (&[1, 2, 1], 1, 1),
+        (&[1, 2, 3, 4, 5], 0, 0),
+        (&[1], 17, 0),
+        (&[1], 0, 9),
+        (&[], u32::MAX, u32::MAX),
+    ] {
+        m.count(b"b", [1, 1, 1], ids, lists, nodes);
+    }
+    m.count(&[b'b'; 33], [1, 1, 1], &[1], 1, 1);
+    m.count(&[b'b'; 32], [1, 1, 1], &[1], 1, 1);
+    m.count(&[0x7f], [1, 1, 1], &[1], 1, 1);
+    m.raw(call::COUNT, &[0; 20]);
+    m.raw(call::COUNT, &[[0; 20].as_slice(), &[1, 0]].concat());
+    m.raw(call::COUNT, &[[0; 20].as_slice(), &[9, 0]].concat());
+}
+
+/// 62 shards, then 64, then 16 collections.
+fn crowd(m: &mut Made) {
+    m.empty();
+    (1..=2).for_each(|n| m.apply(register(n, 1)));
+    let one: &[u64] = &[1];
+    for name in ["c", "d", "e"] {
+        m.apply(create(name, 1, &[one; 16]));
+    }
+    m.apply(create("f", 1, &[one; 14]));
+    for shards in 1..=3 {
+        m.count(b"b", [1, shards, 1], &[1, 2], 3, 1);
+    }
+    m.apply(create("g", 1, &[one; 2]));
+    m.count(b"b", [1, 1, 1], &[1, 9], 2, 1);
+    m.empty();
+    m.apply(register(1, 1));
+    for n in 0..16u8 {
+        m.apply(create(&char::from(b'c' + n).to_string(), 1, &[one]));
+        m.count(b"b", [1, 1, 1], &[1, 9], 2, 1);
+    }
 }
 
 /// Random requests, and after each a question.
