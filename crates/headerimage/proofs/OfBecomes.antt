@@ -17,7 +17,7 @@ use Rattle.image.proofs.Images.{sets-append, length-used}
 use Rattle.headerrows.specs.Rows.{expiryCode, expiryTime}
 use Rattle.headerimage.specs.Image.{nodeAt, headBytes, shardsBytes, headerPut}
 use Rattle.headerimage.specs.Becomes.{Counted, leaseCode, leaseTime, headerImage, HeaderBecomes, HeaderWrites}
-use Rattle.headerimage.proofs.OfImage.{lent-whole, written-long, written-short}
+use Rattle.headerimage.proofs.OfImage.{lent-listed, written-long, written-short}
 use Rattle.headerimage.proofs.OfTidy.{image-rows}
 use Rattle.headerimage.proofs.OfFormed.{formed-as}
 use Rattle.headerimage.proofs.Back.{Fits, length-put, codes-listed, used-back, header-back, counted-back, count-within, slots-back}
@@ -47,7 +47,7 @@ becomes-put s n room fits =
     let l = length-put s n room fits in
     record {
       bytes = λ st counted. put-whole s n ∙ ap (λ (b : List ℕ). sets s 0 b) (sym (image-bytes n fits st counted));
-      lent = lent-whole (headerPut s n) (omega arith) (codes-listed s n room fits);
+      lent = sym (lent-listed (headerPut s n) (omega arith)) ∙ codes-listed s n room fits;
       read = header-back s n room fits;
       seats = slots-back s n room fits;
       formed = formed-as n (nodeAt (headerPut s n)) (fits .rows) (count-within s n room fits) (used-back s n room fits);

@@ -1,13 +1,12 @@
 -- What the whole image's functions come to, case by case. Assumes nothing.
 use Prim.Native.Nat.{ℕ, _≤_, _<_}
-use mathlib.Core.Path.{_≡_, refl}
+use mathlib.Core.Path.{_≡_, refl, sym}
 use mathlib.Core.Bool.{Bool, true, false}
 use mathlib.Core.List.{List}
 use lib.ListN.{length}
 use lib.Dec.{leb}
-use borrow.Author.Tests.{le-leb, lt-leb}
-use Rattle.model.proofs.LayoutLaws.Tests.{and-true, and-false}
-use Rattle.image.proofs.Tests.{none-of-last}
+use borrow.Author.Tests.{le-leb, lt-leb, leb-true}
+use Rattle.model.proofs.LayoutLaws.Tests.{and-left, and-true, and-false}
 use Rattle.header.specs.declared.Node.{Node}
 use Rattle.headerimage.specs.declared.Lent.{Lent}
 use Rattle.headerimage.specs.Image.{codesListed, headerLent, nodeAt, noNode, lentHeader, headerPut, headerWritten}
@@ -22,19 +21,19 @@ module _ (s : List ℕ) where
   unfolding headerLent
   lent-short h = rw (lt-leb 10288 (length s) h) (and-false _)
 
-  pub lent-unlisted : codesListed s ≡ false → headerLent s ≡ false
-  unfolding headerLent
-  lent-unlisted h = rw h (none-of-last (leb 10288 (length s)))
-
   pub lent-not : headerLent s ≡ false → lent false noNode ≡ lentHeader s
   lent-not h = rw h
 
-  pub lent-whole : 10288 ≤ length s → codesListed s ≡ true → headerLent s ≡ true
+  pub lent-listed : 10288 ≤ length s → codesListed s ≡ headerLent s
   unfolding headerLent
-  lent-whole h k = rw (le-leb 10288 (length s) h, k) (and-true _)
+  lent-listed h = rw (le-leb 10288 (length s) h) (sym (and-true _))
 
-  pub lent-header : 10288 ≤ length s → codesListed s ≡ true → lent true (nodeAt s) ≡ lentHeader s
-  lent-header h k = rw (lent-whole h k)
+  pub lent-long : headerLent s ≡ true → 10288 ≤ length s
+  unfolding headerLent
+  lent-long h = leb-true 10288 (length s) (and-left _ _ h)
+
+  pub lent-header : headerLent s ≡ true → lent true (nodeAt s) ≡ lentHeader s
+  lent-header h = rw h
 
   pub written-long : (m : Node) → 10288 ≤ length s → headerPut s m ≡ headerWritten s m
   unfolding headerWritten

@@ -7,7 +7,7 @@ ghost use Prim.Native.Nat.{_≤_};
 ghost use lib.ListN.{length};
 ghost use Rattle.image.specs.Shape.{Stored};
 ghost use Rattle.headerrows.specs.Rows.{expiryOf, expiryCode, expiryTime};
-ghost use Rattle.headerimage.specs.Image.{shardCodes, flagsListed, codesListed, nodeAt, noNode, lentHeader, headBytes, headerPut};
+ghost use Rattle.headerimage.specs.Image.{shardCodes, flagsListed, codesListed, headerLent, nodeAt, noNode, lentHeader, headBytes, headerPut};
 ghost use Rattle.headerimage.specs.Becomes.{HeaderWrites};
 use crate::held::no_kept;
 use crate::held::put_shards;
@@ -27,7 +27,8 @@ pub struct Lent {
     pub node: Node,
 }
 
-fn expiry_of(code: u32, time: u64) -> Expiry
+// Internal: a lease's end as a code and a time, and back.
+pub fn expiry_of(code: u32, time: u64) -> Expiry
     ensures { λ r. ⌜ r ≡ expiryOf code time ⌝ }
 {
     if code == 0 {
@@ -37,7 +38,7 @@ fn expiry_of(code: u32, time: u64) -> Expiry
     }
 }
 
-fn expiry_code(e: Expiry) -> u32
+pub fn expiry_code(e: Expiry) -> u32
     ensures { λ r. ⌜ r ≡ expiryCode e ⌝ }
 {
     match e {
@@ -46,7 +47,7 @@ fn expiry_code(e: Expiry) -> u32
     }
 }
 
-fn expiry_time(e: Expiry) -> u64
+pub fn expiry_time(e: Expiry) -> u64
     ensures { λ r. ⌜ r ≡ expiryTime e ⌝ }
 {
     match e {
@@ -132,18 +133,21 @@ fn no_node() -> Node
     }
 }
 
+// Whether a buffer lends a header.
+pub fn is_lent(s: &[u8]) -> bool
+    ensures { λ r. ⌜ r ≡ headerLent (now (s .entry)) ⌝ }
+{
+    if s.len() < 10288 {
+        return false;
+    }
+    codes_listed(s)
+}
+
 // The header that the bytes are read as.
 pub fn read_header(s: &[u8]) -> Lent
     ensures { λ r. ⌜ r ≡ lentHeader (now (s .entry)) ⌝ }
 {
-    if s.len() < 10288 {
-        let node = no_node();
-        return Lent {
-            found: false,
-            node: node,
-        };
-    }
-    if !codes_listed(s) {
+    if !is_lent(s) {
         let node = no_node();
         return Lent {
             found: false,

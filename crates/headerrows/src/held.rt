@@ -22,7 +22,7 @@ use model::Offset;
 use model::Role;
 use node::Held;
 
-fn role_at(s: &[u8], at: usize) -> Role
+pub fn role_at(s: &[u8], at: usize) -> Role
     requires { ⌜ at + 20 ≤ length (now s) ⌝ }
     ensures { λ r. ⌜ r ≡ roleAt (now (s .entry)) at ⌝ }
 {
@@ -47,7 +47,7 @@ fn put_primary(out: &mut [u8], at: usize, code: u32, epoch: u64, end: u64)
     num::put8(out, at + 12, end);
 }
 
-fn put_role(out: &mut [u8], at: usize, r: Role)
+pub fn put_role(out: &mut [u8], at: usize, r: Role)
     requires { ⌜ at + 20 ≤ length (now out) ⌝ }
     ensures { λ _. ⌜ Stored (now (out .entry)) (now (out .exit)) at (roleBytes r) 20 ⌝ }
 {

@@ -20,7 +20,7 @@ fn peer_flags(p: Peer) -> u32
     bit(p.aligned, 1) + bit(p.behind, 2) + bit(p.proposing, 4) + bit(p.member, 8)
 }
 
-fn peer_at(s: &[u8], at: usize) -> Peer
+pub fn peer_at(s: &[u8], at: usize) -> Peer
     requires { ⌜ at + 32 ≤ length (now s) ⌝ }
     ensures { λ r. ⌜ r ≡ peerAt (now (s .entry)) at ⌝ }
 {
@@ -39,7 +39,7 @@ fn peer_at(s: &[u8], at: usize) -> Peer
     }
 }
 
-fn put_peer(out: &mut [u8], at: usize, p: Peer)
+pub fn put_peer(out: &mut [u8], at: usize, p: Peer)
     requires { ⌜ at + 32 ≤ length (now out) ⌝ }
     ensures { λ _. ⌜ Stored (now (out .entry)) (now (out .exit)) at (peerBytes p) 32 ⌝ }
 {
