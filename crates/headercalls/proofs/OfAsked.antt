@@ -49,10 +49,15 @@ pub late-second : (a b : ℕ) → ltb maxTime a ≡ false → ltb maxTime b ≡ 
 unfolding _or_
 late-second a b e = rw e
 
-first-fails : (a b : Bool) → (a or b) ≡ false → a ≡ false
+pub first-fails : (a b : Bool) → (a or b) ≡ false → a ≡ false
 unfolding _or_
 first-fails true b e = e
 first-fails false b e = refl
+
+pub second-fails : (a b : Bool) → (a or b) ≡ false → b ≡ false
+unfolding _or_
+second-fails true b e = absurd (false-not-true (sym e))
+second-fails false b e = e
 
 pub name-fits : (name : List ℕ) (rest : Bool) → unreadName name rest ≡ false → textFits maxName name ≡ true
 name-fits name rest e = not-false _ (first-fails (not (textFits maxName name)) rest e)

@@ -41,13 +41,14 @@ use Rattle.headerimage.specs.Image.{headerLent, nodeAt, lentHeader}
 use Rattle.headerimage.specs.Becomes.{tableFits}
 use Rattle.headerimage.proofs.OfCounts.{formed-written}
 use Rattle.rpcw.specs.Written.{keyGiven}
+use Rattle.headerimage.proofs.OfImage.{lent-long}
 use Rattle.headercalls.specs.Asked.{imageAfter, Becomes}
 use Rattle.headercalls.specs.Grants.{grantNumber, isGranted, granted, GrantsImage}
 use Rattle.headercalls.specs.Acks.{sentAt, noReply, ackNumber, isAcked, acked, AcksImage}
 use Rattle.headercalls.specs.Settles.{proposalAt, outcomeNumber, isSettled, settled, SettlesImage}
 use Rattle.headercalls.specs.Waits.{Left, isWaited, waitWrites, WaitPut, waited, WaitsImage}
 use Rattle.headercalls.specs.Shows.{isShown, showWrites, ShowPut, shownAfter, ShowsImage}
-use Rattle.headercalls.proofs.OfLeaves.{lent-long, leaves-slots, leaves-shown, shown-formed}
+use Rattle.headercalls.proofs.OfLeaves.{leaves-slots, leaves-shown, shown-formed}
 use Rattle.headercalls.proofs.OfKept.{formed-put, formed-left, wait-left, show-left}
 use Rattle.headercalls.proofs.OfStays.{stays-of, unwritten, grant-stays, wait-stays, ack-stays, outcome-stays, shown-stays, wait-unwritten, show-unwritten}
 

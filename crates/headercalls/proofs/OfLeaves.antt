@@ -3,14 +3,12 @@ use Prim.Native.Nat.{ℕ, _≤_}
 use mathlib.Core.Bool.{true, false}
 use mathlib.Core.Path.{_≡_, refl, sym, ap, _∙_}
 use mathlib.Core.List.{List, []}
-use lib.Dec.{leb}
 use lib.ListN.{length, replicate, length-replicate}
 use lib.Seq.{sets}
-use borrow.Author.Tests.{leb-true}
 use Rattle.model.specs.Lists.{_and_}
 use Rattle.model.specs.Node.Held as held
 use Rattle.model.specs.Node.Calls as calls
-use Rattle.model.proofs.Lists.{not-both, and-left}
+use Rattle.model.proofs.Lists.{not-both}
 use Rattle.state.specs.declared.ShardMap.{ShardMap}
 use Rattle.header.specs.declared.Node.{Node}
 use Rattle.header.specs.View.{Stores, viewNode}
@@ -23,8 +21,9 @@ use Rattle.shown.specs.declared.NodeShown.{NodeShown}
 use Rattle.shown.specs.Shows.{ShownTold}
 use Rattle.shown.specs.Slots.{slotsAfter}
 use Rattle.hears.specs.Hears.{HearsMap}
-use Rattle.headerimage.specs.Image.{headerLent, codesListed, nodeAt}
+use Rattle.headerimage.specs.Image.{headerLent, nodeAt}
 use Rattle.headerimage.specs.Becomes.{Counted, headerImage, HeaderBecomes}
+use Rattle.headerimage.proofs.OfImage.{lent-long}
 use Rattle.headercalls.specs.Leaves.{Leaves, LeavesSlots}
 use Rattle.headercalls.specs.Shows.{isShown}
 
@@ -39,11 +38,6 @@ leaves-of s t n b after e slots k = record {
   read = λ st. b .read st ∙ e st;
   seats = λ st. b .seats ∙ k st;
 }
-
--- an image that lends a header is long enough to be written
-pub lent-long : (s : List ℕ) → headerLent s ≡ true → 10288 ≤ length s
-unfolding headerLent
-lent-long s e = leb-true 10288 (length s) (and-left (leb 10288 (length s)) (codesListed s) e)
 
 module _ (s t : List ℕ) (lent : headerLent s ≡ true) (n : Node) (becomes : 10288 ≤ length s → HeaderBecomes s t n)
     (after : Stores → held.Node) (view : (st : Stores) → viewNode st n ≡ after st) where

@@ -31,7 +31,7 @@ pub extern "C" fn catalogue_show_map(
 pub extern "C" fn catalogue_grant(header: &mut [u8], incarnation: u64, sent: u64, lease: u64) -> u32
     ensures { λ r. ⌜ Grants (now (header .entry)) (now (header .exit)) incarnation sent lease r ⌝ }
 {
-    headercalls::grant::grant(header, incarnation, sent, lease)
+    grantcalls::grant(header, incarnation, sent, lease)
 }
 
 #[no_mangle]
@@ -49,7 +49,7 @@ pub extern "C" fn catalogue_wait(
     ensures { λ r. ⌜ Waits (now (header .entry)) (now (header .exit)) (now (peers .entry)) (now (peers .exit))
         (now (answer .entry)) (now (answer .exit)) (now (name .entry)) shard epoch offset clock timeout r ⌝ }
 {
-    headercalls::wait::wait(
+    waitcalls::wait::wait(
         header,
         name,
         shard,

@@ -39,7 +39,7 @@ use Rattle.headercalls.specs.Grants.{grantNumber, isGranted, granted, Grants, G
 use Rattle.headercalls.specs.Waits.{Left, rowsRoom, idBytes, waitSaid, waitWrites, waited, Waits, WaitsImage}
 use Rattle.headercalls.specs.Acks.{sentAt, ackNumber, isAcked, acked, Acks, AcksImage}
 use Rattle.headercalls.specs.Settles.{proposalAt, outcomeNumber, isSettled, settled, Settles, SettlesImage}
-use Rattle.headercalls.proofs.OfLeaves.{lent-long}
+use Rattle.headerimage.proofs.OfImage.{lent-long}
 use Rattle.headercalls.proofs.OfKept.{wait-left}
 use Rattle.intact.specs.Intact.{Intact}
 use Rattle.intact.proofs.Pairs.{StoreFits, Pairs}

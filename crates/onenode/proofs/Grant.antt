@@ -19,7 +19,7 @@ use Rattle.headerimage.specs.Becomes.{HeaderWrites}
 use Rattle.headerimage.proofs.OfBecomes.{writes-long}
 use Rattle.headercalls.specs.Grants.{Grants}
 use Rattle.headercalls.proofs.OfAsked.{asked-called}
-use Rattle.headercalls.proofs.OfLeaves.{lent-long}
+use Rattle.headerimage.proofs.OfImage.{lent-long}
 use Rattle.headercalls.proofs.OfCalls.{grants-image}
 use Rattle.onenode.specs.Images.{header, shown, leased}
 use Rattle.onenode.proofs.Headers.{leads, read-shown, lent-shown}

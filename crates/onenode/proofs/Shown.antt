@@ -39,7 +39,7 @@ use Rattle.headercalls.specs.Fresh.{freshNode}
 use Rattle.headercalls.specs.Waits.{RowsPut}
 use Rattle.headercalls.specs.Shows.{workerBytes, ShowPut, Shows}
 use Rattle.headercalls.proofs.OfAsked.{asked-called}
-use Rattle.headercalls.proofs.OfLeaves.{lent-long}
+use Rattle.headerimage.proofs.OfImage.{lent-long}
 use Rattle.headercalls.proofs.OfCalls.{shows-image}
 use Rattle.headercalls.proofs.OfWaits.{all-put, shown-as}
 use Rattle.onenode.specs.Images as images

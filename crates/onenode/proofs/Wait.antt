@@ -24,7 +24,7 @@ use Rattle.rpcw.specs.Written.{textFits}
 use Rattle.asked.specs.Answer.{numberPut}
 use Rattle.headercalls.specs.Waits.{idBytes, RowsPut, WaitPut, Waits}
 use Rattle.headercalls.proofs.OfAsked.{asked-called}
-use Rattle.headercalls.proofs.OfLeaves.{lent-long}
+use Rattle.headerimage.proofs.OfImage.{lent-long}
 use Rattle.headercalls.proofs.OfCalls.{waits-image}
 use Rattle.headercalls.proofs.OfWaits.{all-put, waited-as}
 use Rattle.onenode.specs.Images.{header, written, room}

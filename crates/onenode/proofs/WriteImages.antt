@@ -18,7 +18,7 @@ use Rattle.image.specs.Canon as canon
 use Rattle.headerimage.specs.Image.{headerPut}
 use Rattle.headerimage.specs.Becomes.{HeaderWrites}
 use Rattle.headerimage.proofs.OfBecomes.{writes-long}
-use Rattle.headercalls.proofs.OfLeaves.{lent-long}
+use Rattle.headerimage.proofs.OfImage.{lent-long}
 use Rattle.shard.specs.Table as table
 use Rattle.storeimage.specs.Image.{logAt, rowsAt}
 use Rattle.lend.specs.Lend.{placeOf}
