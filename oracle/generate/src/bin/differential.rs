@@ -23,7 +23,7 @@ struct Program {
     describe: fn(&[u8]) -> String,
 }
 
-const PROGRAMS: [Program; 12] = [
+const PROGRAMS: [Program; 13] = [
     Program {
         name: "replay",
         variable: "ENGINE_REPLAY",
