@@ -189,15 +189,12 @@ static const char *show_map(struct node *node, const uint8_t *map)
     return NULL;
 }
 
-/* The map of that moment; the host EARLIER_MAP has kept a copy. */
+/* The map of that moment. The host EARLIER_MAP keeps it, and shows it again when a worker of the node has stopped. */
 static const char *map_shown(const struct event *e)
 {
-    if (cluster.setting.wrong != EARLIER_MAP || e->second % 2 == 0)
-        return show_map(choose_node(e->first), cluster.map);
-    const char *failure = show_map(choose_node(e->first), cluster.earlier_map);
-    if (e->third % 4 == 0)
-        memcpy(cluster.earlier_map, cluster.map, sizeof cluster.map);
-    return failure;
+    struct node *node = choose_node(e->first);
+    memcpy(cluster.last_shown[node->id - 1], cluster.map, sizeof cluster.map);
+    return show_map(node, cluster.map);
 }
 
 static const char *promote(const struct event *e)
@@ -472,6 +469,8 @@ static const char *worker_steps(const struct event *e)
     if (said > CATALOGUE_STEP_COPY)
         return unwanted("catalogue_step", said);
     w->runs = said != CATALOGUE_STEP_STOP;
+    if (said == CATALOGUE_STEP_STOP && cluster.setting.wrong == EARLIER_MAP)
+        return show_map(n, cluster.last_shown[node - 1]);
     if (said < CATALOGUE_STEP_ALIGN)
         return NULL;
     w->latest = ++cluster.last_number;
@@ -749,9 +748,9 @@ void begin_cluster(const struct setting *setting)
     for (uint64_t id = 1; id <= setting->nodes; id++)
         begin_node(node_of(id), id);
     create_shards(setting);
-    memcpy(cluster.earlier_map, cluster.map, sizeof cluster.map);
     for (uint64_t id = 1; id <= setting->nodes; id++) {
         struct node *node = node_of(id);
+        memcpy(cluster.last_shown[id - 1], cluster.map, sizeof cluster.map);
         if (show_map(node, cluster.map) != NULL)
             must("catalogue_show_map", CATALOGUE_MALFORMED);
         must("catalogue_grant", catalogue_grant(LENT(node->header), INCARNATION, cluster.now, LEASE));

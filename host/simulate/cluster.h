@@ -101,7 +101,7 @@ struct accepted {
 struct cluster {
     struct setting setting;
     uint64_t now, last_index, promoter_seq, last_number;
-    uint8_t map[CATALOGUE_MAP], earlier_map[CATALOGUE_MAP];
+    uint8_t map[CATALOGUE_MAP], last_shown[NODES_MOST][CATALOGUE_MAP];
     uint8_t keys[SHARDS_MOST][CATALOGUE_KEY];
     struct node nodes[NODES_MOST];
     struct letter letters[LETTERS_MOST]; /* the first `letter_count` of `order` are under way, in the order sent */
@@ -118,7 +118,8 @@ extern struct cluster cluster;
 
 /* What happened in all runs. */
 struct tally {
-    uint64_t events, accepted, acknowledged, promotions, shrinks, expands, restarts, searches, lost, repeated, overtaking;
+    uint64_t events, accepted, acknowledged, promotions, shrinks, expands, restarts, searches, lost, repeated,
+        overtaking;
 };
 extern struct tally tally;
 

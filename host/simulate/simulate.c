@@ -5,9 +5,9 @@
  * + 1
  *
  * WRONG is a host that breaks one rule of a run, and is there to be caught: outcome-twice tells a node an outcome
- * again, earlier-map shows a map that was kept, earlier-images saves a node's images now and then, and not before each
- * answer. Status 0 if nothing was found, 1 if a run fails: then its seed and its events are told, made as few as will
- * do.
+ * again, earlier-map shows a node whose worker has stopped the map that it was shown before, earlier-images saves a
+ * node's images now and then, and not before each answer. Status 0 if nothing was found, 1 if a run fails: then its
+ * seed and its events are told, made as few as will do.
  */
 #include <inttypes.h>
 #include <stdio.h>
