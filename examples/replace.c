@@ -116,8 +116,8 @@ static int catch_up(uint64_t peer)
     int expand = 0;
     for (;;) {
         uint32_t (*call)(uint8_t *, size_t, uint8_t *, size_t, const uint8_t *, size_t, uint8_t *, size_t);
-        uint32_t step = catalogue_step(LENT(header[1]), LENT(stores[1]), STARS, epoch, peer, EUCLIDEAN, LENT(request),
-                                       LENT(len));
+        uint32_t step =
+            catalogue_step(LENT(header[1]), LENT(stores[1]), STARS, epoch, peer, EUCLIDEAN, LENT(request), LENT(len));
         if (step == CATALOGUE_STEP_WAIT || step == CATALOGUE_STEP_STOP)
             return expand;
         call = step == CATALOGUE_STEP_ALIGN       ? catalogue_new_epoch

@@ -115,8 +115,8 @@ static void carry(uint32_t expected)
     static uint8_t request[CATALOGUE_REQUEST];
     uint8_t len[CATALOGUE_ANSWER], reply[CATALOGUE_REPLY];
     uint32_t (*call)(uint8_t *, size_t, uint8_t *, size_t, const uint8_t *, size_t, uint8_t *, size_t);
-    uint32_t step = catalogue_step(LENT(header[0]), LENT(stores[0]), STARS, epoch, 2, EUCLIDEAN, LENT(request),
-                                   LENT(len));
+    uint32_t step =
+        catalogue_step(LENT(header[0]), LENT(stores[0]), STARS, epoch, 2, EUCLIDEAN, LENT(request), LENT(len));
     call = step == CATALOGUE_STEP_ALIGN       ? catalogue_new_epoch
            : step == CATALOGUE_STEP_REPLICATE ? catalogue_replicate
                                               : catalogue_copy;

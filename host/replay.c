@@ -395,9 +395,8 @@ static void on_step(struct record *r)
         refuse(CATALOGUE_UNDECODABLE);
         return;
     }
-    uint32_t said =
-        catalogue_step(n->header, sizeof n->header, n->stores, sizeof n->stores, key.name, key.length, key.shard, epoch,
-                       peer, metric, request, sizeof request, answer, sizeof answer);
+    uint32_t said = catalogue_step(n->header, sizeof n->header, n->stores, sizeof n->stores, key.name, key.length,
+                                   key.shard, epoch, peer, metric, request, sizeof request, answer, sizeof answer);
     if (said > CATALOGUE_STEP_COPY) {
         refuse(said);
         return;

@@ -184,12 +184,12 @@ uint32_t catalogue_replacement(const uint8_t *map, size_t map_len, const uint8_t
 uint32_t catalogue_place_losses(const uint8_t *map, size_t map_len, const uint8_t *name, size_t name_len, uint8_t *list,
                                 size_t list_len, uint8_t *answer, size_t answer_len);
 
-/* Among all placements of at most `lists` lists (up to 16), each of at most `nodes` nodes (up to 8) of the given ids (up
- * to 4, u64 each, none twice), how many Create would accept for that name and spec, and how many would end in 2, 3, 4, 5
- * and 23. The empty placement, empty lists, and a node more than once in a list are among them. 0: six counts stand in
- * `counts` in that order, CATALOGUE_COUNTS bytes; they add up to all there are. A count of 23 is of placements; as the
- * number that the call answers, 23 is a short `counts`. 21 a name that no message carries or bytes that are no whole ids,
- * 24, 36, 35, 23. The map is only read. */
+/* Among all placements of at most `lists` lists (up to 16), each of at most `nodes` nodes (up to 8) of the given ids
+ * (up to 4, u64 each, none twice), how many Create would accept for that name and spec, and how many would end in 2, 3,
+ * 4, 5 and 23. The empty placement, empty lists, and a node more than once in a list are among them. 0: six counts
+ * stand in `counts` in that order, CATALOGUE_COUNTS bytes; they add up to all there are. A count of 23 is of
+ * placements; as the number that the call answers, 23 is a short `counts`. 21 a name that no message carries or bytes
+ * that are no whole ids, 24, 36, 35, 23. The map is only read. */
 uint32_t catalogue_count_placements(const uint8_t *map, size_t map_len, const uint8_t *name, size_t name_len,
                                     uint32_t dimension, uint32_t shards, uint32_t replication, const uint8_t *ids,
                                     size_t ids_len, uint32_t lists, uint32_t nodes, uint8_t *counts, size_t counts_len);
@@ -253,9 +253,9 @@ uint32_t catalogue_copy(uint8_t *header, size_t header_len, uint8_t *stores, siz
 #define CATALOGUE_STEP_COPY 4u
 
 /* The step of the worker for a peer, as it was started: one of the five numbers above. Of the last three the request
- * stands in `request` and its length in `answer`, which is 0 beside wait and stop. One entry of the primary's epoch goes
- * as Replicate; one of another epoch, which keeps it that way, and several go as CopyShard. 21 the name or the metric;
- * 23, 24. */
+ * stands in `request` and its length in `answer`, which is 0 beside wait and stop. One entry of the primary's epoch
+ * goes as Replicate; one of another epoch, which keeps it that way, and several go as CopyShard. 21 the name or the
+ * metric; 23, 24. */
 uint32_t catalogue_step(const uint8_t *header, size_t header_len, const uint8_t *stores, size_t stores_len,
                         const uint8_t *name, size_t name_len, uint32_t shard, uint64_t epoch, uint64_t peer,
                         uint8_t metric, uint8_t *request, size_t request_len, uint8_t *answer, size_t answer_len);
