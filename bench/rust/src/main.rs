@@ -4,6 +4,8 @@
 mod map;
 mod measure;
 mod node;
+mod peers;
+mod putback;
 mod shard;
 
 fn main() {

@@ -6,6 +6,7 @@ use rpc::{CollectionSpec, Metric};
 use wire::{Change, Command, Key, Message, Request, Spec};
 
 use crate::measure;
+use crate::putback::PutBack;
 
 unsafe extern "C" {
     fn engine_apply(s: *const u8, n: usize) -> u64;
@@ -225,14 +226,17 @@ fn rpc_request(r: &Request) -> rpc::Request {
     }
 }
 
-/// The engine's image is put back before each Shrink; the Rust goes on with Shrink and Expand in turn.
+/// The engine's image is put back before each Shrink, where that changes it; the Rust goes on with Shrink and Expand in turn.
+/// An older request is decoded and the map tested, and nothing is written: the test alone.
 fn images_apply() {
     measure::head("apply over the map's image, one Shrink or Expand");
     for (name, f) in &FILLINGS {
         let (start, mut machine, mut requests) = filled(f);
         requests.change(2);
         let last = &requests.all[requests.all.len() - 2..];
-        let mut image = start.clone();
+        let (mut image, mut before) = (start.clone(), PutBack::to(&start));
+        assert_eq!(image_apply(&mut image, &last[0]), 0);
+        before.learn(&image);
         let read = |bytes: &[u8]| match wire::read(bytes) {
             Some(Message::Request(r)) => rpc_request(&r),
             _ => unreachable!("a request"),
@@ -243,7 +247,7 @@ fn images_apply() {
             name,
             1.0,
             &mut || {
-                image.copy_from_slice(&start);
+                before.put_back(&mut image);
                 assert_eq!(image_apply(&mut image, &last[0]), 0);
             },
             &mut || {
@@ -254,6 +258,9 @@ fn images_apply() {
             },
         );
         measure::print(&row);
+        let older = &requests.all[0];
+        let test = measure::alone(1.0, &mut || assert_eq!(image_apply(&mut image, older), 1));
+        println!("| {name}, an older request | {test:.0} | | | |");
     }
 }
 

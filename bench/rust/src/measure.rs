@@ -91,8 +91,12 @@ pub fn alone(units: f64, call: &mut dyn FnMut()) -> f64 {
 }
 
 pub fn head(what: &str) {
+    head_beside(what, "Rust");
+}
+
+pub fn head_beside(what: &str, peer: &str) {
     println!("\n{what}\n");
-    println!("| | engine ns | Rust ns | ratio | 5% to 95% |\n|---|---|---|---|---|");
+    println!("| | engine ns | {peer} ns | ratio | 5% to 95% |\n|---|---|---|---|---|");
 }
 
 /// Two decimals, or three where a ratio is small.

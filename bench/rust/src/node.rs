@@ -1,7 +1,7 @@
 //! The data node: the engine's C entry points over byte images beside the unchanged Rust's transitions. Every call of
 //! the engine reads the images and tests the lent state (24); a call that is refused right after that test is timed
-//! too. The engine is put back to its state between calls by copying its header, since what lies past a log's end is
-//! free; the Rust's log just grows, which costs it nothing.
+//! too. Between calls the engine's header is put back where a call changes it, number by number, since what lies past a
+//! log's end is free; the Rust's log just grows, which costs it nothing.
 
 use std::sync::Arc;
 
@@ -15,7 +15,8 @@ use rpc::{
 };
 use wire::{Command, Entry, Key, Message, Op, Request, Spec};
 
-use crate::measure;
+use crate::putback::PutBack;
+use crate::{measure, peers, shard};
 
 const LEASE: u64 = 1 << 40;
 const LENGTH: usize = 32;
@@ -54,7 +55,7 @@ fn entry(offset: u64) -> Entry {
 }
 
 /// Two nodes, and a collection of one shard on both: node 1 is its primary.
-fn commands() -> Vec<Message> {
+fn commands(metric: u8) -> Vec<Message> {
     let register = |node| Command::Register {
         node,
         address: b"projector".to_vec(),
@@ -62,7 +63,7 @@ fn commands() -> Vec<Message> {
     };
     let spec = Spec {
         dimension: LENGTH as u32,
-        metric: 0,
+        metric,
         shards: 1,
         replication: 2,
     };
@@ -98,7 +99,7 @@ fn write_of(id: u64) -> Message {
 /// A node's images, the header as it is before each call, and room for every output.
 struct Engine {
     map: Vec<u8>,
-    before: Vec<u8>,
+    before: PutBack,
     header: Vec<u8>,
     stores: Vec<u8>,
     refused: [u8; 4],
@@ -114,9 +115,9 @@ macro_rules! lent {
 }
 
 impl Engine {
-    fn new(id: u64) -> Engine {
+    fn new(id: u64, metric: u8) -> Engine {
         let mut map = vec![0; catalogue::MAP];
-        for message in commands() {
+        for message in commands(metric) {
             let request = wire::write(&message);
             let (bytes, len) = lent!(request);
             assert_eq!(
@@ -133,7 +134,7 @@ impl Engine {
         let out = vec![0; 39472];
         let mut engine = Engine {
             map,
-            before: Vec::new(),
+            before: PutBack::to(&header),
             header,
             stores,
             refused: [0; 4],
@@ -152,7 +153,7 @@ impl Engine {
 
     /// A node whose log has so many entries: the primary by writes, a backup, once aligned, by Replicate.
     fn with_log(id: u64, entries: u64) -> Engine {
-        let mut engine = Engine::new(id);
+        let mut engine = Engine::new(id, 0);
         if id == 2 {
             assert_eq!(
                 engine.arrive(sys::catalogue_new_epoch, &wire::write(&aligning())),
@@ -170,7 +171,7 @@ impl Engine {
                 engine.replied(STORED, n);
             }
         }
-        engine.before = engine.header.clone();
+        engine.stay();
         engine
     }
 
@@ -182,8 +183,19 @@ impl Engine {
         );
     }
 
+    /// The header as it is now is the one that is put back.
+    fn stay(&mut self) {
+        self.before = PutBack::to(&self.header);
+    }
+
+    /// A first call, whose changes are those of all that follow.
+    fn first(&mut self, call: impl Fn(&mut Engine)) {
+        call(self);
+        self.before.learn(&self.header);
+    }
+
     fn put_back(&mut self) {
-        self.header.copy_from_slice(&self.before);
+        self.before.put_back(&mut self.header);
     }
 
     fn show(&mut self) -> u32 {
@@ -347,9 +359,9 @@ type Arrival =
 
 // ----- The Rust ---------------------------------------------------------------------------
 
-fn rust_map() -> ShardMap {
+fn rust_map(metric: u8) -> ShardMap {
     let mut map = front::map::Map::default();
-    for message in commands() {
+    for message in commands(metric) {
         let Message::Request(request) = message else {
             unreachable!("commands are requests")
         };
@@ -461,6 +473,7 @@ fn writes(map: &ShardMap) {
             epoch: Epoch(EPOCH),
             op: convert::op(&put(n + 1)),
         };
+        engine.first(|e| assert_eq!(e.write(&message), 0));
         let row = measure::row(
             &format!("{n} entries"),
             1.0,
@@ -481,6 +494,7 @@ fn replicates(map: &ShardMap) {
         let message = wire::write(&replicate_of(n + 1));
         let rust = rust_with_log(2, n, map);
         let mut next = rust_replicate(n);
+        engine.first(|e| assert_eq!(e.replicate(&message), 0));
         let row = measure::row(
             &format!("{n} entries"),
             1.0,
@@ -510,6 +524,7 @@ fn copies(map: &ShardMap) {
         });
         let rust = rust_with_log(2, n, map);
         let mut batch: Vec<LogEntry> = entries.iter().map(convert::entry).collect();
+        engine.first(|e| assert_eq!(e.copy(&message), 0));
         let row = measure::row(
             &format!("{n} entries"),
             1.0,
@@ -543,6 +558,7 @@ fn waits(map: &ShardMap) {
         let mut engine = Engine::with_log(1, n);
         let rust = rust_with_log(1, n, map);
         let shard = convert::key(&key());
+        engine.first(|e| assert_eq!(e.wait(n), 1));
         let row = measure::row(
             &format!("{n} entries"),
             1.0,
@@ -613,6 +629,7 @@ fn shows(map: &ShardMap) {
     for n in [0, 1024] {
         let mut engine = Engine::with_log(1, n);
         let rust = rust_with_log(1, n, map);
+        engine.first(|e| assert_eq!(e.show(), 0));
         let row = measure::row(
             &format!("{n} entries"),
             1.0,
@@ -628,42 +645,99 @@ fn shows(map: &ShardMap) {
     }
 }
 
-fn searches(map: &ShardMap) {
-    measure::head("Search over the images, 32 components, 1,024 entries");
-    let mut engine = Engine::with_log(1, 1024);
-    let rust = rust_with_log(1, 1024, map);
-    let vector: Vec<f32> = (0..LENGTH).map(|i| 500.0 + i as f32).collect();
-    for k in [10, 100, 1024] {
-        let bits = vector.iter().map(|x| x.to_bits()).collect();
-        let message = wire::write(&Message::Search {
-            key: key(),
-            epoch: EPOCH,
-            k,
-            vector: bits,
-        });
-        let query = SearchQuery {
+/// The primary of a shard under a metric, with these vectors in its log.
+fn filled(metric: u8, writes: &[(u64, Vec<f32>)]) -> (Engine, Arc<Rust>) {
+    let mut engine = Engine::new(1, metric);
+    let rust = rust_node(1, &rust_map(metric));
+    for (id, vector) in writes {
+        let op = Op::Put {
+            id: *id,
+            vector: vector.iter().map(|x| x.to_bits()).collect(),
+        };
+        let write = Write {
             shard: convert::key(&key()),
             epoch: Epoch(EPOCH),
-            vector: vector.clone(),
-            k,
+            op: convert::op(&op),
         };
-        let row = measure::row(
-            &format!("k = {k}"),
-            1.0,
-            &mut || assert_eq!(engine.search(&message), 0),
-            &mut || {
-                let SearchResult::Found(found) = inside::search(&rust, 1, &query) else {
-                    panic!("it is primary")
-                };
-                assert_eq!(std::hint::black_box(found).len(), k as usize);
-            },
-        );
-        assert_eq!(engine.answer, u64::from(k).to_le_bytes());
-        measure::print(&row);
+        let (key, epoch) = (key(), EPOCH);
+        let message = wire::write(&Message::Write { key, epoch, op });
+        assert_eq!(engine.write(&message), 0);
+        rust_write(&rust, &write);
+    }
+    (engine, rust)
+}
+
+fn query_of(vector: &[f32], k: u32) -> SearchQuery {
+    SearchQuery {
+        shard: convert::key(&key()),
+        epoch: Epoch(EPOCH),
+        vector: vector.to_vec(),
+        k,
     }
 }
 
-/// The same epoch table again: nothing is cut.
+fn search_of(vector: &[f32], k: u32) -> Vec<u8> {
+    wire::write(&Message::Search {
+        key: key(),
+        epoch: EPOCH,
+        k,
+        vector: vector.iter().map(|x| x.to_bits()).collect(),
+    })
+}
+
+/// The neighbours that the engine's last search left are those that the Rust found.
+fn same_hits(engine: &Engine, rust: &Arc<Rust>, query: &SearchQuery) {
+    let SearchResult::Found(found) = inside::search(rust, 1, query) else {
+        panic!("it is primary")
+    };
+    assert_eq!(engine.answer, (found.len() as u64).to_le_bytes());
+    for (hit, bytes) in found.iter().zip(engine.out.chunks(12)) {
+        assert_eq!(bytes[..8], hit.id.to_le_bytes());
+        assert_eq!(bytes[8..], hit.distance.to_bits().to_le_bytes());
+    }
+}
+
+fn searches() {
+    let (writes, queries) = shard::samples();
+    let mut nodes = [filled(0, &writes), filled(1, &writes)];
+    for (engine, rust) in &mut nodes {
+        for (query, k) in queries
+            .iter()
+            .flat_map(|q| peers::NEIGHBOURS.map(|k| (q, k)))
+        {
+            assert_eq!(engine.search(&search_of(query, k)), 0);
+            same_hits(engine, rust, &query_of(query, k));
+        }
+    }
+    let [(plain, plain_rust), (angular, angular_rust)] = nodes;
+    let (mut engines, rusts) = ([plain, angular], [plain_rust, angular_rust]);
+    let place = |k| {
+        peers::NEIGHBOURS
+            .iter()
+            .position(|&n| n == k)
+            .expect("it is asked")
+    };
+    let of = |q: &Vec<f32>| peers::NEIGHBOURS.map(|k| (search_of(q, k), query_of(q, k)));
+    let asked: Vec<_> = queries.iter().map(of).collect();
+    let mut engine = |by_angle: bool, q: usize, k: u32| {
+        let message = &asked[q][place(k)].0;
+        assert_eq!(engines[usize::from(by_angle)].search(message), 0);
+    };
+    let what = "Search over the images, 1,024 vectors of 32 floats";
+    peers::table(
+        what,
+        "Rust",
+        queries.len(),
+        &mut engine,
+        &mut |by_angle, q, k| {
+            let query = &asked[q][place(k)].1;
+            std::hint::black_box(inside::search(&rusts[usize::from(by_angle)], 1, query));
+        },
+    );
+    peers::beside(what, &peers::Vectors::new(&writes), &queries, &mut engine);
+}
+
+/// The same epoch table again, at a higher epoch each time: nothing is cut.
 fn new_epochs(map: &ShardMap) {
     measure::head("NewEpoch that cuts nothing");
     for n in LOGS {
@@ -677,13 +751,14 @@ fn new_epochs(map: &ShardMap) {
             metric: 0,
         });
         let rust = rust_with_log(2, n, map);
-        let announced = NewEpoch {
+        let mut announced = NewEpoch {
             shard: convert::key(&key()),
-            epoch: Epoch(EPOCH + 1),
+            epoch: Epoch(EPOCH),
             end_offset: n,
             epochs: vec![(Epoch(EPOCH), n)],
             metric: Metric::Euclidean,
         };
+        engine.first(|e| assert_eq!(e.arrive(sys::catalogue_new_epoch, &message), 0));
         let row = measure::row(
             &format!("{n} entries"),
             1.0,
@@ -692,6 +767,7 @@ fn new_epochs(map: &ShardMap) {
                 assert_eq!(engine.arrive(sys::catalogue_new_epoch, &message), 0);
             },
             &mut || {
+                announced.epoch.0 += 1;
                 assert_eq!(
                     inside::new_epoch(&rust, announced.clone()),
                     NewEpochAck::Adopted { through: n }
@@ -732,7 +808,8 @@ fn headers(map: &ShardMap) {
     measure::print(&row);
     assert_eq!(engine.acked(2, &Message::Adopted(0)), 0);
     inside::record_ack(&rust, &shard, EPOCH, 2, 0, true);
-    engine.before = engine.header.clone();
+    engine.stay();
+    engine.first(|e| assert_eq!(e.acked(3, &Message::Stored(1)), 0));
     let row = measure::row(
         "ack of one entry (the Rust's is the same one again)",
         1.0,
@@ -745,6 +822,8 @@ fn headers(map: &ShardMap) {
         },
     );
     measure::print(&row);
+    engine.put_back();
+    engine.first(|e| assert_eq!(e.outcome(), 0));
     let time = measure::alone(1.0, &mut || {
         engine.put_back();
         assert_eq!(engine.outcome(), 0);
@@ -768,12 +847,12 @@ fn tests() {
 }
 
 pub fn node() {
-    let map = rust_map();
+    let map = rust_map(0);
     writes(&map);
     replicates(&map);
     copies(&map);
     new_epochs(&map);
-    searches(&map);
+    searches();
     waits(&map);
     steps(&map);
     shows(&map);

@@ -6,7 +6,7 @@ use generate::rng::Rng;
 use rpc::{Epoch, Metric, WriteOp};
 use wire::{Key, Message, Op};
 
-use crate::measure;
+use crate::{measure, peers};
 
 const ENTRIES: usize = 1024;
 const LENGTH: usize = 32;
@@ -218,39 +218,49 @@ fn same(store: &Store, replica: &ShardReplica, angular: bool, query: &[f32], k: 
     }
 }
 
-pub fn search() {
+/// Vectors of ids in no order, and queries, for the search over columns and the one over images.
+pub fn samples() -> (Vec<(u64, Vec<f32>)>, Vec<Vec<f32>>) {
     let mut rng = Rng::new(11);
     let writes = writes(&mut rng);
+    let queries = (0..16).map(|_| vector(&mut rng)).collect();
+    (writes, queries)
+}
+
+pub fn search() {
+    let (writes, queries) = samples();
     let mut store = Store::new();
     writes
         .iter()
         .for_each(|(id, v)| store.append(1, &message(*id, v)));
-    let queries: Vec<Vec<f32>> = (0..16).map(|_| vector(&mut rng)).collect();
-    measure::head("Search of 1,024 vectors of 32 floats, the test of the lent store included");
-    for (metric, angular) in [(Metric::Euclidean, false), (Metric::Angular, true)] {
-        let replica = replica(metric, &writes);
-        for k in [10, 100, 1024] {
-            queries
-                .iter()
-                .for_each(|q| same(&store, &replica, angular, q, k));
-            let (mut found, mut distances) = (vec![0; ENTRIES], vec![0.0; ENTRIES]);
-            let (mut i, mut j) = (0, 0);
-            let row = measure::row(
-                &format!("{}, k = {k}", if angular { "Angular" } else { "Euclidean" }),
-                1.0,
-                &mut || {
-                    i += 1;
-                    let n = store.search(angular, &queries[i % 16], k, &mut found, &mut distances);
-                    std::hint::black_box(n);
-                },
-                &mut || {
-                    j += 1;
-                    std::hint::black_box(replica.search(&queries[j % 16], k as usize));
-                },
-            );
-            measure::print(&row);
+    let replicas = [Metric::Euclidean, Metric::Angular].map(|metric| replica(metric, &writes));
+    let vectors = peers::Vectors::new(&writes);
+    for by_angle in [false, true] {
+        for (query, k) in queries
+            .iter()
+            .flat_map(|q| peers::NEIGHBOURS.map(|k| (q, k)))
+        {
+            let replica = &replicas[usize::from(by_angle)];
+            same(&store, replica, by_angle, query, k);
+            vectors.same(by_angle, query, &replica.search(query, k as usize));
         }
     }
+    let (mut found, mut distances) = (vec![0; ENTRIES], vec![0.0; ENTRIES]);
+    let mut engine = |by_angle: bool, q: usize, k: u32| {
+        let n = store.search(by_angle, &queries[q], k, &mut found, &mut distances);
+        std::hint::black_box(n);
+    };
+    let what = "Search of 1,024 vectors of 32 floats, the test of the lent store included";
+    peers::table(
+        what,
+        "Rust",
+        queries.len(),
+        &mut engine,
+        &mut |by_angle, q, k| {
+            let replica = &replicas[usize::from(by_angle)];
+            std::hint::black_box(replica.search(&queries[q], k as usize));
+        },
+    );
+    peers::beside(what, &vectors, &queries, &mut engine);
     let test = measure::alone(1.0, &mut || assert!(std::hint::black_box(&store).test()));
     println!("\nThe test of the lent store alone: {test:.0} ns.");
 }
