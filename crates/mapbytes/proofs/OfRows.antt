@@ -9,14 +9,16 @@ use borrow.Author.Tests.{le-leb, lt-leb, le-ltb, lt-ltb, eq-eqb, ne-eqb, leb-tru
 use native.Mathlib.Omega.{arith}
 use native.Mathlib.Nat.{mul-suc}
 use Rattle.model.specs.Lists.{_and_, rising, every, lead, any}
-use Rattle.model.specs.Keys.{Key, nameBelow, keyBelow, sameKey}
+use Rattle.model.specs.Keys.{Key, nameBelow, keyBelow, sameName, sameKey}
 use Rattle.model.specs.Layout.Format.{numberAt}
 use Rattle.model.specs.Map.Apply.{isClient, isShard}
+use Rattle.model.specs.Map.Create.{isNamed}
 use Rattle.model.specs.Map.Change.{holds, isOn, idBelow}
 use Rattle.model.specs.Map.WellFormed.{tableFits}
 use Rattle.model.proofs.Lists.{by-test}
 use Rattle.model.specs.declared.DataNodeId.{DataNodeId}
 use Rattle.model.specs.declared.Replica.{Replica}
+use Rattle.state.specs.declared.Name.{Name}
 use Rattle.state.specs.declared.ShardKey.{ShardKey}
 use Rattle.state.specs.Names.{viewName, viewKey}
 use Rattle.state.specs.View.{viewNode, viewCollection, viewShard, viewSession, viewSessions, viewShards}
@@ -303,3 +305,24 @@ code-none (suc (suc (suc (suc (suc (suc (suc (suc (suc (suc (suc (suc (suc (suc 
 code-none (suc (suc (suc (suc (suc (suc (suc (suc (suc (suc (suc (suc (suc (suc (suc zero))))))))))))))) fits n0 n1 n2 n3 n4 n5 n6 n7 n8 n9 n10 n11 n12 n13 n14 n15 n16 = absurd (n15 refl)
 code-none (suc (suc (suc (suc (suc (suc (suc (suc (suc (suc (suc (suc (suc (suc (suc (suc zero)))))))))))))))) fits n0 n1 n2 n3 n4 n5 n6 n7 n8 n9 n10 n11 n12 n13 n14 n15 n16 = absurd (n16 refl)
 code-none (suc (suc (suc (suc (suc (suc (suc (suc (suc (suc (suc (suc (suc (suc (suc (suc (suc c))))))))))))))))) fits n0 n1 n2 n3 n4 n5 n6 n7 n8 n9 n10 n11 n12 n13 n14 n15 n16 = refl
+
+-- ---- where a row stands, and where it belongs
+
+pub node-is : (s : List ℕ) (at : ℕ) → viewNode (nodeAt s at) .node ≡ numberAt 8 s at
+unfolding nodeAt
+node-is s at = refl
+
+pub name-hit : (s : List ℕ) (at : ℕ) (name k : Name) → k ≡ nameAt s at → (b : Bool) → b ≡ sameName (viewName k) (viewName name)
+    → isNamed (viewName name) (viewCollection (collectionAt s at)) ≡ b
+unfolding collectionAt nameAt
+name-hit s at name k e b f = sym (f ∙ ap (λ (x : Name). sameName (viewName x) (viewName name)) e)
+
+pub name-low : (s : List ℕ) (at : ℕ) (name k : Name) → k ≡ nameAt s at → (b : Bool) → b ≡ nameBelow (viewName k) (viewName name)
+    → nameBelow (viewCollection (collectionAt s at) .name) (viewName name) ≡ b
+unfolding collectionAt nameAt
+name-low s at name k e b f = sym (f ∙ ap (λ (x : Name). nameBelow (viewName x) (viewName name)) e)
+
+pub key-low : (s : List ℕ) (at : ℕ) (key k : ShardKey) → k ≡ keyAt s at → (b : Bool) → b ≡ keyBelow (viewKey k) (viewKey key)
+    → keyBelow (viewShard (shardAt s at) .key) (viewKey key) ≡ b
+unfolding shardAt keyAt
+key-low s at key k e b f = sym (f ∙ ap (λ (x : ShardKey). keyBelow (viewKey x) (viewKey key)) e)

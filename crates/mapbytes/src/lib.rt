@@ -5,4 +5,5 @@ pub mod formed;
 pub mod layout;
 pub mod lent;
 pub mod place;
+pub mod room;
 mod rows;

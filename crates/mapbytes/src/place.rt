@@ -1,18 +1,57 @@
-// Where a client's session and a key's shard stand.
+// Where the row of a node, a collection, a shard or a client stands.
 ghost use mathlib.Core.Path.{_≡_};
 ghost use Rattle.model.specs.Map.Apply.{isClient, isShard};
-ghost use Rattle.state.specs.Names.{viewKey};
+ghost use Rattle.model.specs.Map.Create.{isNode, isNamed};
+ghost use Rattle.state.specs.Names.{viewKey, viewName};
 ghost use Rattle.state.specs.Find.{firstAt};
-ghost use Rattle.state.specs.View.{viewSessions, viewShards};
-ghost use Rattle.mapimage.specs.Image.{shardsAt, sessionsAt};
-ghost use Rattle.mapbytes.specs.Places.{SessionsCount, ShardsCount};
+ghost use Rattle.state.specs.View.{viewNodes, viewCollections, viewSessions, viewShards};
+ghost use Rattle.mapimage.specs.Image.{nodesAt, collectionsAt, shardsAt, sessionsAt};
+ghost use Rattle.mapbytes.specs.Places.{NodesCount, CollectionsCount, ShardsCount, SessionsCount};
+use crate::layout::COLLECTION;
+use crate::layout::COLLECTIONS;
+use crate::layout::NODE;
+use crate::layout::NODES;
 use crate::layout::SESSION;
 use crate::layout::SESSIONS;
 use crate::layout::SHARD;
 use crate::layout::SHARDS;
 use image::keys::key_at;
+use image::keys::name_at;
+use state::Name;
 use state::ShardKey;
 use state::names::same_key;
+use state::names::same_name;
+
+// The place of the node, or `count`.
+pub fn node_place(s: &[u8], count: usize, node: u64) -> usize
+    requires { ⌜ NodesCount (now s) count ⌝ }
+    ensures { λ r. ⌜ r ≡ firstAt (isNode node) (viewNodes (nodesAt (now (s .entry)))) ⌝ }
+{
+    let mut i: usize = 0;
+    while i < count {
+        if num::get8(s, NODES + NODE * i) == node {
+            return i;
+        }
+        i += 1;
+    }
+    i
+}
+
+// The place of the collection, or `count`.
+pub fn collection_place(s: &[u8], count: usize, name: Name) -> usize
+    requires { ⌜ CollectionsCount (now s) count ⌝ }
+    ensures { λ r. ⌜ r ≡ firstAt (isNamed (viewName name)) (viewCollections (collectionsAt (now (s .entry)))) ⌝ }
+{
+    let mut i: usize = 0;
+    while i < count {
+        let k = name_at(s, COLLECTIONS + COLLECTION * i);
+        if same_name(k, name) {
+            return i;
+        }
+        i += 1;
+    }
+    i
+}
 
 // The place of the client's session, or `count`.
 pub fn session_place(s: &[u8], count: usize, client: u64) -> usize

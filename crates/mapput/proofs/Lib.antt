@@ -1,0 +1,4 @@
+pub mod OfBytes
+pub mod OfGood
+pub mod OfTidy
+pub mod OfWhole
