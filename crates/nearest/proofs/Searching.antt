@@ -6,7 +6,7 @@ use mathlib.Core.List.{List, [], _∷_, map}
 use mathlib.Core.Logic.{_⊎_, inl, inr}
 use native.Mathlib.Nat.{le-of-lt}
 use native.Mathlib.Omega.{arith}
-use lib.Dec.{T, leb, ltb, eqb, ltb→lt}
+use lib.Dec.{T, T-not, not-T, leb, ltb, eqb, ltb→lt}
 use lib.Ieee.{Float, nan, binary32, fits, toBits}
 use borrow.Author.Tests.{leb-true, ltb-true, ltb-false, eqb-true, eqb-false, lt-ltb}
 use lib.ListN.{length, take, getD, length-map, List·getD-map}
@@ -25,7 +25,7 @@ use Rattle.model.proofs.Map.Rows.{every-tail}
 use Rattle.model.proofs.Nearest.Classes.{before-plus}
 use Rattle.model.proofs.Nearest.Exact.{sqrt-nearest, plus-float}
 use Rattle.model.proofs.Nearest.NoNan.{squares-rootable}
-use Rattle.model.proofs.Nearest.Rank.{behind-not-nearer}
+use Rattle.model.proofs.Nearest.Rank.{nearer-holds, behind-not-nearer}
 use Rattle.model.proofs.Nearest.Skip.{squares-fits, passed-over}
 use Rattle.shard.specs.View.{columns, logOf, firsts, stretch, opOf}
 use Rattle.shard.specs.Table.{Row, rowBelow, vectorOf, vectorsOf}
@@ -36,7 +36,7 @@ use Rattle.shard.proofs.Firsts.{firsts-length, firsts-at}
 use Rattle.shard.proofs.Rows.{rows-length, rows-at, no-row}
 use Rattle.ieee.specs.declared.sums.Kind.{Kind}
 use Rattle.ieee.specs.Halves.{settled, kindOf, elementOf}
-use Rattle.nearest.specs.Column.{Ready, neighborAt, bitsAt, Selectable, rough, Walkable}
+use Rattle.nearest.specs.Column.{Ready, neighborAt, bitsOf, bitsAt, Selectable, rough, Walkable}
 use Rattle.nearest.proofs.Settled.{rough-settled, rough-ready}
 
 -- ---- stored vectors lie in the domain
@@ -127,7 +127,7 @@ ids-rise d (x ∷ l) r (suc i) zero h k = absurd (omega arith)
 ids-rise d (x ∷ l) r zero (suc j) h k = below-all x d l r j (omega arith)
 ids-rise d (x ∷ l) r (suc i) (suc j) h k = ids-rise d l (rising-rest x l r) i j (omega arith) (omega arith)
 
--- ---- an element further back, a later id: not nearer
+-- ---- an element further back: no lesser distance
 
 -- a sum has a plus sign
 sum-plus : (q v : List Float) → Bounded q → Bounded v → toBits binary32 (squares q v) < 2 ^ 31
@@ -136,15 +136,24 @@ sum-plus q v a b =
     let r = sqrt-nearest (squares q v) f (squares-rootable q v a b) in
     plus-float (squares q v) (r .u) f (r .ofX) .0
 
-not-nearer : (m : Metric) (q : List Float) (a b : Vector) → Bounded q → Bounded (a .components) → Bounded (b .components)
-    → T (before (toBits binary32 (rough m q (a .components))) (toBits binary32 (rough m q (b .components)))) → a .id ≤ b .id
-    → T (not (nearer (neighbor m q b) (neighbor m q a)))
+-- of two neighbours with one id, the one that is not nearer has no lesser distance
+not-before : (a b : Neighbor) → T (not (nearer b a)) → T (not (before (bitsOf b) (bitsOf a)))
+not-before a b n = not-T (before (bitsOf b) (bitsOf a)) (λ t. T-not (nearer b a) n (nearer-holds b a (inl t)))
+
+-- the neighbour that a vector of components makes, under any id
+abbrev shape : List Float → Vector
+shape v = record { id = 0; components = v }
+
+not-lesser : (m : Metric) (q a b : List Float) → Bounded q → Bounded a → Bounded b
+    → T (before (toBits binary32 (rough m q a)) (toBits binary32 (rough m q b)))
+    → T (not (before (toBits binary32 (distance m q b)) (toBits binary32 (distance m q a))))
 unfolding elementOf neighbor distance
-not-nearer Euclidean q a b l m n h i =
-    passed-over q a b l m n (le-of-lt (ltb→lt (toBits binary32 (squares q (a .components))) (toBits binary32 (squares q (b .components)))
-    (subst T (before-plus (toBits binary32 (squares q (a .components))) (toBits binary32 (squares q (b .components)))
-    (sum-plus q (a .components) l m) (sum-plus q (b .components) l n)) h))) i
-not-nearer Angular q a b l m n h i = behind-not-nearer (neighbor Angular q a) (neighbor Angular q b) h
+not-lesser Euclidean q a b l m n h =
+    not-before (neighbor Euclidean q (shape a)) (neighbor Euclidean q (shape b))
+    (passed-over q (shape a) (shape b) l m n (le-of-lt (ltb→lt (toBits binary32 (squares q a)) (toBits binary32 (squares q b))
+    (subst T (before-plus (toBits binary32 (squares q a)) (toBits binary32 (squares q b)) (sum-plus q a l m) (sum-plus q b l n)) h))) (omega arith))
+not-lesser Angular q a b l m n h =
+    not-before (neighbor Angular q (shape a)) (neighbor Angular q (shape b)) (behind-not-nearer (neighbor Angular q (shape a)) (neighbor Angular q (shape b)) h)
 
 -- ---- the stored vectors
 module _ (s : Store) (f : Facts s) (z : Sized s) (m : Metric) (q : List Float) (asked : Bounded q) where
@@ -191,16 +200,16 @@ module _ (s : Store) (f : Facts s) (z : Sized s) (m : Metric) (q : List Float) (
     bounded : (i : ℕ) → Bounded (lookup (storeLog s) (getD (s .places) i 0))
     bounded i = look-bounded (storeLog s) (getD (s .places) i 0) (f .entries)
 
-    passes : (i j : ℕ) → i < j → j < s .stored → T (before (bitsAt xs i) (bitsAt xs j))
-        → T (not (nearer (neighborAt (kindOf m) (s .keys) xs j) (neighborAt (kindOf m) (s .keys) xs i)))
-    passes i j h k l =
-        let hi : i < s .stored = omega arith in
+    passes : (i j : ℕ) → i < s .stored → j < s .stored → T (before (bitsAt xs i) (bitsAt xs j))
+        → T (not (before (bitsOf (neighborAt (kindOf m) (s .keys) xs j)) (bitsOf (neighborAt (kindOf m) (s .keys) xs i))))
+    unfolding neighbor
+    passes i j hi hj l =
         let ahead : T (before (toBits binary32 (rough m q (vec i .components))) (toBits binary32 (rough m q (vec j .components)))) =
         subst (λ (x : Float). T (before (toBits binary32 x) (toBits binary32 (rough m q (vec j .components))))) (filled i hi)
-        (subst (λ (x : Float). T (before (bitsAt xs i) (toBits binary32 x))) (filled j k) l) in
-        subst (λ (x : Neighbor). T (not (nearer x (neighborAt (kindOf m) (s .keys) xs i)))) (sym (at-neighbor j k))
-        (subst (λ (x : Neighbor). T (not (nearer (neighbor m q (vec j)) x))) (sym (at-neighbor i hi))
-        (not-nearer m q (vec i) (vec j) asked (bounded i) (bounded j) ahead (omega (arith, keys-rise i j h k))))
+        (subst (λ (x : Float). T (before (bitsAt xs i) (toBits binary32 x))) (filled j hj) l) in
+        subst (λ (x : Neighbor). T (not (before (bitsOf x) (bitsOf (neighborAt (kindOf m) (s .keys) xs i))))) (sym (at-neighbor j hj))
+        (subst (λ (x : Neighbor). T (not (before (bitsOf (neighbor m q (vec j))) (bitsOf x)))) (sym (at-neighbor i hi))
+        (not-lesser m q (vec i .components) (vec j .components) asked (bounded i) (bounded j) ahead))
 
     selectable : Selectable (kindOf m) (s .keys) xs (s .stored)
     selectable = record {

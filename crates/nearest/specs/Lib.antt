@@ -1,3 +1,4 @@
 pub mod Search
 pub mod Column
+pub mod Chosen
 pub mod Arrange

@@ -2,29 +2,14 @@
 // root that is. Vectors as long as the query are taken four at a time.
 
 use ieee::four::Four;
-use ieee::sums::Kind;
 use model::Metric;
 use model::Offset;
 ghost use mathlib.Core.Path.{_≡_};
 ghost use mathlib.Core.Bool.{true};
-ghost use Prim.Native.Nat.{ℕ, _-_, _*_, _≤_, _<_};
-ghost use lib.Ieee.{nan};
-ghost use lib.ListN.{length, getD};
+ghost use Prim.Native.Nat.{_-_, _*_, _≤_, _<_};
+ghost use lib.ListN.{length};
 ghost use Rattle.ieee.specs.Lanes.{Measurable};
-ghost use Rattle.nearest.specs.Column.{Ready, FourRough, Whole, FourWhole, Walkable, Filled, Settled};
-
-// Internal: the first n elements become the distances that they stand for.
-pub fn settle_all(xs: &mut [f32], n: usize, kind: Kind)
-    requires { ⌜ (n ≤ length (now xs)) × ((i : ℕ) → i < n → Ready kind (getD (now xs) i nan)) ⌝ }
-    ensures { λ _. ⌜ (length (now (xs .exit)) ≡ length (now (xs .entry))) × Settled kind (now (xs .entry)) (now (xs .exit)) n ⌝ }
-{
-    let mut i: usize = 0;
-    while i < n {
-        let x = xs[i];
-        xs[i] = ieee::sums::settle(kind, x);
-        i += 1;
-    }
-}
+ghost use Rattle.nearest.specs.Column.{FourRough, Whole, FourWhole, Walkable, Filled};
 
 // Internal: the elements of four vectors of n floats, in step.
 fn rough_four(

@@ -51,8 +51,5 @@ pub fn nearest(
         qnorm,
         &mut xs,
     );
-    if k <= 100 {
-        return super::select::select(keys, &xs, stored, kind, k);
-    }
-    super::select::select_many(keys, &mut xs, stored, kind, k)
+    super::select::choose(keys, &xs, stored, kind, k)
 }

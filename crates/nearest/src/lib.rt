@@ -6,4 +6,4 @@ mod arrange;
 mod column;
 mod first;
 pub mod query;
-mod select;
+pub mod select;

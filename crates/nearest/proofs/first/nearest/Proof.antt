@@ -1,18 +1,16 @@
--- `nearest::first::nearest` meets its contract. Assumes nothing.
+-- `first::nearest` meets its contract. Assumes nothing.
 use borrow.Author.Needs.{needs}
 use native.Mathlib.Omega.{arith}
-use mathlib.Core.Path.{_∙_}
+use mathlib.Core.Path.{_≡_, refl, sym, _∙_, ap}
+use mathlib.Core.List.{List, [], _∷_, _++_}
+use Prim.Native.Nat.{ℕ, _+_, _-_, _*_, _≤_, _<_}
+use lib.ListN.{length, getD, take, drop, set}
 use Rattle.shard.specs.View.{columns}
 use Rattle.shard.specs.Store.{lent}
 use Rattle.shard.proofs.Facts.{facts}
 use Rattle.nearest.proofs.Searching.{walkable, column-selectable, column-hits}
 use Rattle.nearest.proofs.first.nearest.Statement.{statement}
 use Rattle.nearest.proofs.first.nearest.Tie as tie
-use Rattle.ieee.proofs.sums.norm.Reads as norm-reads
-use Rattle.nearest.proofs.column.fill.Reads as fill-reads
-use Rattle.ieee.proofs.sums.kind_of.Reads as kind-of-reads
-use Rattle.nearest.proofs.select.select.Reads as select-reads
-use Rattle.nearest.proofs.select.select_many.Reads as select-many-reads
 
 norm-requires : tie.Need-norm-requires
 norm-requires c κs = search needs
@@ -24,81 +22,24 @@ slice-aggregate-fill : tie.Need-slice-aggregate-fill
 slice-aggregate-fill c = search needs
 
 fill-requires : tie.Need-fill-requires
-fill-requires c κs =
-    let a = c .before .before .before .before .before .before .before .before .before .before .before .before .args in
-    let p = c .before .before .before .before .before .before .before .before .before .before .before .before .pre in
+fill-requires c κs = let a = (c .before .before .before .before .before .before .before .before .before .before .before .before .args) in let p = (c .before .before .before .before .before .before .before .before .before .before .before .before .pre) in
     let s = lent (columns (a .epochs .now) (a .offsets .now) (a .ids .now) (a .codes .now) (a .lengths .now) (a .floats .now)) (a .keys .now) (a .places .now) (a .count) (a .stored) in
-    let f = facts s (p .1) in
-    (walkable s f (p .0) (a .metric) (a .query .now) (p .2) _ (c .before .before .norm .ensures), f .stored)
+    let f = facts s (p .1) in (walkable s f (p .0) (a .metric) (a .query .now) (p .2) _ ((c .before .before .norm) .ensures), f .stored)
 
-slice-aggregate-select : tie.Need-slice-aggregate-select
-slice-aggregate-select c = search needs
+slice-aggregate-choose : tie.Need-slice-aggregate-choose
+slice-aggregate-choose c = search needs
 
-select-requires : tie.Need-select-requires
-select-requires c κs =
-    let a = c .before .before .before .before .before .before .before .before .before .before .before .before .before .before .before .before .args in
-    let p = c .before .before .before .before .before .before .before .before .before .before .before .before .before .before .before .before .pre in
+choose-requires : tie.Need-choose-requires
+choose-requires c κs = let a = (c .before .before .before .before .before .before .before .before .before .before .before .before .before .before .before .args) in let p = (c .before .before .before .before .before .before .before .before .before .before .before .before .before .before .before .pre) in
     let s = lent (columns (a .epochs .now) (a .offsets .now) (a .ids .now) (a .codes .now) (a .lengths .now) (a .floats .now)) (a .keys .now) (a .places .now) (a .count) (a .stored) in
-    let f = facts s (p .1) in
-    let e = c .before .before .before .fill .ensures in (
-      column-selectable s f (p .0) (a .metric) (a .query .now) (p .2) _ (omega (arith, e .0, f .stored)) (e .1 (a .epochs .now) (a .offsets .now) (a .ids .now)) _ (c .before .before .before .before .before .kind-of .ensures),
-      p .3,
-    )
+    let f = facts s (p .1) in let e = (c .before .before .fill) .ensures in
+    (column-selectable s f (p .0) (a .metric) (a .query .now) (p .2) _ (omega (arith, e .0, f .stored)) (e .1 (a .epochs .now) (a .offsets .now) (a .ids .now)) _ ((c .before .before .before .before .kind-of) .ensures), p .3, f .stored)
 
 returns : tie.Need-returns
-returns c =
-    let a = c .before .before .before .before .before .before .before .before .before .before .before .before .before .before .before .before .before .args in
-    let p = c .before .before .before .before .before .before .before .before .before .before .before .before .before .before .before .before .before .pre in
+returns c = let a = (c .before .before .before .before .before .before .before .before .before .before .before .before .before .before .before .before .args) in let p = (c .before .before .before .before .before .before .before .before .before .before .before .before .before .before .before .before .pre) in
     let s = lent (columns (a .epochs .now) (a .offsets .now) (a .ids .now) (a .codes .now) (a .lengths .now) (a .floats .now)) (a .keys .now) (a .places .now) (a .count) (a .stored) in
-    let f = facts s (p .1) in
-    let e = c .before .before .before .before .fill .ensures in
-    let r = c .select .ensures in (
-      r .0,
-      r .1,
-      r .2
-          ∙ column-hits s f (p .0) (a .metric) (a .query .now) (p .2) _ (omega (arith, e .0, f .stored)) (e .1 (a .epochs .now) (a .offsets .now) (a .ids .now)) _ (c .before .before .before .before .before .before .kind-of .ensures) (a .k),
-    )
-
-slice-aggregate-select-many : tie.Need-slice-aggregate-select-many
-slice-aggregate-select-many c = search needs
-
-select-many-requires : tie.Need-select-many-requires
-select-many-requires c κs =
-    let a = c .before .before .before .before .before .before .before .before .before .before .before .before .before .before .before .before .args in
-    let p = c .before .before .before .before .before .before .before .before .before .before .before .before .before .before .before .before .pre in
-    let s = lent (columns (a .epochs .now) (a .offsets .now) (a .ids .now) (a .codes .now) (a .lengths .now) (a .floats .now)) (a .keys .now) (a .places .now) (a .count) (a .stored) in
-    let f = facts s (p .1) in
-    let e = c .before .before .before .fill .ensures in (
-      column-selectable s f (p .0) (a .metric) (a .query .now) (p .2) _ (omega (arith, e .0, f .stored)) (e .1 (a .epochs .now) (a .offsets .now) (a .ids .now)) _ (c .before .before .before .before .before .kind-of .ensures),
-      p .3,
-      f .stored,
-    )
-
-returns-2 : tie.Need-returns-2
-returns-2 c =
-    let a = c .before .before .before .before .before .before .before .before .before .before .before .before .before .before .before .before .before .before .args in
-    let p = c .before .before .before .before .before .before .before .before .before .before .before .before .before .before .before .before .before .before .pre in
-    let s = lent (columns (a .epochs .now) (a .offsets .now) (a .ids .now) (a .codes .now) (a .lengths .now) (a .floats .now)) (a .keys .now) (a .places .now) (a .count) (a .stored) in
-    let f = facts s (p .1) in
-    let e = c .before .before .before .before .before .fill .ensures in
-    let r = c .before .select-many .ensures in (
-      r .0,
-      r .1,
-      r .2
-          ∙ column-hits s f (p .0) (a .metric) (a .query .now) (p .2) _ (omega (arith, e .0, f .stored)) (e .1 (a .epochs .now) (a .offsets .now) (a .ids .now)) _ (c .before .before .before .before .before .before .before .kind-of .ensures) (a .k),
-    )
+    let f = facts s (p .1) in let e = (c .before .before .before .fill) .ensures in let r = (c .choose) .ensures in
+    (r .long, r .most, r .first ∙ column-hits s f (p .0) (a .metric) (a .query .now) (p .2) _ (omega (arith, e .0, f .stored)) (e .1 (a .epochs .now) (a .offsets .now) (a .ids .now)) _ ((c .before .before .before .before .before .kind-of) .ensures) (a .k))
 
 pub nearest-spec : {M : Type 1} → statement M
-nearest-spec =
-    tie.close
-    (tie.spec
-    norm-requires
-    kind-of-requires
-    slice-aggregate-fill
-    fill-requires
-    slice-aggregate-select
-    select-requires
-    returns
-    slice-aggregate-select-many
-    select-many-requires
-    returns-2)
+nearest-spec = tie.close (tie.spec norm-requires kind-of-requires slice-aggregate-fill fill-requires slice-aggregate-choose choose-requires returns)
