@@ -1,0 +1,3 @@
+pub mod OfFour
+pub mod OfColumn
+pub mod OfStore
