@@ -74,7 +74,7 @@ pub extern "C" fn catalogue_ack(
 ) -> u32
     ensures { λ r. ⌜ Acks (now (header .entry)) (now (header .exit)) (now (name .entry)) (now (reply .entry)) shard epoch peer step r ⌝ }
 {
-    headercalls::ack::ack(header, name, shard, epoch, peer, step, reply)
+    ackcalls::ack::ack(header, name, shard, epoch, peer, step, reply)
 }
 
 #[no_mangle]

@@ -1,0 +1,3 @@
+pub mod OfHeeds
+pub mod OfDeeds
+pub mod OfAck

@@ -1,0 +1,59 @@
+-- One row of a header changed where it stands. Definitions only.
+use Prim.Native.Nat.{ℕ, _+_}
+use mathlib.Core.Bool.{Bool, false}
+use mathlib.Core.Path.{_≡_}
+use mathlib.Core.List.{List}
+use lib.ListN.{length, take, drop, set}
+use Rattle.model.specs.declared.Peer.{Peer}
+use Rattle.model.specs.declared.Role.{Role}
+use Rattle.model.specs.declared.Role.the-variants.{Backup}
+use Rattle.node.specs.declared.Held.{Held}
+use Rattle.node.specs.View.{withRows}
+use Rattle.header.specs.declared.Kept.{Kept}
+use Rattle.header.specs.View.{keptAs}
+use Rattle.headerrows.specs.Rows.{keptAt}
+
+-- all but `width` bytes from a position on are as they were
+pub record Outside (s t : List ℕ) (at width : ℕ) : Type 0 where
+  pub long : length t ≡ length s
+  pub front : take at t ≡ take at s
+  pub back : drop (at + width) t ≡ drop (at + width) s
+
+-- the row at a position becomes x, and nothing else is changed
+pub record RowBecomes (s t : List ℕ) (at : ℕ) (x : Kept) : Type 0 where
+  pub outside : Outside s t at 1280
+  pub row : keptAt t at ≡ x
+
+-- ---- a shard with one thing changed
+
+abbrev pub heldWith : Held → Role → (own : Bool) → (count : ℕ) → Held
+heldWith h role own count = record {
+  epoch = h .epoch;
+  metric = h .metric;
+  last = h .last;
+  role = role;
+  own = own;
+  replicas = h .replicas;
+  holders = h .holders;
+  peers = h .peers;
+  count = count;
+}
+
+-- the row of one peer
+abbrev pub peerSet : Kept → ℕ → Peer → Kept
+peerSet x i q = keptAs x (withRows (x .held) (set (x .held .peers) i q))
+
+-- whether the node is in its own ack set
+abbrev pub ownSet : Kept → Bool → Kept
+ownSet x own = keptAs x (heldWith (x .held) (x .held .role) own (x .held .count))
+
+abbrev pub roleSet : Kept → Role → Kept
+roleSet x role = keptAs x (heldWith (x .held) role (x .held .own) (x .held .count))
+
+-- how many peers
+abbrev pub countSet : Kept → ℕ → Kept
+countSet x count = keptAs x (heldWith (x .held) (x .held .role) (x .held .own) count)
+
+-- node.rs, step_down: the primary role left, with all that the record tracked
+abbrev pub steppedDown : Held → Held
+steppedDown h = heldWith h Backup false 0

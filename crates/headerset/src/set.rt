@@ -1,0 +1,46 @@
+// One field of a row, stored where it stands.
+ghost use Prim.Native.Nat.{_+_, _≤_, _<_};
+ghost use lib.ListN.{length};
+ghost use Rattle.header.specs.View.{keptAs};
+ghost use Rattle.headerrows.specs.Rows.{keptAt};
+ghost use Rattle.headerset.specs.Row.{RowBecomes, peerSet, ownSet, steppedDown};
+use headerrows::held::put_role;
+use headerrows::peers::put_peer;
+use image::codes::flag_code;
+use model::Peer;
+use model::Role;
+
+// Where a row has them.
+const COUNT: usize = 88;
+
+const OWN: usize = 100;
+
+const ROLE: usize = 108;
+
+const PEERS: usize = 256;
+
+// The row of the i-th peer.
+pub fn set_peer(out: &mut [u8], row: usize, i: usize, p: Peer)
+    requires { ⌜ (row + 1280 ≤ length (now out)) × (i < 32) ⌝ }
+    ensures { λ _. ⌜ RowBecomes (now (out .entry)) (now (out .exit)) row (peerSet (keptAt (now (out .entry)) row) i p) ⌝ }
+{
+    put_peer(out, row + PEERS + 32 * i, p);
+}
+
+// Whether the node is in its own ack set.
+pub fn set_own(out: &mut [u8], row: usize, own: bool)
+    requires { ⌜ row + 1280 ≤ length (now out) ⌝ }
+    ensures { λ _. ⌜ RowBecomes (now (out .entry)) (now (out .exit)) row (ownSet (keptAt (now (out .entry)) row) own) ⌝ }
+{
+    num::put4(out, row + OWN, flag_code(own));
+}
+
+// The primary role left, with all that the record tracked.
+pub fn step_down(out: &mut [u8], row: usize)
+    requires { ⌜ row + 1280 ≤ length (now out) ⌝ }
+    ensures { λ _. ⌜ RowBecomes (now (out .entry)) (now (out .exit)) row (keptAs (keptAt (now (out .entry)) row) (steppedDown (keptAt (now (out .entry)) row .held))) ⌝ }
+{
+    put_role(out, row + ROLE, Role::Backup);
+    num::put8(out, row + COUNT, 0);
+    set_own(out, row, false);
+}
