@@ -89,5 +89,5 @@ pub extern "C" fn catalogue_outcome(
 ) -> u32
     ensures { λ r. ⌜ Settles (now (header .entry)) (now (header .exit)) (now (name .entry)) shard epoch peer command applied r ⌝ }
 {
-    headercalls::outcome::outcome(header, name, shard, epoch, peer, command, applied)
+    outcomecalls::outcome::outcome(header, name, shard, epoch, peer, command, applied)
 }

@@ -1,0 +1,2 @@
+pub mod OfSettle
+pub mod OfOutcome
