@@ -1,0 +1,48 @@
+// The state that a call which names a shard is lent (paper 01, 'Who is turned down', 24): a header and eight stores as bytes, tested where they
+// stand. Internal: what the calls with a store begin with.
+ghost use Rattle.state.specs.Names.{viewKey};
+ghost use Rattle.lentbytes.specs.Find.{FindsIn};
+use headerbytes::formed::is_formed;
+use headerbytes::place::place_at;
+use headerimage::is_lent;
+use lend::Lent;
+use row::LAST;
+use row::ROW;
+use row::ROWS;
+use row::SHARDS;
+use row::SLOT;
+use row::STORE;
+use row::STORED;
+use row::STORES;
+use state::ShardKey;
+use storebytes::is_store;
+
+pub mod row;
+
+// Where the shard of a key stands in the header, if the header passes its test and the shard's store its own.
+pub fn find(header: &[u8], stores: &[u8], key: ShardKey) -> Lent
+    ensures { λ r. ⌜ FindsIn (now (header .entry)) (now (stores .entry)) (viewKey key) r ⌝ }
+{
+    if !is_lent(header) {
+        return Lent::Malformed;
+    }
+    if !is_formed(header) {
+        return Lent::Malformed;
+    }
+    if stores.len() < STORES {
+        return Lent::Malformed;
+    }
+    let count = num::get8(header, SHARDS) as usize;
+    let at = place_at(header, count, key);
+    if count <= at {
+        return Lent::Absent;
+    }
+    let row = ROWS + ROW * at;
+    let slot = num::get8(header, row + SLOT) as usize;
+    let last = num::get8(header, row + LAST) as usize;
+    let stored = num::get8(header, row + STORED) as usize;
+    if !is_store(stores, slot * STORE, last, stored) {
+        return Lent::Malformed;
+    }
+    Lent::At(at)
+}
