@@ -1,3 +1,5 @@
 pub mod OfCodes
 pub mod OfTold
+pub mod OfSome
+pub mod OfFound
 pub mod OfSteps

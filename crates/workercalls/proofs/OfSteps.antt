@@ -1,21 +1,32 @@
 -- Laws of a worker's step over the images, one for each way out. Assumes nothing.
 use Prim.Native.Nat.{ℕ, _≤_, _<_}
-use mathlib.Core.Path.{_≡_, refl, sym, subst, _∙_}
-use mathlib.Core.Bool.{Bool, true, false}
+use mathlib.Core.Path.{_≡_, refl, sym, ap, subst, _∙_}
+use mathlib.Core.Bool.{Bool, true, false, cond}
 use mathlib.Core.List.{List}
 use borrow.Author.Tests.{lt-leb, le-leb}
+use lib.Seq.{sets}
 use Rattle.model.specs.Limits.{maxName}
 use Rattle.model.specs.Lists.{_and_}
 use Rattle.model.specs.Keys.{Key}
 use Rattle.model.specs.declared.Metric.{Metric}
-use Rattle.model.proofs.Lists.{not-both}
+use Rattle.model.specs.Layout.Format.{bytesOf}
+use Rattle.model.proofs.Lists.{not-both, and-left}
 use Rattle.rpcw.specs.Written.{textFits}
-use Rattle.header.specs.declared.Node.{Node}
-use Rattle.headerimage.specs.Image.{nodeAt}
-use Rattle.lend.specs.Lend.{Lot}
-use Rattle.lentimage.specs.declared.Picked.{Picked}
-use Rattle.lentimage.specs.Lent.{lendsState, lotIn, Picks}
-use Rattle.workercalls.specs.Steps.{Asking, decodes, keyOf, metricOf, Outputs, StepAsked, StepsImage}
+use Rattle.serve.specs.declared.Step.the-variants as S
+use Rattle.header.specs.declared.StepAnswer.the-variants as stepped
+use Rattle.header.proofs.OfCalls.{step-absent}
+use Rattle.header.proofs.OfFormed.{formed-lent}
+use Rattle.outgoing.specs.declared.Request.the-variants as request
+use Rattle.lend.specs.declared.Lent.the-variants as L
+use Rattle.lend.specs.Lend.{placeOf}
+use Rattle.workers.proofs.OfRequests.{unfit, gone}
+use Rattle.headerimage.specs.Image.{headerLent, nodeAt}
+use Rattle.headerimage.proofs.OfImage.{lent-long}
+use Rattle.asked.specs.Answer.{answerLent, numberPut}
+use Rattle.lentimage.specs.Lent.{lendsState, lotIn}
+use Rattle.lentbytes.specs.Find.{AbsentIn, FindsIn}
+use Rattle.workercalls.specs.Steps.{Asking, decodes, keyOf, metricOf, Outputs, outputs, StepAsked, StepsImage}
+use Rattle.workercalls.proofs.OfSome.{some-step}
 
 -- ---- the operands
 
@@ -43,28 +54,66 @@ module _ (h s : List ℕ) (w : Asking) (o : Outputs) where
     asked = λ z i. not-both (decodes w) z e;
   }
 
-  module _ (e : decodes w ≡ true) (k : Key) (name : k ≡ keyOf w) (b : Lot) (l : Picked) (d : Picks h s k b l) where
-    picks : Picks h s (keyOf w) b l
-    picks = subst (λ (i : Key). Picks h s i b l) name d
+  module _ (e : decodes w ≡ true) (k : Key) (name : k ≡ keyOf w) where
+    abbrev Image : (p : Outputs) → ℕ → Type 0
+    Image p r = StepsImage h s w o p r
 
-    pub unlent : l .found ≡ false → StepsImage h s w o o 24
-    unlent f = record {
-      undecoded = λ z. not-both (decodes w) e z;
-      unlent = λ z i. record { answer = refl; kept = refl };
-      asked = λ z i. not-both (lendsState h s (keyOf w)) i (sym (picks .found) ∙ f);
-    }
+    -- the state is lent, or is found malformed below
+    answered : (p : Outputs) (r : ℕ) → (lendsState h s k ≡ false → (r ≡ 24) × (p ≡ o))
+        → (lendsState h s k ≡ true → StepAsked (nodeAt h) (lotIn s (nodeAt h) k) k (w .epoch) (w .peer) (metricOf (w .metric)) o p r) → Image p r
+    answered p r f g =
+        subst (λ (i : Key). (lendsState h s i ≡ false → (r ≡ 24) × (p ≡ o))
+        → (lendsState h s i ≡ true → StepAsked (nodeAt h) (lotIn s (nodeAt h) i) i (w .epoch) (w .peer) (metricOf (w .metric)) o p r) → Image p r) (sym name)
+        (λ f g. record {
+          undecoded = λ z. not-both (decodes w) e z;
+          unlent = λ z i. record { answer = f i .0; kept = f i .1 };
+          asked = λ z i. g i;
+        }) f g
+
+    pub lent-asked : lendsState h s k ≡ true → (p : Outputs) (r : ℕ) → StepAsked (nodeAt h) (lotIn s (nodeAt h) k) k (w .epoch) (w .peer) (metricOf (w .metric)) o p r
+        → Image p r
+    lent-asked l p r a = answered p r (λ z. not-both (lendsState h s k) l z) (λ z. a)
 
     module _ (m : Metric) (is-metric : m ≡ metricOf (w .metric)) where
-      abbrev StepOf : Node → Lot → Key → Metric → (p : Outputs) → ℕ → Type 0
-      StepOf n a i metric p r = StepAsked n a i (w .epoch) (w .peer) metric o p r
+      pub found-asked : lendsState h s k ≡ true → (p : Outputs) (r : ℕ) → StepAsked (nodeAt h) (lotIn s (nodeAt h) k) k (w .epoch) (w .peer) m o p r → Image p r
+      found-asked l p r a =
+          lent-asked l p r (subst (λ (x : Metric). StepAsked (nodeAt h) (lotIn s (nodeAt h) k) k (w .epoch) (w .peer) x o p r) is-metric a)
 
-      pub asked : l .found ≡ true → (p : Outputs) (r : ℕ) → StepOf (l .node) b k m p r → StepsImage h s w o p r
-      asked f p r a = record {
-        undecoded = λ z. not-both (decodes w) e z;
-        unlent = λ z i. not-both (lendsState h s (keyOf w)) (sym (picks .found) ∙ f) i;
-        asked = λ z i.
-            subst (λ (x : Node). StepOf x (lotIn s (nodeAt h) (keyOf w)) (keyOf w) (metricOf (w .metric)) p r) (picks .read i)
-            (subst (λ (x : Lot). StepOf (l .node) x (keyOf w) (metricOf (w .metric)) p r) (picks .lot i)
-            (subst (λ (x : Key). StepOf (l .node) b x (metricOf (w .metric)) p r) name
-            (subst (λ (x : Metric). StepOf (l .node) b k x p r) is-metric a)));
-      }
+    pub malformed : FindsIn h s k L.Malformed → Image o 24
+    unfolding lendsState
+    malformed f =
+        answered o 24 (λ z. (refl, refl))
+        (λ l.
+        let bad = f l in
+        let step = some-step h (lent-long h (and-left (headerLent h) _ l)) k (w .epoch) (w .peer) in
+        record {
+          short = λ z. record { answer = λ t. ap (λ (b : Bool). cond b 23 24) (sym (bad t)); kept = refl };
+          told = λ z. record {
+            step = step .answer;
+            sent = request.Refused 24;
+            steps = step .is;
+            requests = unfit (nodeAt h) (lotIn s (nodeAt h) k) k L.Malformed bad (w .epoch) (w .peer) (metricOf (w .metric)) (o .request) refl;
+            number = refl;
+            answer = refl;
+          };
+        })
+
+    pub absent : AbsentIn h s k → (a : List ℕ) (r : ℕ) → r ≡ cond (answerLent (o .answer)) 1 23 → a ≡ numberPut (o .answer) 0 → Image (outputs (o .request) a) r
+    unfolding numberPut
+    absent d a r rs left =
+        let g = d .absent in
+        lent-asked (d .lends) (outputs (o .request) a) r
+        (record {
+          short = λ z. record {
+            answer = λ t. rs ∙ ap (λ (b : Bool). cond b 1 23) z ∙ ap (λ (b : Bool). cond b 23 24) (sym (g .lent t));
+            kept = ap (outputs (o .request)) (left ∙ ap (λ (b : Bool). cond b (sets (o .answer) 0 (bytesOf 8 0)) (o .answer)) z);
+          };
+          told = λ z. record {
+            step = stepped.Stepped S.Stop;
+            sent = request.Unsent;
+            steps = step-absent (nodeAt h) k (w .epoch) (w .peer) (λ t. sym (g .formed) ∙ formed-lent (nodeAt h) t) (g .inside) (placeOf (nodeAt h) k) refl (g .gone);
+            requests = gone (nodeAt h) (lotIn s (nodeAt h) k) k L.Absent g (w .epoch) (w .peer) (metricOf (w .metric)) (o .request) refl;
+            number = rs ∙ ap (λ (b : Bool). cond b 1 23) z;
+            answer = left;
+          };
+        })

@@ -20,8 +20,6 @@ use Rattle.header.specs.Answers.{StepsNode}
 use Rattle.outgoing.specs.declared.Request.{Request}
 use Rattle.outgoing.specs.declared.Request.the-variants as request
 use Rattle.header.specs.declared.Node.{Node}
-use Rattle.lend.specs.declared.Lent as found
-use Rattle.lend.specs.declared.Lent.the-variants as L
 use Rattle.lend.specs.Lend.{Lot, lentFor}
 use Rattle.workers.specs.Requests.{Requests}
 use Rattle.headerimage.specs.Image.{nodeAt}
@@ -116,9 +114,3 @@ pub record StepsImage (h s : List ℕ) (w : Asking) (o p : Outputs) (r : ℕ) : 
   pub unlent : decodes w ≡ true → lendsState h s (keyOf w) ≡ false → Refuses 24 o p r
   pub asked : decodes w ≡ true → lendsState h s (keyOf w) ≡ true
       → StepAsked (nodeAt h) (lotIn s (nodeAt h) (keyOf w)) (keyOf w) (w .epoch) (w .peer) (metricOf (w .metric)) o p r
-
--- internal: by what the test found
-abbrev pub shortNumber : found.Lent → ℕ
-shortNumber L.Malformed = 24
-shortNumber L.Absent = 23
-shortNumber (L.At at) = 23

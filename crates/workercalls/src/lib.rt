@@ -3,10 +3,10 @@
 ghost use Rattle.workercalls.specs.Steps.{asking, outputs, StepsImage};
 use crate::codes::metric_of;
 use crate::told::step_at;
+use crate::told::stops;
 use asked::named::key_named;
-use lentimage::pick::pick;
-use model::DataNodeId;
-use model::Epoch;
+use lend::Lent;
+use lentbytes::find;
 use rpcw::fit::text_fits;
 
 mod codes;
@@ -35,47 +35,24 @@ pub fn step(
         return 21;
     }
     let key = key_named(name, shard);
-    let mut epochs = [0u64; 1024];
-    let mut offsets = [0u64; 1024];
-    let mut ids = [0u64; 1024];
-    let mut codes = [0u8; 1024];
-    let mut lengths = [0u8; 1024];
-    let mut floats = [0.0f32; 32768];
-    let mut keys = [0u64; 1024];
-    let mut places = [0u64; 1024];
-    let k = pick(
-        header,
-        stores,
-        key,
-        &mut epochs,
-        &mut offsets,
-        &mut ids,
-        &mut codes,
-        &mut lengths,
-        &mut floats,
-        &mut keys,
-        &mut places,
-    );
-    if !k.found {
-        return 24;
+    let found = find(header, stores, key);
+    match found {
+        Lent::Malformed => 24,
+        Lent::Absent => stops(answer),
+        Lent::At(at) => {
+            let m = metric_of(metric);
+            step_at(
+                header,
+                at,
+                stores,
+                name,
+                shard,
+                epoch,
+                peer,
+                m,
+                request,
+                answer,
+            )
+        }
     }
-    let n = k.node;
-    let m = metric_of(metric);
-    step_at(
-        n,
-        &epochs,
-        &offsets,
-        &ids,
-        &codes,
-        &lengths,
-        &floats,
-        &keys,
-        &places,
-        key,
-        Epoch(epoch),
-        DataNodeId(peer),
-        m,
-        request,
-        answer,
-    )
 }

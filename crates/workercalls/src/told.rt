@@ -1,32 +1,36 @@
-// The step of a worker on the header and the columns that were picked. Internal.
+// The step of a worker at the shard that was found, and what is told of it. Internal.
 ghost use mathlib.Core.Path.{_≡_};
-ghost use Rattle.state.specs.Names.{viewKey};
-ghost use Rattle.lend.specs.Lend.{lot};
-ghost use Rattle.workercalls.specs.Steps.{stepNumber, answerLeft, shortNumber, outputs, StepAsked};
+ghost use mathlib.Core.Bool.{cond};
+ghost use Prim.Native.Nat.{_+_, _*_, _≤_};
+ghost use lib.ListN.{length};
+ghost use Rattle.rpcw.specs.Written.{keyGiven};
+ghost use Rattle.serve.specs.Steps.{Steps};
+ghost use Rattle.outgoing.specs.Requested.{Requested};
+ghost use Rattle.headerrows.specs.Rows.{keptAt};
+ghost use Rattle.headerimage.specs.Image.{nodeAt};
+ghost use Rattle.asked.specs.Answer.{answerLent, numberPut};
+ghost use Rattle.lentimage.specs.Lent.{lotIn};
+ghost use Rattle.lentbytes.specs.Find.{FoundIn};
+ghost use Rattle.workercalls.specs.Steps.{stepNumber, answerLeft, outputs, StepAsked};
+ghost use Rattle.workercalls.specs.Found.{requestAt};
 use crate::codes::quiet_number;
 use crate::codes::sent_number;
 use asked::answer::put_number;
-use header::Node;
 use header::StepAnswer;
-use header::step::step;
-use lend::Lent;
-use lend::tested::lent_shard;
-use model::DataNodeId;
-use model::Epoch;
+use headerrows::held::role_at;
+use lentbytes::row::LAST;
+use lentbytes::row::ROLE;
+use lentbytes::row::ROW;
+use lentbytes::row::ROWS;
+use lentbytes::row::SLOT;
+use lentbytes::row::STORE;
 use model::Metric;
 use outgoing::Request;
-use state::ShardKey;
-
-// There is no room for the answer: 23, but 24 comes before.
-fn short_number(found: Lent) -> u32
-    ensures { λ r. ⌜ r ≡ shortNumber found ⌝ }
-{
-    match found {
-        Lent::Malformed => 24,
-        Lent::Absent => 23,
-        Lent::At(_) => 23,
-    }
-}
+use outgoing::worker::end_of;
+use requestbytes::write_align;
+use requestbytes::write_send;
+use sententries::entries::up_to;
+use serve::Step;
 
 // The number of the answer, and the request's length beside it.
 fn told(s: StepAnswer, w: Request, request: &[u8], answer: &mut [u8]) -> u32
@@ -45,60 +49,96 @@ fn told(s: StepAnswer, w: Request, request: &[u8], answer: &mut [u8]) -> u32
     }
 }
 
+// Without the shard the worker stops; 23 if there is no room to say so.
+pub fn stops(answer: &mut [u8]) -> u32
+    ensures { λ r. ⌜ (r ≡ cond (answerLent (now (answer .entry))) 1 23) × (now (answer .exit) ≡ numberPut (now (answer .entry)) 0) ⌝ }
+{
+    if put_number(answer, 0) {
+        return 1;
+    }
+    23
+}
+
+// The request of the step for a peer, at the shard that stands at place `at`.
+fn request_at(
+    out: &mut [u8],
+    header: &[u8],
+    at: usize,
+    stores: &[u8],
+    name: &[u8],
+    shard: u32,
+    step: Step,
+    epoch: u64,
+    peer: u64,
+    metric: Metric,
+) -> Request
+    requires { ⌜ FoundIn (now header) (now stores) (keyGiven (now name) shard) at × (length (now name) ≤ 32)
+        × Steps (keptAt (now header) (48 + 1280 * at) .held) epoch peer step ⌝ }
+    ensures { λ r. ⌜ Requested (requestAt (now (header .entry)) (now (stores .entry)) (keyGiven (now (name .entry)) shard) at epoch peer metric)
+        (now (out .entry)) (now (out .exit)) r ⌝ }
+{
+    let row = ROWS + ROW * at;
+    let roles = row + ROLE;
+    let base = num::get8(header, row + SLOT) as usize * STORE;
+    let count = num::get8(header, row + LAST) as usize;
+    match step {
+        Step::Stop => Request::Unsent,
+        Step::Wait => Request::Unsent,
+        Step::Align => {
+            let role = role_at(header, roles);
+            let end = end_of(role);
+            let n = up_to(end.0 as usize, count);
+            write_align(out, name, shard, epoch, end.0, stores, base, n, metric)
+        }
+        Step::Send { first, count: n } => {
+            write_send(
+                out,
+                name,
+                shard,
+                epoch,
+                stores,
+                base,
+                count,
+                first,
+                n as usize,
+            )
+        }
+    }
+}
+
+// 23 without room for the answer; then the step, and its request.
 pub fn step_at(
-    n: Node,
-    epochs: &[u64],
-    offsets: &[u64],
-    ids: &[u64],
-    codes: &[u8],
-    lengths: &[u8],
-    floats: &[f32],
-    keys: &[u64],
-    places: &[u64],
-    key: ShardKey,
-    epoch: Epoch,
-    peer: DataNodeId,
+    header: &[u8],
+    at: usize,
+    stores: &[u8],
+    name: &[u8],
+    shard: u32,
+    epoch: u64,
+    peer: u64,
     metric: Metric,
     request: &mut [u8],
     answer: &mut [u8],
 ) -> u32
-    ensures { λ r. ⌜ StepAsked n
-        (lot (now (epochs .entry)) (now (offsets .entry)) (now (ids .entry)) (now (codes .entry)) (now (lengths .entry))
-        (now (floats .entry)) (now (keys .entry)) (now (places .entry)))
-        (viewKey key) (epoch .0) (peer .0) metric
+    requires { ⌜ FoundIn (now header) (now stores) (keyGiven (now name) shard) at × (length (now name) ≤ 32) ⌝ }
+    ensures { λ r. ⌜ StepAsked (nodeAt (now (header .entry))) (lotIn (now (stores .entry)) (nodeAt (now (header .entry))) (keyGiven (now (name .entry)) shard))
+        (keyGiven (now (name .entry)) shard) epoch peer metric
         (outputs (now (request .entry)) (now (answer .entry))) (outputs (now (request .exit)) (now (answer .exit))) r ⌝ }
 {
     if answer.len() < 8 {
-        let found = lent_shard(
-            n,
-            key,
-            epochs,
-            offsets,
-            ids,
-            codes,
-            lengths,
-            floats,
-            keys,
-            places,
-        );
-        return short_number(found);
+        return 23;
     }
-    let w = workers::request(
-        n,
-        epochs,
-        offsets,
-        ids,
-        codes,
-        lengths,
-        floats,
-        keys,
-        places,
-        key,
+    let s = stepbytes::step(header, ROWS + ROW * at, epoch, peer);
+    let w = request_at(
+        request,
+        header,
+        at,
+        stores,
+        name,
+        shard,
+        s,
         epoch,
         peer,
         metric,
-        request,
     );
-    let s = step(n, key, epoch, peer);
-    told(s, w, request, answer)
+    told(StepAnswer::Stepped(s), w, request, answer)
 }

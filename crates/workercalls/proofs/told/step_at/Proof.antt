@@ -1,35 +1,34 @@
 -- `told::step_at` meets its contract. Assumes nothing.
 use borrow.Author.Needs.{needs}
-use Rattle.state.specs.Names.{viewKey}
-use Rattle.lend.specs.Lend.{Lot, lot}
+use native.Mathlib.Omega.{arith}
+use mathlib.Core.Path.{_≡_, refl, sym, _∙_, ap}
+use mathlib.Core.List.{List, [], _∷_, _++_}
+use Prim.Native.Nat.{ℕ, _+_, _-_, _*_, _≤_, _<_}
+use lib.ListN.{length, getD, take, drop, set}
+use mathlib.Core.Bool.{true}
+use Rattle.rpcw.specs.Written.{keyGiven}
+use Rattle.header.specs.declared.StepAnswer.the-variants.{Stepped}
+use Rattle.headerimage.specs.Image.{nodeAt}
+use Rattle.lentimage.specs.Lent.{lotIn}
 use Rattle.workercalls.proofs.OfTold.{no-room, asked}
+use Rattle.workercalls.proofs.OfFound.{few, row-there, row-formed, steps-node, requests-node}
 use Rattle.workercalls.proofs.told.step_at.Statement.{statement}
 use Rattle.workercalls.proofs.told.step_at.Tie as tie
 
--- the lent columns
-abbrev columnsOf : tie.Start → Lot
-columnsOf c =
-    let a = c .args in
-    lot (a .epochs .now) (a .offsets .now) (a .ids .now) (a .codes .now) (a .lengths .now) (a .floats .now) (a .keys .now) (a .places .now)
-
-lent-shard-requires : tie.Need-lent-shard-requires
-lent-shard-requires c κs = search needs
-
-short-number-requires : tie.Need-short-number-requires
-short-number-requires c κs = search needs
-
 returns : tie.Need-returns
-returns c =
-    let z = c .before .before .before .before .before .before .before .before .before .before .before .before .before in
-    let a = z .args in
-    no-room (a .n) (columnsOf z) (viewKey (a .key)) (a .epoch .0) (a .peer .0) (a .metric) (a .request .now) (a .answer .now)
-    (c .before .before .if1 .taken) (c .before .lent-shard .result) (c .before .lent-shard .ensures) _ (c .short-number .ensures)
+returns c = no-room (nodeAt ((c .before .before .before .before .before .before .args) .header .now)) (lotIn ((c .before .before .before .before .before .before .args) .stores .now) (nodeAt ((c .before .before .before .before .before .before .args) .header .now)) (keyGiven ((c .before .before .before .before .before .before .args) .name .now) ((c .before .before .before .before .before .before .args) .shard))) (keyGiven ((c .before .before .before .before .before .before .args) .name .now) ((c .before .before .before .before .before .before .args) .shard)) ((c .before .before .before .before .before .before .args) .epoch) ((c .before .before .before .before .before .before .args) .peer) ((c .before .before .before .before .before .before .args) .metric) ((c .before .before .before .before .before .before .args) .request .now) ((c .before .before .before .before .before .before .args) .answer .now) ((c .if1) .taken) true ((c .before .before .before .before .before .before .pre) .0 .found .lent)
 
-request-requires : tie.Need-request-requires
-request-requires c κs = search needs
+mul-step : tie.Need-mul-step
+mul-step c = let w = few ((c .before .before .before .before .before .before .args) .header .now) ((c .before .before .before .before .before .before .args) .stores .now) (keyGiven ((c .before .before .before .before .before .before .args) .name .now) ((c .before .before .before .before .before .before .args) .shard)) ((c .before .before .before .before .before .before .args) .at) ((c .before .before .before .before .before .before .pre) .0) in omega arith
+
+add-step : tie.Need-add-step
+add-step c = let w = few ((c .before .before .before .before .before .before .args) .header .now) ((c .before .before .before .before .before .before .args) .stores .now) (keyGiven ((c .before .before .before .before .before .before .args) .name .now) ((c .before .before .before .before .before .before .args) .shard)) ((c .before .before .before .before .before .before .args) .at) ((c .before .before .before .before .before .before .pre) .0) in omega arith
 
 step-requires : tie.Need-step-requires
-step-requires c κs = search needs
+step-requires c κs = (row-there ((c .before .before .before .before .before .before .args) .header .now) ((c .before .before .before .before .before .before .args) .stores .now) (keyGiven ((c .before .before .before .before .before .before .args) .name .now) ((c .before .before .before .before .before .before .args) .shard)) ((c .before .before .before .before .before .before .args) .at) ((c .before .before .before .before .before .before .pre) .0), row-formed ((c .before .before .before .before .before .before .args) .header .now) ((c .before .before .before .before .before .before .args) .stores .now) (keyGiven ((c .before .before .before .before .before .before .args) .name .now) ((c .before .before .before .before .before .before .args) .shard)) ((c .before .before .before .before .before .before .args) .at) ((c .before .before .before .before .before .before .pre) .0))
+
+request-at-requires : tie.Need-request-at-requires
+request-at-requires c κs = ((c .before .before .before .before .before .before .before .before .pre) .0, (c .before .before .before .before .before .before .before .before .pre) .1, (c .before .step) .ensures)
 
 told-requires : tie.Need-told-requires
 told-requires c κs = search needs
@@ -41,26 +40,8 @@ same-length-2 : tie.Need-same-length-2
 same-length-2 c = search needs
 
 returns-2 : tie.Need-returns-2
-returns-2 c =
-    let t = c .before .before in
-    let s = t .before .before .before in
-    let q = s .before .before .before in
-    let i = q .before .before in
-    let z = i .before .before .before .before .before .before .before .before .before .before .before in
-    let a = z .args in
-    asked (a .n) (columnsOf z) (viewKey (a .key)) (a .epoch .0) (a .peer .0) (a .metric) (a .request .now) (a .answer .now)
-    (i .if1 .left) (s .step .result) (q .request .result) (s .step .ensures) _ (q .request .ensures) _ _ (t .told .ensures)
+returns-2 c = asked (nodeAt ((c .before .before .before .before .before .before .before .before .before .before .before .before .before .before .before .before .args) .header .now)) (lotIn ((c .before .before .before .before .before .before .before .before .before .before .before .before .before .before .before .before .args) .stores .now) (nodeAt ((c .before .before .before .before .before .before .before .before .before .before .before .before .before .before .before .before .args) .header .now)) (keyGiven ((c .before .before .before .before .before .before .before .before .before .before .before .before .before .before .before .before .args) .name .now) ((c .before .before .before .before .before .before .before .before .before .before .before .before .before .before .before .before .args) .shard))) (keyGiven ((c .before .before .before .before .before .before .before .before .before .before .before .before .before .before .before .before .args) .name .now) ((c .before .before .before .before .before .before .before .before .before .before .before .before .before .before .before .before .args) .shard)) ((c .before .before .before .before .before .before .before .before .before .before .before .before .before .before .before .before .args) .epoch) ((c .before .before .before .before .before .before .before .before .before .before .before .before .before .before .before .before .args) .peer) ((c .before .before .before .before .before .before .before .before .before .before .before .before .before .before .before .before .args) .metric) ((c .before .before .before .before .before .before .before .before .before .before .before .before .before .before .before .before .args) .request .now) ((c .before .before .before .before .before .before .before .before .before .before .before .before .before .before .before .before .args) .answer .now) ((c .before .before .before .before .before .before .before .before .before .before .if1) .left)
+    (Stepped ((c .before .before .before .before .before .before .before .before .before .step) .result)) ((c .before .before .before .before .before .before .before .request-at) .result) (steps-node ((c .before .before .before .before .before .before .before .before .before .before .before .before .before .before .before .before .args) .header .now) ((c .before .before .before .before .before .before .before .before .before .before .before .before .before .before .before .before .args) .stores .now) (keyGiven ((c .before .before .before .before .before .before .before .before .before .before .before .before .before .before .before .before .args) .name .now) ((c .before .before .before .before .before .before .before .before .before .before .before .before .before .before .before .before .args) .shard)) ((c .before .before .before .before .before .before .before .before .before .before .before .before .before .before .before .before .args) .at) ((c .before .before .before .before .before .before .before .before .before .before .before .before .before .before .before .before .pre) .0) ((c .before .before .before .before .before .before .before .before .before .before .before .before .before .before .before .before .args) .epoch) ((c .before .before .before .before .before .before .before .before .before .before .before .before .before .before .before .before .args) .peer) ((c .before .before .before .before .before .before .before .before .before .step) .result) ((c .before .before .before .before .before .before .before .before .before .step) .ensures)) _ (requests-node ((c .before .before .before .before .before .before .before .before .before .before .before .before .before .before .before .before .args) .header .now) ((c .before .before .before .before .before .before .before .before .before .before .before .before .before .before .before .before .args) .stores .now) (keyGiven ((c .before .before .before .before .before .before .before .before .before .before .before .before .before .before .before .before .args) .name .now) ((c .before .before .before .before .before .before .before .before .before .before .before .before .before .before .before .before .args) .shard)) ((c .before .before .before .before .before .before .before .before .before .before .before .before .before .before .before .before .args) .at) ((c .before .before .before .before .before .before .before .before .before .before .before .before .before .before .before .before .pre) .0) ((c .before .before .before .before .before .before .before .before .before .before .before .before .before .before .before .before .args) .epoch) ((c .before .before .before .before .before .before .before .before .before .before .before .before .before .before .before .before .args) .peer) ((c .before .before .before .before .before .before .before .before .before .before .before .before .before .before .before .before .args) .metric) _ _ ((c .before .before .before .before .before .before .before .request-at) .result) ((c .before .before .before .before .before .before .before .request-at) .ensures)) _ _ ((c .before .before .told) .ensures)
 
 pub step-at-spec : {M : Type 1} → statement M
-step-at-spec =
-    tie.close
-    (tie.spec
-    lent-shard-requires
-    short-number-requires
-    returns
-    request-requires
-    step-requires
-    told-requires
-    same-length
-    same-length-2
-    returns-2)
+step-at-spec = tie.close (tie.spec returns mul-step add-step step-requires request-at-requires told-requires same-length same-length-2 returns-2)

@@ -1,0 +1,2 @@
+pub mod OfStore
+pub mod OfRuns
