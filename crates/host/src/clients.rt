@@ -17,7 +17,7 @@ pub extern "C" fn catalogue_write(
         (buffers (now (header .exit)) (now (stores .exit)) (now (answer .exit)))
         (now (refused .entry)) (now (refused .exit)) clock least (now (message .entry)) r ⌝ }
 {
-    clientcalls::write(header, stores, refused, clock, least, message, answer)
+    writecalls::write(header, stores, refused, clock, least, message, answer)
 }
 
 #[no_mangle]

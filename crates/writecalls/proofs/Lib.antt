@@ -1,0 +1,3 @@
+pub mod OfAdmission
+pub mod OfGrow
+pub mod OfWays

@@ -1,0 +1,36 @@
+-- `admission::is_leased` meets its contract. Assumes nothing.
+use borrow.Author.Needs.{needs}
+use native.Mathlib.Omega.{arith}
+use mathlib.Core.Path.{_≡_, refl, sym, _∙_, ap}
+use mathlib.Core.List.{List, [], _∷_, _++_}
+use Prim.Native.Nat.{ℕ, _+_, _-_, _*_, _≤_, _<_}
+use lib.ListN.{length, getD, take, drop, set}
+use Rattle.model.specs.Layout.Format.{numberAt}
+use Rattle.model.specs.Node.Lease.{before}
+use Rattle.serve.specs.View.{viewExpiry}
+use Rattle.serve.specs.declared.Expiry.{Expiry}
+use Rattle.headerrows.specs.Rows.{expiryOf}
+use Rattle.headerimage.specs.Image.{nodeAt}
+use Rattle.writecalls.proofs.admission.is_leased.Statement.{statement}
+use Rattle.writecalls.proofs.admission.is_leased.Tie as tie
+
+get4-requires : tie.Need-get4-requires
+get4-requires c κs = search needs
+
+get8-requires : tie.Need-get8-requires
+get8-requires c κs = search needs
+
+expiry-of-requires : tie.Need-expiry-of-requires
+expiry-of-requires c κs = search needs
+
+leased-requires : tie.Need-leased-requires
+leased-requires c κs = search needs
+
+returns : tie.Need-returns
+unfolding nodeAt
+returns c = let s = (c .before .before .before .before .before .args) .s .now in
+    let x : (c .before .expiry-of) .result ≡ expiryOf (numberAt 4 s 36) (numberAt 8 s 40) = (c .before .expiry-of) .ensures ∙ (rw ((c .before .before .before .get4) .ensures, (c .before .before .get8) .ensures)) in
+    (c .leased) .ensures ∙ ap (λ (e : Expiry). before (viewExpiry e) ((c .before .before .before .before .before .args) .clock)) x
+
+pub is-leased-spec : {M : Type 1} → statement M
+is-leased-spec = tie.close (tie.spec get4-requires get8-requires expiry-of-requires leased-requires returns)
