@@ -9,7 +9,7 @@ use mathlib.Core.Option.{Option, none, some}
 use native.Mathlib.Omega.{arith}
 use lib.Dec.{eqb}
 use lib.ListN.{length}
-use borrow.Author.Tests.{ne-eqb, le-ltb}
+use borrow.Author.Tests.{le-ltb}
 use Rattle.model.specs.Keys.{Key, sameKey}
 use Rattle.model.specs.Limits.{maxEntries, maxBatch, maxTime}
 use Rattle.model.specs.Lists.{nth, every, find}
@@ -107,18 +107,15 @@ module _ (c : Scene) (holder : holds (c .p) (c .world .holders) ≡ true) where
     abbrev h : Held
     h = k .related .nodes a .here (c .mine) .0
 
-    ne : eqb a p ≡ false
-    ne = ne-eqb a p (c .other)
-
     abbrev Named : RequestAnswer → Type 0
-    Named = work.Named w s (k .abstract) (k .related) a (w .key) E p metric room ne h (k .related .nodes a .here (c .mine) .1)
+    Named = work.Named w s (k .abstract) (k .related) a (w .key) E p metric room h (k .related .nodes a .here (c .mine) .1)
         (k .related .nodes a .here (c .mine) .2) refl l (k .steady .leads .1)
         (calls.ls w top a (s .nodes a) (k .abstract .nodes a) (k .related .nodes a) (c .mine) l (k .steady .leads .1)) (k .steady .leads .2) (c .mine) holder
 
     named : Named (callRequest (s .nodes a) room (w .key) E p metric)
     named =
         subst Named (sym (calls.called w top a (s .nodes a) (k .abstract .nodes a) (k .related .nodes a) (c .mine) l (k .steady .leads .1) E p (k .steady .leads .2) holder metric room))
-        (work.steps w s (k .abstract) (k .related) a (w .key) E p metric room ne h (k .related .nodes a .here (c .mine) .1)
+        (work.steps w s (k .abstract) (k .related) a (w .key) E p metric room h (k .related .nodes a .here (c .mine) .1)
         (k .related .nodes a .here (c .mine) .2) refl l (k .steady .leads .1)
         (calls.ls w top a (s .nodes a) (k .abstract .nodes a) (k .related .nodes a) (c .mine) l (k .steady .leads .1)) (k .steady .leads .2) (c .mine) holder)
 
@@ -140,11 +137,11 @@ module _ (c : Scene) (holder : holds (c .p) (c .world .holders) ≡ true) where
         (calls.fits w top a (s .nodes a) (k .abstract .nodes a) (k .related .nodes a) (c .mine) l (k .steady .leads .1) E p (k .steady .leads .2) holder metric room fit)
       where
         put : (r : RequestAnswer) (bytes : List ℕ) → r ≡ written bytes → (q : Request) → RequestSim w p (asking bytes) q
-            → work.Asks w s (k .abstract) (k .related) a (w .key) E p metric room ne h (k .related .nodes a .here (c .mine) .1)
+            → work.Asks w s (k .abstract) (k .related) a (w .key) E p metric room h (k .related .nodes a .here (c .mine) .1)
             (k .related .nodes a .here (c .mine) .2) refl l (k .steady .leads .1)
             (calls.ls w top a (s .nodes a) (k .abstract .nodes a) (k .related .nodes a) (c .mine) l (k .steady .leads .1)) (k .steady .leads .2) (c .mine) holder q
             → Asks l r
-        put r bytes e (align d end t) like asked = aligns bytes e asked (end, t, subst (λ (m : ℕ). AlignSim w p (asking bytes) m end t) (sym (like .epoch)) like)
+        put r bytes e (align d end t) like asked = aligns bytes e (asked (λ q. c .other (sym q))) (end, t, subst (λ (m : ℕ). AlignSim w p (asking bytes) m end t) (sym (like .epoch)) like)
         put r bytes e (send d es) like asked =
             sends bytes e (asked .0)
             (subst (λ (v : Log). SendSim w p (asking bytes) E v) (sym (asked .1) ∙ due-is)

@@ -273,10 +273,10 @@ module _ (c : Scene) where
         go : (r : Role) → s .nodes n .role ≡ r → Kept (alignAs s n q r)
         go backup is = k
         go (lead l) is =
-            by-test Kept (eqb n q) (λ t. k)
+            let asks = add-request K (s .nodes) (s .requests) (s .replies) k n q (align (l .epoch) (l .end) (l .table)) (low n y l is, z) in
+            by-test Kept (eqb n q) (λ t. asks (λ e g. absurd (c .other (sym e ∙ eqb-true n q t ∙ g))))
             (λ t. by-test Kept (l .aligned q) (λ u. k)
-            (λ u. add-request K (s .nodes) (s .requests) (s .replies) k n q (align (l .epoch) (l .end) (l .table)) (low n y l is, z)
-            (λ e g. let x = the-one n (sym e) l is in (x .0, cl .loose l (x .1) (ap (l .aligned) (sym g) ∙ u)))))
+            (λ u. asks (λ e g. let x = the-one n (sym e) l is in (x .0, cl .loose l (x .1) (ap (l .aligned) (sym g) ∙ u)))))
 
     steady-send : (n q from size : ℕ) → Holder n → Holder q → Kept (onSend s n q from size)
     unfolding onSend sendAs sendBatch post setRequests

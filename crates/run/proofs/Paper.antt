@@ -1,5 +1,4 @@
 -- Every run of the paper is one that the rules allow: Rules.antt is looser, and not otherwise.
-pub mod Workers
 pub mod Sessions
 pub mod Turns
 pub mod Kept

@@ -12,8 +12,8 @@
 --
 -- Dropped: indexes rise; seqs rise, and client numbers differ (kept of both: a proposal's seq is not the one that the map remembers for
 -- its client, so that the map never answers it from memory); Promote comes under a client number of its own; a worker's step names a
--- worker that was started, with its metric (kept: no worker is for the node itself); replies count only for their worker's latest
--- request. Clocks, leases, timeouts and min_in_sync are arguments of the events and free.
+-- worker that was started, with its metric; replies count only for their worker's latest request. Clocks, leases, timeouts and min_in_sync
+-- are arguments of the events and free.
 use Prim.Native.Nat.{ℕ, _^_}
 use mathlib.Core.Bool.{Bool, true, false, not, cond}
 use mathlib.Core.List.{List, [], _∷_}
@@ -94,7 +94,7 @@ allowed s (leaseGranted n i sent lease) = true
 allowed s (clientWrites n now least bytes) = isBytes bytes
 allowed s (clientSearches n now room bytes) = isBytes bytes
 allowed s (nodeWaits i now timeout) = true
-allowed s (workerSteps n k epoch peer metric room) = not (eqb n peer)
+allowed s (workerSteps n k epoch peer metric room) = true
 allowed s (requestArrives from to i) = true
 allowed s (requestRepeats from to i) = true
 allowed s (replyRepeats i) = true

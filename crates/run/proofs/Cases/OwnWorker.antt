@@ -1,16 +1,16 @@
 -- A run with a worker's step that is for the node itself. Node 1 is deposed when the request arrives, and still at the epoch that it led: since
--- request 2.3 its own alignment cuts nothing (before, it cut what node 1 wrote in that epoch). The rule that forbids the step is in
--- `Rules.allowed`, of `workerSteps`: the proof of demand 3 takes every request to be for another node. Assumes nothing.
+-- request 2.3 its own alignment cuts nothing (before, it cut what node 1 wrote in that epoch). No worker is ever started for the node itself;
+-- the rules do without that, and allow the run. Assumes nothing.
 use mathlib.Core.Path.{_≡_, refl}
-use mathlib.Core.Bool.{false}
+use mathlib.Core.Bool.{true, false}
 use mathlib.Core.List.{List, [], _∷_, _++_}
 use Rattle.run.specs.State.{State}
 use Rattle.run.specs.Event.{Event, mapShown, leaseGranted, nodeWaits, requestArrives, replyArrives}
 use Rattle.run.specs.Step.{run}
+use Rattle.run.specs.Rules.{allowedRun}
 use Rattle.run.specs.Claim.{inSyncAt, logOf}
 use Rattle.run.proofs.Created.{started}
 use Rattle.run.proofs.Cases.Opened.{opened}
-use Rattle.run.proofs.Cases.Lost.{BreaksOnce}
 use Rattle.run.proofs.Cases.Start.{start, created, key, deletes, works, promotes, entry}
 
 -- node 1 writes, aligns node 2, sends it the entry and acknowledges
@@ -38,9 +38,9 @@ after = promotes 4 2 1 ∷ mapShown 1 0 ∷ requestArrives 1 1 0 ∷ []
 unfoldable pub end : State
 end = run start (before ++ (own ∷ after))
 
-pub breaks-once : BreaksOnce start before own after
+pub may : allowedRun start (before ++ (own ∷ after)) ≡ true
 unfolding opened start started created before own after
-breaks-once = record { first = refl; breaks = refl; then = refl }
+may = refl
 
 pub uncut : logOf (end .nodes 1) key ≡ entry 1 1 41 ∷ []
 unfolding opened start started created before own after end

@@ -2,25 +2,20 @@
 -- nothing.
 use Prim.Native.Nat.{ℕ, _≤_}
 use mathlib.Core.Path.{_≡_, refl, sym, ap, subst, _∙_}
-use mathlib.Core.Bool.{Bool, true, false, not}
+use mathlib.Core.Bool.{true, false}
 use mathlib.Core.Logic.{inl}
 use mathlib.Core.List.{List, [], _∷_, map}
 use mathlib.Core.Option.{Option, none, some}
 use lib.Dec.{eqb, ltb}
 use borrow.Author.Tests.{eqb-true, leb-true}
-use Rattle.model.specs.Keys.{Key, sameKey}
 use Rattle.model.specs.Limits.{maxU64}
-use Rattle.model.specs.Lists.{_and_, any, nth}
+use Rattle.model.specs.Lists.{_and_, nth}
 use Rattle.model.specs.Map.Tables.{Map}
 use Rattle.model.specs.Map.Apply.{sessionAt}
-use Rattle.model.specs.Map.Change.{holds}
 use Rattle.model.specs.Map.Calls.{applyBytes, applyDecoded, applyCall}
 use Rattle.model.specs.Layout.Request as layout
 use Rattle.model.specs.Layout.Request.{decodeRequest}
-use Rattle.model.specs.Node.Calls.{callShown}
-use Rattle.model.specs.declared.Metric.{Metric}
 use Rattle.model.proofs.Lists.{not-both, and-true, and-left, and-right}
-use Rattle.model.proofs.Map.Rows.{find-true}
 use Rattle.run.specs.State as real
 use Rattle.run.specs.State.{Offer, Request, setMap, setOffers}
 use Rattle.run.specs.Step as step
@@ -29,7 +24,7 @@ use Rattle.run.specs.Rules as rules
 use Rattle.run.specs.Rules.{isBytes, isU64, isPromote, notLast, freshSeq, allowed, allowedRun}
 use Rattle.run.specs.Fresh.{Fresh}
 use Rattle.run.specs.Claim.{Durable, Alike, Written}
-use Rattle.run.specs.Paper.{Turn, Commanded, History, Seqs, Rising, before, startsOf, startedAt, freshHistory, promoted, taken, made, remember, noNodes, ownOf, promotes, proposes, isWorker, sameMetric, paper, paperRun}
+use Rattle.run.specs.Paper.{Turn, Commanded, History, Seqs, Rising, before, freshHistory, promoted, taken, made, remember, noNodes, ownOf, promotes, proposes, paper, paperRun}
 use Rattle.run.specs.Event.{
   Event,
   command,
@@ -52,19 +47,13 @@ use Rattle.run.specs.Event.{
   outcomeLost,
   outcomeTimesOut,
 }
-use Rattle.run.proofs.Ids.{holder-id, other-id}
-use Rattle.run.proofs.Protocol.Base.{All}
 use Rattle.run.proofs.Protocol.State as proto
-use Rattle.run.proofs.Simulation.Lists.{any-find}
-use Rattle.run.proofs.Simulation.NewRows.{all-find}
 use Rattle.run.proofs.Simulation.Relation.{World, Sim}
-use Rattle.run.proofs.Simulation.Shown.{shows-none}
 use Rattle.run.proofs.Simulation.Commands as commands
 use Rattle.run.proofs.Simulation.Start.{start, at-start}
 use Rattle.run.proofs.Simulation.Steps.{on-event}
 use Rattle.run.proofs.Demand3.{worldOf, durable}
 use Rattle.run.proofs.Entries.{alike, written}
-use Rattle.run.proofs.Paper.Workers.{all-append, Other, OtherPeer, own-number, no-shard, started-other, first-other}
 use Rattle.run.proofs.Paper.Turns.{Known}
 use Rattle.run.proofs.Paper.Kept.{Inv, unused, promoted-known, taken-known, taken-counted, quiet, makes, renamed}
 use Rattle.run.proofs.Paper.Turns as turns
@@ -72,7 +61,7 @@ use Rattle.run.proofs.Paper.Events as events
 use Rattle.run.proofs.Paper.Events.{Same}
 
 module _ (q : Seqs) (rising : Rising q) (w : World) (s : real.State) (a : proto.State) (k : Sim w s a) (h : History)
-    (v : Inv q (s .map .sessions) (s .offers) (h .commanded) (h .workers)) where
+    (v : Inv q (s .map .sessions) (s .offers) (h .commanded)) where
   abbrev c : Commanded
   c = h .commanded
 
@@ -81,33 +70,6 @@ module _ (q : Seqs) (rising : Rising q) (w : World) (s : real.State) (a : proto.
   promotes-only : (o : Option layout.Request) → promotes c o ≡ true → rules.promotes o ≡ true
   promotes-only none p = refl
   promotes-only (some r) p = and-left (isPromote (r .command)) (ltb (c .index) (r .index) and noNodes (c .senders (r .client))) p
-
-  -- ---- workers
-
-  not-itself : (n : ℕ) (key : Key) (epoch peer : ℕ) (metric : Metric) → any (isWorker n key epoch peer metric) (h .workers) ≡ true
-      → not (eqb n peer) ≡ true
-  not-itself n key epoch peer metric t =
-      let f = any-find (isWorker n key epoch peer metric) (h .workers) t in
-      let x = f .0 in
-      let is = find-true (isWorker n key epoch peer metric) (h .workers) x (f .1) in
-      let rest = sameKey (x .worker .key) key and eqb (x .worker .epoch) epoch and sameMetric (x .worker .metric) metric in
-      let node = eqb-true (x .node) n (and-left (eqb (x .node) n) (eqb (x .worker .peer .0) peer and rest) is) in
-      let other = and-right (eqb (x .node) n) (eqb (x .worker .peer .0) peer and rest) is in
-      let it = eqb-true (x .worker .peer .0) peer (and-left (eqb (x .worker .peer .0) peer) rest other) in
-      let apart = all-find OtherPeer (isWorker n key epoch peer metric) (h .workers) x (v .workers) (f .1) in
-      ap not
-      (ap (λ (z : ℕ). eqb z peer) (sym node) ∙ ap (eqb (x .node)) (sym it) ∙ apart)
-
-  shows-other : (n fresh : ℕ) → All (Other n) (startsOf (callShown (s .nodes n) fresh (s .map) .answer))
-  shows-other n fresh = go (holds n (w .holders)) refl
-    where
-      go : (b : Bool) → holds n (w .holders) ≡ b → All (Other n) (startsOf (callShown (s .nodes n) fresh (s .map) .answer))
-      go true e =
-          let own = holder-id (w .holders) n (s .nodes n .id) e (k .nodes n .id) in
-          subst (λ (z : ℕ). All (Other z) (startsOf (callShown (s .nodes n) fresh (s .map) .answer))) own (own-number (s .nodes n) (s .map) fresh)
-      go false e =
-          no-shard (s .nodes n) (s .map) n fresh
-          (shows-none w (s .map) (a .map) (k .table) (s .nodes n) n (other-id (w .holders) n (s .nodes n .id) e (k .nodes n .id)))
 
   -- ---- a proposal that arrives
 
@@ -161,19 +123,18 @@ module _ (q : Seqs) (rising : Rising q) (w : World) (s : real.State) (a : proto.
     unfolding applyBytes applyDecoded
     applied = ap (applyDecoded (s .map)) (commands.decoded w s a k i o (z .found) index seq (z .small) (z .less) fresh)
 
-    offer-kept : Inv q (step.offered s i index seq (some o) .map .sessions) (step.offered s i index seq (some o) .offers) (taken s c i index (some o)) (h .workers)
+    offer-kept : Inv q (step.offered s i index seq (some o) .map .sessions) (step.offered s i index seq (some o) .offers) (taken s c i index (some o))
     unfolding step.offered setOffers setMap
     offer-kept =
         let y = applyBytes (s .map) (step.offerBytes s o index seq) in
         let t = setOffers (setMap s (y .map)) (removed (s .offers) i) in
         let e = events.told-same t o (step.isApplied (y .answer)) in
-        quiet q t (step.told t o (step.isApplied (y .answer))) (taken s c i index (some o)) (h .workers) (e .map) (e .offers)
+        quiet q t (step.told t o (step.isApplied (y .answer))) (taken s c i index (some o)) (e .map) (e .offers)
         (record {
           counted = taken-counted q (s .map) r (s .offers) c (v .counted) (v .known) i o (z .turn) (z .found) (z .at) (z .own) (z .same);
           known =
               subst (λ (m : Map). Known q (m .sessions) (taken s c i index (some o))) (ap (λ x. x .map) (sym applied))
               (taken-known q (s .map) r (s .offers) c (v .counted) (v .known) i o (z .turn) (z .found) (z .at) (z .own) (z .same));
-          workers = v .workers;
         })
 
   -- ---- every event
@@ -188,7 +149,7 @@ module _ (q : Seqs) (rising : Rising q) (w : World) (s : real.State) (a : proto.
   may (clientWrites n now least bytes) t = t
   may (clientSearches n now room bytes) t = t
   may (nodeWaits i now timeout) t = refl
-  may (workerSteps n key epoch peer metric room) t = not-itself n key epoch peer metric t
+  may (workerSteps n key epoch peer metric room) t = refl
   may (requestArrives from to i) t = refl
   may (requestLost from to i) t = refl
   may (requestRepeats from to i) t = refl
@@ -208,67 +169,57 @@ module _ (q : Seqs) (rising : Rising q) (w : World) (s : real.State) (a : proto.
   may (outcomeTimesOut i) t = refl
 
   abbrev After : real.State → History → Type 0
-  After s′ h′ = Inv q (s′ .map .sessions) (s′ .offers) (h′ .commanded) (h′ .workers)
+  After s′ h′ = Inv q (s′ .map .sessions) (s′ .offers) (h′ .commanded)
 
-  stays : (s′ : real.State) → Same s s′ → Inv q (s′ .map .sessions) (s′ .offers) c (h .workers)
-  stays s′ e = quiet q s s′ c (h .workers) (e .map) (e .offers) v
+  stays : (s′ : real.State) → Same s s′ → Inv q (s′ .map .sessions) (s′ .offers) c
+  stays s′ e = quiet q s s′ c (e .map) (e .offers) v
 
   command-kept : (bytes : List ℕ) → promotes c (decodeRequest bytes) ≡ true → After (step.onCommand s bytes) (remember s h (command bytes))
   unfolding step.onCommand setMap applyBytes applyDecoded remember
   command-kept bytes t = go (decodeRequest bytes) t
     where
       go : (o : Option layout.Request) → promotes c o ≡ true
-          → Inv q (applyDecoded (s .map) o .map .sessions) (s .offers) (promoted c o) (h .workers)
+          → Inv q (applyDecoded (s .map) o .map .sessions) (s .offers) (promoted c o)
       go none p = not-both false p refl
       go (some r) p = record {
         counted = let g = v .counted in record { beside = g .beside; below = g .below; apart = g .apart };
         known = promoted-known q (s .map) r c (v .known);
-        workers = v .workers;
       }
 
-  late-kept : (i : ℕ) → Inv q (step.onOfferTimeout s i .map .sessions) (step.onOfferTimeout s i .offers) c (h .workers)
+  late-kept : (i : ℕ) → Inv q (step.onOfferTimeout s i .map .sessions) (step.onOfferTimeout s i .offers) c
   unfolding step.onOfferTimeout step.givenUp setOffers
   late-kept i = go (nth (s .offers) i) refl
     where
-      go : (o : Option Offer) → nth (s .offers) i ≡ o → Inv q (step.givenUp s i o .map .sessions) (step.givenUp s i o .offers) c (h .workers)
+      go : (o : Option Offer) → nth (s .offers) i ≡ o → Inv q (step.givenUp s i o .map .sessions) (step.givenUp s i o .offers) c
       go none e = v
       go (some o) e = record {
         counted = renamed q (s .offers) c i o (unawaited o) e refl (v .counted);
         known = subst (λ (m : Map). Known q (m .sessions) c) (sym (events.told-same s o false .map)) (v .known);
-        workers = v .workers;
       }
 
   kept : (e : Event) → paper q s h e ≡ true → After (step.step s e) (remember s h e)
   unfolding paper step.step step.onOffer remember made
   kept (command bytes) t = command-kept bytes (and-right (isBytes bytes) (promotes c (decodeRequest bytes)) t)
-  kept (mapShown n under) t =
-      let e = stays (step.onShown s n under) (events.shown-same s n under) in
-      let ws = startsOf (callShown (s .nodes n) under (s .map) .answer) in
-      record {
-        counted = e .counted;
-        known = e .known;
-        workers = all-append OtherPeer (h .workers) (map (startedAt n) ws) (v .workers) (started-other n ws (shows-other n under));
-      }
+  kept (mapShown n under) t = stays _ (events.shown-same s n under)
   kept (leaseGranted n i sent lease) t = stays _ (events.grant-same s n i sent lease)
   kept (clientWrites n now least bytes) t = stays _ (events.write-same s n now least bytes)
   kept (clientSearches n now room bytes) t = stays _ (events.search-same s n now room bytes)
   kept (nodeWaits i now timeout) t =
-      let e = events.wait-more s i now timeout in makes q s (step.onWait s i now timeout) c (h .workers) (e .new) (e .map) (e .offers) v
+      let e = events.wait-more s i now timeout in makes q s (step.onWait s i now timeout) c (e .new) (e .map) (e .offers) v
   kept (workerSteps n key epoch peer metric room) t = stays _ (events.work-same s n key epoch peer metric room)
   kept (requestArrives from to i) t = stays _ (events.arrival-same s from to i)
   kept (requestLost from to i) t = stays _ (events.request-lost-same s from to i)
   kept (requestRepeats from to i) t = stays _ (events.request-again-same s from to i)
-  kept (replyArrives i) t = let e = events.reply-more s i in makes q s (step.onReply s i) c (h .workers) (e .new) (e .map) (e .offers) v
+  kept (replyArrives i) t = let e = events.reply-more s i in makes q s (step.onReply s i) c (e .new) (e .map) (e .offers) v
   kept (replyLost i) t = stays _ (events.reply-lost-same s i)
   kept (replyRepeats i) t = stays _ (events.reply-again-same s i)
   kept (offerArrives i index seq) t =
       let z = arriving i index seq t in
-      subst (λ (o : Option Offer). Inv q (step.offered s i index seq o .map .sessions) (step.offered s i index seq o .offers) (taken s c i index o) (h .workers))
+      subst (λ (o : Option Offer). Inv q (step.offered s i index seq o .map .sessions) (step.offered s i index seq o .offers) (taken s c i index o))
       (sym (z .found)) (offer-kept i index seq z)
   kept (offerLost i) t = unfold step.onOfferLost in unfold setOffers in record {
     counted = turns.gone-counted q (s .offers) c i (v .counted);
     known = turns.gone-known q (s .map .sessions) c i (v .known);
-    workers = v .workers;
   }
   kept (offerTimesOut i) t = late-kept i
   kept (outcomeArrives i) t = stays _ (events.outcome-same s i)
@@ -278,7 +229,7 @@ module _ (q : Seqs) (rising : Rising q) (w : World) (s : real.State) (a : proto.
 -- ---- the run
 
 runs : (q : Seqs) → Rising q → (w : World) (s : real.State) (a : proto.State) → Sim w s a → (h : History)
-    → Inv q (s .map .sessions) (s .offers) (h .commanded) (h .workers) → (es : List Event) → paperRun q s h es ≡ true → allowedRun s es ≡ true
+    → Inv q (s .map .sessions) (s .offers) (h .commanded) → (es : List Event) → paperRun q s h es ≡ true → allowedRun s es ≡ true
 unfolding paperRun allowedRun
 runs q rising w s a k h v [] t = refl
 runs q rising w s a k h v (e ∷ es) t =
@@ -291,12 +242,11 @@ runs q rising w s a k h v (e ∷ es) t =
 
 module _ (q : Seqs) (rising : Rising q) (s : real.State) (f : Fresh s) where
   -- nothing has been proposed, and what the map remembers was sent by others
-  first : Inv q (s .map .sessions) (s .offers) (freshHistory s (f .shard) .commanded) (freshHistory s (f .shard) .workers)
+  first : Inv q (s .map .sessions) (s .offers) (freshHistory s (f .shard) .commanded)
   unfolding freshHistory
   first = record {
     counted = record { beside = ap (map turns.offerNode) (f .offers); below = tt; apart = tt };
     known = λ client x e. inl (ap before e);
-    workers = first-other s (f .shard .replicas);
   }
 
   -- every run of the paper is one that the rules allow

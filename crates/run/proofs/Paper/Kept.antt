@@ -17,19 +17,17 @@ use Rattle.model.proofs.Lists.{not-both, some-same, nth-nil}
 use Rattle.run.specs.State.{State, Offer, at}
 use Rattle.run.specs.Step.{removed, replaced}
 use Rattle.run.specs.Rules.{notLast}
-use Rattle.run.specs.Paper.{Sender, proposer, another, Turn, Commanded, Started, Seqs, Rising, sentBy, proposing, without, ownOf}
+use Rattle.run.specs.Paper.{Sender, proposer, another, Turn, Commanded, Seqs, Rising, sentBy, proposing, without, ownOf}
 use Rattle.run.proofs.Protocol.Base.{All, all-nth, same-or}
 use Rattle.run.proofs.Simulation.Lists.{nth-map, all-removed}
-use Rattle.run.proofs.Paper.Workers.{OtherPeer}
 use Rattle.run.proofs.Paper.Sessions.{other-client, own-client}
 use Rattle.run.proofs.Paper.Turns.{at-same, at-other, Differs, Counted, offerNode, turnNode, OfNode, Origin, Known, taken-gone, made-counted, made-known, gone-counted, gone-known, seqs-differ}
 
 module _ (q : Seqs) where
-  -- of the sessions, the proposals under way, the commands so far and the workers
-  pub record Inv (ss : List Session) (os : List Offer) (c : Commanded) (ws : List Started) : Type 0 where
+  -- of the sessions, the proposals under way and the commands so far
+  pub record Inv (ss : List Session) (os : List Offer) (c : Commanded) : Type 0 where
     pub counted : Counted os c
     pub known : Known q ss c
-    pub workers : All OtherPeer ws
 
   -- the proposal at a place is its turn's
   turn-node : (os : List Offer) (c : Commanded) → Counted os c → (i : ℕ) (o : Offer) (t : Turn) → nth os i ≡ some o → nth (c .turns) i ≡ some t
@@ -142,26 +140,24 @@ module _ (q : Seqs) where
 
   -- ---- a state that differs in nothing of this
 
-  pub quiet : (s s′ : State) (c : Commanded) (ws : List Started) → s′ .map ≡ s .map → s′ .offers ≡ s .offers
-      → Inv (s .map .sessions) (s .offers) c ws → Inv (s′ .map .sessions) (s′ .offers) c ws
-  quiet s s′ c ws e f v = record {
+  pub quiet : (s s′ : State) (c : Commanded) → s′ .map ≡ s .map → s′ .offers ≡ s .offers
+      → Inv (s .map .sessions) (s .offers) c → Inv (s′ .map .sessions) (s′ .offers) c
+  quiet s s′ c e f v = record {
     counted = subst (λ (l : List Offer). Counted l c) (sym f) (v .counted);
     known = subst (λ (m : Map). Known q (m .sessions) c) (sym e) (v .known);
-    workers = v .workers;
   }
 
   -- proposals that an event makes
-  pub makes : (s s′ : State) (c : Commanded) (ws : List Started) (new : List Offer) → s′ .map ≡ s .map → s′ .offers ≡ s .offers ++ new
-      → Inv (s .map .sessions) (s .offers) c ws
-      → Inv (s′ .map .sessions) (s′ .offers) (proposing c (drop (length (s .offers)) (s′ .offers))) ws
-  makes s s′ c ws new e f v =
+  pub makes : (s s′ : State) (c : Commanded) (new : List Offer) → s′ .map ≡ s .map → s′ .offers ≡ s .offers ++ new
+      → Inv (s .map .sessions) (s .offers) c
+      → Inv (s′ .map .sessions) (s′ .offers) (proposing c (drop (length (s .offers)) (s′ .offers)))
+  makes s s′ c new e f v =
       let d : drop (length (s .offers)) (s′ .offers) ≡ new =
       ap (drop (length (s .offers))) f ∙ drop-append-seam (s .offers) new in
-      subst (λ (l : List Offer). Inv (s′ .map .sessions) (s′ .offers) (proposing c l) ws) (sym d)
+      subst (λ (l : List Offer). Inv (s′ .map .sessions) (s′ .offers) (proposing c l)) (sym d)
       (record {
         counted = subst (λ (l : List Offer). Counted l (proposing c new)) (sym f) (made-counted q (s .offers) new c (v .counted));
         known = subst (λ (m : Map). Known q (m .sessions) (proposing c new)) (sym e) (made-known q (s .map .sessions) new c (v .known));
-        workers = v .workers;
       })
 
   -- a proposal that is awaited no more is still its node's

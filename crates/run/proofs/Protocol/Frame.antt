@@ -88,7 +88,6 @@ module _ (h h′ : History) (g : Grown h h′) where
   request-grown a p (align e end t) c = record {
     begun = g .st e (c .begun);
     owner = g .pr e (c .begun) ∙ c .owner;
-    other = c .other;
     upto = c .upto ∙ ap length (sym (g .start e (c .begun)));
     table = rw (g .start e (c .begun)) (c .table);
   }
@@ -158,6 +157,7 @@ cover-same h u v top q c = record {
   low = λ e g m a b d i le. c .low e g m a b d i (rw (q m) at le);
   begins = λ e g o a b d t. c .begins e g o a b d (back e o t);
   holds = λ e m o a b i lt t. rw (q m) (c .holds e m o a b i (rw (q m) at lt) (back e o t));
+  led = λ e b. rw (q (h .pr e)) (c .led e b);
 }
   where
     back : (e o : ℕ) → Took h v e o → Took h u e o

@@ -126,5 +126,6 @@ module _ (h : History) (s : State) (k : Clauses h s) (n : ℕ) (r : Role) (x : S
         begins = λ d g o lo lt z t. agree-grow o (h .book d) (h .start g) (new .book d) (h .start g) (up d) (λ i y q. q) (k .cover .begins d g o lo lt z (took d o t));
         holds = λ d m o lo lt i over t. agree-grow o (h .book d) (s .nodes m .replica .log) (new .book d) (nodes m .replica .log) (up d) (log-at m)
             (k .cover .holds d m o lo lt i (rw (ep-at m) at over) (took d o t));
+        led = λ d z. omega (arith, k .cover .led d z, ep-at (h .pr d));
       };
     }

@@ -84,7 +84,6 @@ abbrev pub RequestOk : (ℕ → ℕ) → (ℕ → Bool) → (ℕ → Log) → (�
 RequestOk pr st book start a p (align e end t) = record {
   begun : st e ≡ true;
   owner : pr e ≡ a;
-  other : a ≡ p → ⊥;
   upto : end ≡ length (start e);
   table : t ≡ epochEnds (start e);
 }
@@ -168,13 +167,14 @@ TokensOk ins proposals outcomes (lead l) = (p : ℕ) → TokenOk (ins (l .epoch)
 abbrev pub Took : History → (ℕ → Node) → ℕ → ℕ → Type 0
 Took h nodes e o = (x : ℕ) → In x (h .ins e) → e < nodes x .replica .epoch → o ≤ h .held e x
 
--- then later primaries began with these entries, and the nodes in sync that have left the epoch hold them
+-- then later primaries began with these entries, and the nodes in sync that have left the epoch hold them. Who began an epoch has reached it
 abbrev pub CoverOk : History → (ℕ → Node) → ℕ → Type 0
 CoverOk h nodes top = record {
   low : (e g m : ℕ) → 1 ≤ e → e < g → g ≤ top → In m (h .ins g) → nodes m .replica .epoch ≤ e → In m (h .ins e);
   begins : (e g o : ℕ) → 1 ≤ e → e < g → h .st g ≡ true → Took h nodes e o → Agree o (h .book e) (h .start g);
   holds : (e m o : ℕ) → 1 ≤ e → e < top → In m (h .ins top) → e < nodes m .replica .epoch → Took h nodes e o
       → Agree o (h .book e) (nodes m .replica .log);
+  led : (e : ℕ) → h .st e ≡ true → e ≤ nodes (h .pr e) .replica .epoch;
 }
 
 pub record Clauses (h : History) (s : State) : Type 0 where

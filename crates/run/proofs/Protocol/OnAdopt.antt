@@ -90,7 +90,7 @@ module _ (h : History) (s : State) (k : Clauses h s) (a p e end : ℕ) (t : List
   mine = record {
     begun = ok .begun;
     within = cut-in;
-    whole = λ q. absurd (ok .other (sym (ok .owner) ∙ q));
+    whole = λ q. absurd (omega (arith, later, k .cover .led e (ok .begun), (ap (λ (y : ℕ). s .nodes y .replica .epoch) q)));
     here = upd2-same (h .held) e p (length cut);
     ahead = λ d lt. held-at d p (λ q _. omega arith) ∙ k .nodes p .ahead d (omega arith);
     played = in-step-cut (s .nodes p .replica) e end t (k .nodes p .played);
@@ -174,5 +174,6 @@ module _ (h : History) (s : State) (k : Clauses h s) (a p e end : ℕ) (t : List
       low = λ d g m lo lt hi i le. k .cover .low d g m lo lt hi i (omega (arith, le, ep m));
       begins = λ d g o lo lt b u. k .cover .begins d g o lo lt b (took d o u);
       holds = holds;
+      led = λ d b. omega (arith, k .cover .led d b, ep (h .pr d));
     };
   }

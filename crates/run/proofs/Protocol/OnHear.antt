@@ -77,23 +77,24 @@ module _ (h : History) (s : State) (k : Clauses h s) (a p e : ℕ) (es : Log) (o
 
 -- an alignment at the own epoch: the whole log stays
 module _ (h : History) (s : State) (k : Clauses h s) (a p e end : ℕ) (t : List End) (ok : RequestOk (h .pr) (h .st) (h .book) (h .start) a p (align e end t))
-    (same : e ≡ s .nodes p .replica .epoch) where
+    (same : e ≡ s .nodes p .replica .epoch) (led : leadsFrom (s .nodes p .role) e ≡ false) where
   uncut : Clauses h (replied (setNode s p (withRole (s .nodes p) backup)) a p e (adopts (length (s .nodes p .replica .log))))
   unfolding replied setNode withRole
   uncut =
       add-reply h (setNode s p (withRole (s .nodes p) backup))
-      (rerole-only h s k p backup tt (λ st w. absurd (ok .other (sym (ok .owner) ∙ ap (h .pr) (same ∙ top-is st w) ∙ k .map .primary ∙ w))) tt)
+      (rerole-only h s k p backup tt (λ st w. not-both (leadsFrom (s .nodes p .role) e) (leads st w) led) tt)
       (record { node = a; peer = p; epoch = e; answer = adopts (length (s .nodes p .replica .log)) }) (
         omega (arith, (ap (λ (d : ℕ). h .held d p) same ∙ k .nodes p .here)),
         omega (arith, same, (ap (λ (z : Node). z .replica .epoch) (upd-same (s .nodes) p (withRole (s .nodes p) backup)))),
       )
     where
-      -- were it the map's primary, it would lead at the map's epoch, and be the primary of its own
-      top-is : h .st (s .map .epoch) ≡ true → s .map .primary ≡ p → s .nodes p .replica .epoch ≡ s .map .epoch
-      top-is st w =
+      -- were it the map's primary, it would lead at the map's epoch, and have turned the alignment down
+      leads : h .st (s .map .epoch) ≡ true → s .map .primary ≡ p → leadsFrom (s .nodes p .role) e ≡ true
+      leads st w =
           let f = k .map .now st in
-          let c = lead-of h s k (s .map .primary) (f .0) (f .1) in
-          ap (λ (m : ℕ). s .nodes m .replica .epoch) (sym w) ∙ sym (c .epoch) ∙ f .2
+          let low = k .book .range (s .nodes p .replica .epoch) (k .nodes p .begun) in
+          ap (λ (r : Role). leadsFrom r e) (ap (λ (m : ℕ). s .nodes m .role) (sym w) ∙ f .1)
+          ∙ (unfold leadsFrom in le-leb e (f .0 .epoch) (omega (arith, f .2, same, low)))
 
 -- an alignment of a later epoch
 module _ (h : History) (s : State) (k : Clauses h s) (a p e end : ℕ) (t : List End) (ok : RequestOk (h .pr) (h .st) (h .book) (h .start) a p (align e end t))
@@ -131,7 +132,7 @@ on-hear h s k a p i = go (nth (s .requests a p) i) refl
         by-test After (leadsFrom (s .nodes p .role) e) (λ u. (h, refl, old))
         (λ u. by-test After (ltb e (s .nodes p .replica .epoch)) (λ y. (h, refl, old))
         (λ y. by-test After (eqb e (s .nodes p .replica .epoch))
-        (λ z. (h, refl, uncut h s k a p e end t ok (eqb-true e (s .nodes p .replica .epoch) z)))
+        (λ z. (h, refl, uncut h s k a p e end t ok (eqb-true e (s .nodes p .replica .epoch) z) u))
         (λ z. let le = ltb-false e (s .nodes p .replica .epoch) y in
         let lt : s .nodes p .replica .epoch < e = omega (arith, eqb-false e (s .nodes p .replica .epoch) z) in
         (adopt.new h s k a p e end t ok lt, refl, adopted-later h s k a p e end t ok lt))))

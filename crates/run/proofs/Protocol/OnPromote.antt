@@ -127,6 +127,7 @@ module _ (h : History) (s : State) (k : Clauses h s) (q : ℕ) (in-sync : In q (
           let mt = begun-le m in
           let et : e < top = omega arith in
           k .cover .holds e m o lo et (smaller m (rw (upd-same (h .ins) (suc top) set) at i)) over (took e o (omega arith) t);
+      led = λ e b. rw (pr-at e (k .book .range e b)) (k .cover .led e b);
     };
   }
 

@@ -55,15 +55,13 @@ on-align h s k a p = go (s .nodes a .role) refl
     go backup q = k
     go (lead l) q =
         let c = lead-of h s k a l q in
-        by-test (Clauses h) (eqb a p) (λ t. k)
-        (λ t. by-test (Clauses h) (l .aligned p) (λ u. k)
-        (λ u. posted h s k a p (align (l .epoch) (l .end) (l .table)) (record {
+        let asks = posted h s k a p (align (l .epoch) (l .end) (l .table)) (record {
           begun = ap (h .st) (c .epoch) ∙ k .nodes a .begun;
           owner = ap (h .pr) (c .epoch) ∙ c .mine;
-          other = eqb-false a p t;
           upto = c .end ∙ ap (λ (d : ℕ). length (h .start d)) (sym (c .epoch));
           table = c .table ∙ ap (λ (d : ℕ). epochEnds (h .start d)) (sym (c .epoch));
-        })))
+        }) in
+        by-test (Clauses h) (eqb a p) (λ t. asks) (λ t. by-test (Clauses h) (l .aligned p) (λ u. k) (λ u. asks))
 
 -- the log of a node with a record is its epoch's
 pub log-whole : (h : History) (s : State) → Clauses h s → (n : ℕ) (l : Lead) → s .nodes n .role ≡ lead l

@@ -190,6 +190,13 @@ module _ (h : History) (s : State) (k : Clauses h s) (n : ℕ) (is : s .map .pri
       top-max : (a b : ℕ) → a < b → b ≡ max a b
       top-max a b lt = omega arith
 
+  here-led : nodes (h .pr F) .replica .epoch ≡ F
+  unfolding leader promote
+  here-led =
+      ap (λ (m : ℕ). nodes m .replica .epoch) (k .map .primary ∙ is)
+      ∙ ap (λ (z : Node). z .replica .epoch) (upd-same (s .nodes) n (leader (s .nodes n) (s .map)))
+      ∙ omega (arith, before n)
+
   lead-here : nodes (s .map .primary) .role ≡ lead l
   unfolding leader
   lead-here = rw (is, upd-same (s .nodes) n (leader (s .nodes n) (s .map))) refl
@@ -237,5 +244,6 @@ module _ (h : History) (s : State) (k : Clauses h s) (n : ℕ) (is : s .map .pri
       low = λ e g m lo lt hi i le. k .cover .low e g m lo lt hi i (omega (arith, le, ep m));
       begins = begins;
       holds = holds;
+      led = upd-all (λ e v. v ≡ true → e ≤ nodes (h .pr e) .replica .epoch) (λ _. omega (arith, here-led)) (λ e ne b. omega (arith, k .cover .led e b, ep (h .pr e)));
     };
   }

@@ -102,6 +102,7 @@ module _ (h : History) (s : State) (k : Clauses h s) (S : List ℕ) (P : List Pr
             (λ d ne lt hi i le. rw (ins-at e (λ z. omega arith)) (k .cover .low e d m lo lt hi i le)) g lt;
         begins = λ e g o lo lt b t. let r = k .book .range g b in k .cover .begins e g o lo lt b (took e o (omega arith) t);
         holds = λ e m o lo lt i over t. holds e m o lo lt (rw (upd-same (h .ins) top S) at i) over (took e o lt t);
+        led = k .cover .led;
       };
     }
 

@@ -142,6 +142,9 @@ module _ (metric : Metric) (p : ℕ) (others : List ℕ) where
         low = λ e g m lo lt hi i le. i;
         begins = λ e g o lo lt b t. absurd (omega (arith, leb-true g 1 b));
         holds = λ e m o lo lt i over t. absurd (omega arith);
+        led = λ e b.
+            let q : fresh metric p others .nodes (first .pr e) .replica .epoch ≡ 1 = ap (λ (z : Node). z .replica .epoch) (upd-same _ p _) in
+            omega (arith, leb-true e 1 b, q);
       };
     };
     reached = λ a b. upd-all (λ m (z : Node). ReachedOk (fresh metric p others .nodes b .replica .epoch) b (z .role)) (λ w. not-both false w refl) (λ m ne. tt) a;

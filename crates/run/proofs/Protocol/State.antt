@@ -318,7 +318,7 @@ post s a p r = setRequests s a p (s .requests a p ++ (r ∷ []))
 unfoldable pub alignAs : State → ℕ → ℕ → Role → State
 alignAs s a p backup = s
 alignAs s a p (lead l) =
-    cond (eqb a p) s (cond (l .aligned p) s (post s a p (align (l .epoch) (l .end) (l .table))))
+    let asks = post s a p (align (l .epoch) (l .end) (l .table)) in cond (eqb a p) asks (cond (l .aligned p) s asks)
 
 unfoldable pub onAlign : State → ℕ → ℕ → State
 onAlign s a p = alignAs s a p (s .nodes a .role)

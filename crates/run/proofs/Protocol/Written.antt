@@ -135,9 +135,8 @@ module _ (s : State) (v : Inv s) (k : KnownAt s) where
   unfolding alignAs post setRequests
   align-kept a p backup = k
   align-kept a p (lead l) =
-      by-test KnownAt (eqb a p) (λ t. k)
-      (λ t. by-test KnownAt (l .aligned p) (λ u. k)
-      (λ u. on-request (s .accepted) (s .nodes) (s .requests) k a p (align (l .epoch) (l .end) (l .table)) tt))
+      let asks = on-request (s .accepted) (s .nodes) (s .requests) k a p (align (l .epoch) (l .end) (l .table)) tt in
+      by-test KnownAt (eqb a p) (λ t. asks) (λ t. by-test KnownAt (l .aligned p) (λ u. k) (λ u. asks))
 
   batch-kept : (a p e : ℕ) (es : Log) → All (EntryIn (s .accepted)) es → KnownAt (sendBatch s a p e es)
   unfolding sendBatch post setRequests

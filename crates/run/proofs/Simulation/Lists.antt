@@ -66,6 +66,14 @@ module _ {A : Type 0} where
       let more = any-find p ys in
       by-both (λ (v : Bool) (w : Option A). v ≡ true → (x : A) × (w ≡ some x)) (p y) (λ q d. (y, refl)) (λ q d. more d) e
 
+  -- .. and the other way round
+  pub find-any : (p : A → Bool) (l : List A) (x : A) → find p l ≡ some x → any p l ≡ true
+  unfolding any find
+  find-any p [] x e = none-some e
+  find-any p (y ∷ ys) x e =
+      let more = find-any p ys x in
+      by-both (λ (v : Bool) (w : Option A). w ≡ some x → v ≡ true) (p y) (λ q d. refl) (λ q d. more d) e
+
   -- a test that a change leaves
   pub any-update : (p : A → Bool) (f : A → A) (t : A → Bool) → ((x : A) → t (f x) ≡ t x) → (l : List A) → any t (update p f l) ≡ any t l
   unfolding any update

@@ -89,16 +89,21 @@ module _ (me : ℕ) (sync : List DataNodeId) where
       (λ t u. more u ne)
       h
 
-  -- a fact of every new row, and of those that were there
-  each-row : (P : Peer → Type 0) → (rs : List Replica) → ((p : DataNodeId) → holds (p .0) rs ≡ true → P (newRow p (any (isNode (p .0)) sync)))
+  -- a fact of every new row, which is another's, and of those that were there
+  each-row : (P : Peer → Type 0) → (rs : List Replica)
+      → ((p : DataNodeId) → holds (p .0) rs ≡ true → eqb (p .0) me ≡ false → P (newRow p (any (isNode (p .0)) sync)))
       → (rows : List Peer) → All P rows → All P (withRows me sync rs rows)
-  unfolding withRows holds any
+  unfolding withRows holds any _or_
   each-row P [] f rows h = h
   each-row P (r ∷ rs) f rows h =
       each-row P rs (λ p u. f p (by-test (λ v. v ≡ true) (eqb (r .node .0) (p .0)) (λ t. refl) (λ t. u))) (withRow me sync (r .node) rows)
       (unfold withRow in
       by-test (All P) (eqb (r .node .0) me or any (ofNode (r .node .0)) rows) (λ t. h)
-      (λ t. all-put P rowBelow _ rows (f (r .node) (rw (eq-eqb (r .node .0) (r .node .0) refl))) h))
+      (λ t. all-put P rowBelow _ rows (f (r .node) (rw (eq-eqb (r .node .0) (r .node .0) refl)) (not-me (eqb (r .node .0) me) _ t)) h))
+    where
+      not-me : (b d : Bool) → (b or d) ≡ false → b ≡ false
+      not-me true d e = e
+      not-me false d e = refl
 
   -- where all have theirs, none is added
   pub none-added : (rs : List Replica) (rows : List Peer) → ((p : ℕ) → holds p rs ≡ true → (p ≡ me → ⊥) → any (ofNode p) rows ≡ true)
@@ -122,7 +127,7 @@ module _ (me : ℕ) (sync : List DataNodeId) where
 pub new-rows : (w : World) (me : ℕ) (sync : List DataNodeId) (l : Lead) → l .acked ≡ (λ p. 0) → l .aligned ≡ (λ p. false)
     → ((p : ℕ) → inSync p sync ≡ member p (l .ack)) → ((p : ℕ) → In p (l .ack) → holds p (w .holders) ≡ true)
     → RowsSim w me l (withRows me sync (w .holders) [])
-unfolding inSync every
+unfolding inSync every any
 new-rows w me sync l none′ loose in′ known = record {
   row = λ p q e.
       let f = all-find Fresh (ofNode p) (withRows me sync (w .holders) []) q fresh e in
@@ -132,8 +137,9 @@ new-rows w me sync l none′ loose in′ known = record {
         aligned = f .1 ∙ sym (ap (λ (g : ℕ → Bool). g p) loose);
         joined = f .2 ∙ ap (λ (z : ℕ). any (isNode z) sync) same ∙ in′ p;
       };
-  holders = as-every (withRows me sync (w .holders) []) (each-row me sync (λ q. isHolder w q ≡ true) (w .holders) (λ p u. u) [] tt);
+  holders = as-every (withRows me sync (w .holders) []) (each-row me sync (λ q. isHolder w q ≡ true) (w .holders) (λ p u ne. u) [] tt);
   has = λ p u ne. each-has me sync p (w .holders) [] u ne;
+  own = none-any (withRows me sync (w .holders) []) (each-row me sync (λ q. ofNode me q ≡ false) (w .holders) (λ p u ne. ne) [] tt);
   known = known;
 }
   where
@@ -141,7 +147,11 @@ new-rows w me sync l none′ loose in′ known = record {
     Fresh q = (q .acked .0 ≡ 0) × (q .aligned ≡ false) × (q .member ≡ any (isNode (q .node .0)) sync)
 
     fresh : All Fresh (withRows me sync (w .holders) [])
-    fresh = each-row me sync Fresh (w .holders) (λ p u. (refl, refl, refl)) [] tt
+    fresh = each-row me sync Fresh (w .holders) (λ p u ne. (refl, refl, refl)) [] tt
+
+    none-any : (l : List Peer) → All (λ (q : Peer). ofNode me q ≡ false) l → any (ofNode me) l ≡ false
+    none-any [] h = refl
+    none-any (q ∷ qs) h = rw (h .0) (none-any qs (h .1))
 
     as-every : (l : List Peer) → All (λ (q : Peer). isHolder w q ≡ true) l → every (isHolder w) l ≡ true
     as-every [] h = refl

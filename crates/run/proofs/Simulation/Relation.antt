@@ -90,6 +90,7 @@ module _ (w : World) where
     pub row : (p : ℕ) (q : Peer) → find (ofNode p) rows ≡ some q → RowSim l p q
     pub holders : every isHolder rows ≡ true
     pub has : (p : ℕ) → holds p (w .holders) ≡ true → (p ≡ n → ⊥) → any (ofNode p) rows ≡ true
+    pub own : any (ofNode n) rows ≡ false
     pub known : (p : ℕ) → In p (l .ack) → holds p (w .holders) ≡ true
 
   -- `top` is the map's epoch: no record is of a later one

@@ -72,6 +72,7 @@ module _ (w : World) (n : ℕ) where
     holders = every-update (ofNode peer) f (isHolder w)
         (λ q t h. subst (λ (d : DataNodeId). holds (d .0) (w .holders) ≡ true) (sym (node q)) h) rows (k .holders);
     has = λ p h ne. any-update (ofNode peer) f (ofNode p) (λ q. ap (λ (d : DataNodeId). eqb (d .0) p) (node q)) rows ∙ k .has p h ne;
+    own = any-update (ofNode peer) f (ofNode n) (λ q. ap (λ (d : DataNodeId). eqb (d .0) n) (node q)) rows ∙ k .own;
     known = known;
   }
     where
@@ -99,6 +100,7 @@ module _ (w : World) (n : ℕ) where
         subst (RowSim w l p) (r .2) (new p (r .0) (r .1) (k .row p (r .0) (r .1)));
     holders = every-map (isHolder w) f (λ q h. subst (λ (d : DataNodeId). holds (d .0) (w .holders) ≡ true) (sym (node q)) h) rows (k .holders);
     has = λ p h ne. any-map f (ofNode p) (λ q. ap (λ (d : DataNodeId). eqb (d .0) p) (node q)) rows ∙ k .has p h ne;
+    own = any-map f (ofNode n) (λ q. ap (λ (d : DataNodeId). eqb (d .0) n) (node q)) rows ∙ k .own;
     known = k .known;
   }
 

@@ -2,14 +2,14 @@
 -- and a refusal do nothing. Assumes nothing.
 use Prim.Native.Nat.{ℕ, zero, suc, _+_, _-_, _≤_, max}
 use mathlib.Core.Path.{_≡_, refl, sym, ap, _∙_, subst}
-use mathlib.Core.Bool.{true, false, not}
+use mathlib.Core.Bool.{Bool, true, false, not, cond}
 use mathlib.Core.Logic.{_⊎_, inl, inr}
 use mathlib.Core.List.{List, [], _∷_, _++_, map}
-use mathlib.Core.Option.{Option, some}
+use mathlib.Core.Option.{Option, none, some}
 use native.Mathlib.Omega.{arith}
 use lib.Dec.{eqb, ltb}
 use lib.ListN.{length, take, drop, length-take}
-use borrow.Author.Tests.{eqb-true, eqb-false, not-true, not-false}
+use borrow.Author.Tests.{eqb-true, eqb-false, not-false}
 use Rattle.model.specs.Keys.{Key}
 use Rattle.model.specs.Limits.{maxU64, maxEntries, maxBatch, maxTable}
 use Rattle.model.specs.Refusals.{noRoom}
@@ -32,7 +32,7 @@ use Rattle.model.specs.declared.Metric.{Metric}
 use Rattle.model.specs.declared.Peer.{Peer}
 use Rattle.model.specs.declared.Replica.{Replica}
 use Rattle.model.specs.declared.Role as role
-use Rattle.model.proofs.Lists.{by-test, nth-taken}
+use Rattle.model.proofs.Lists.{by-test, not-both, none-some, nth-taken}
 use Rattle.model.proofs.LayoutLaws.Data.{length-mapped}
 use Rattle.model.proofs.LayoutLaws.Messages.{new-epoch-back, replicate-back, copy-back}
 use Rattle.model.proofs.Log.Numbered.{from-at}
@@ -41,7 +41,7 @@ use Rattle.run.specs.Step as step
 use Rattle.run.proofs.Protocol.Base.{All, nth-all}
 use Rattle.run.proofs.Protocol.State as proto
 use Rattle.run.proofs.Protocol.State.{Lead, Role, lead, Node, Request, State}
-use Rattle.run.proofs.Simulation.Lists.{any-find}
+use Rattle.run.proofs.Simulation.Lists.{any-find, find-any}
 use Rattle.run.proofs.Simulation.Ops.{op-back}
 use Rattle.run.proofs.Simulation.Relation.{World, LeadSim, HeldSim, AlignSim, CopySim, LoneSim, RequestSim, Sim}
 use Rattle.run.proofs.Simulation.Frame.{Gentle, Gently, rests, gently, on-post}
@@ -55,8 +55,7 @@ take-taken zero l = refl
 take-taken (suc n) [] = refl
 take-taken {A} (suc n) (y ∷ ys) = ap {A = List A} {B = List A} (λ v. y ∷ v) (take-taken n ys)
 
-module _ (w : World) (s : real.State) (a : State) (k : Sim w s a) (n : ℕ) (key : Key) (epoch peer : ℕ) (metric : Metric) (room : ℕ)
-    (ne : eqb n peer ≡ false) where
+module _ (w : World) (s : real.State) (a : State) (k : Sim w s a) (n : ℕ) (key : Key) (epoch peer : ℕ) (metric : Metric) (room : ℕ) where
   abbrev x : held.Node
   x = s .nodes n
 
@@ -86,9 +85,9 @@ module _ (w : World) (s : real.State) (a : State) (k : Sim w s a) (n : ℕ) (key
     abbrev pub due : Log
     due = entriesFrom log (l .acked peer + 1) maxBatch
 
-    -- an alignment asks one that is not aligned, a batch is what is left for one that is
+    -- an alignment asks one that is not aligned, or the node itself, which has no row; a batch is what is left for one that is aligned
     abbrev pub Asks : Request → Type 0
-    Asks (proto.align d end t) = l .aligned peer ≡ false
+    Asks (proto.align d end t) = (peer ≡ n → ⊥) → l .aligned peer ≡ false
     Asks (proto.send d v) = (l .aligned peer ≡ true) × (due ≡ v)
 
     pub record Puts (r : RequestAnswer) : Type 0 where
@@ -139,7 +138,7 @@ module _ (w : World) (s : real.State) (a : State) (k : Sim w s a) (n : ℕ) (key
     abbrev aligning : message.NewEpoch
     aligning = worker.alignment h epoch metric
 
-    aligns : l .aligned peer ≡ false → Named (writtenIn room (requestHeld epoch metric h worker.align))
+    aligns : ((peer ≡ n → ⊥) → l .aligned peer ≡ false) → Named (writtenIn room (requestHeld epoch metric h worker.align))
     unfolding requestHeld messageBytes
     aligns loose = fits-in (newEpochMessage aligning) (record {
       bytes = encodeNewEpoch aligning;
@@ -152,10 +151,16 @@ module _ (w : World) (s : real.State) (a : State) (k : Sim w s a) (n : ℕ) (key
       asks = loose;
     })
       where
+        goes : (b : Bool) → eqb n peer ≡ b
+            → (let asks = proto.post a n peer (proto.align (l .epoch) (l .end) (l .table)) in cond b asks (cond (l .aligned peer) a asks) ≡ asks)
+        goes true e = refl
+        goes false e = rw (loose (λ q. eqb-false n peer e (sym q)))
+
         moved : proto.step a (proto.alignment n peer) ≡ proto.post a n peer (proto.align epoch (l .end) (l .table))
         moved =
             unfold proto.step in unfold proto.onAlign in unfold proto.alignAs in
-            ap (proto.alignAs a n peer) leading ∙ rw (ne, loose, now)
+            ap (proto.alignAs a n peer) leading ∙ goes (eqb n peer) refl
+            ∙ ap (λ (d : ℕ). proto.post a n peer (proto.align d (l .end) (l .table))) now
 
         end : endOffset (h .role) ≡ l .end
         end = ap (λ (r : role.Role). endOffset r) (c .role)
@@ -206,7 +211,7 @@ module _ (w : World) (s : real.State) (a : State) (k : Sim w s a) (n : ℕ) (key
 
     -- ---- Send
 
-    module _ (first count : ℕ) (tied : l .aligned peer ≡ true) (few : count ≤ maxBatch) (all : due ≡ entriesFrom log first count) where
+    module _ (ne : eqb n peer ≡ false) (first count : ℕ) (tied : l .aligned peer ≡ true) (few : count ≤ maxBatch) (all : due ≡ entriesFrom log first count) where
       abbrev es : Log
       es = entriesFrom log first count
 
@@ -322,22 +327,33 @@ module _ (w : World) (s : real.State) (a : State) (k : Sim w s a) (n : ℕ) (key
 
     -- ---- the step of an aligned row
 
+    -- a row is for another node
+    apart : (p : Peer) → find (ofNode peer) (h .peers) ≡ some p → eqb n peer ≡ false
+    apart p e = go (eqb n peer) refl
+      where
+        go : (b : Bool) → eqb n peer ≡ b → b ≡ false
+        go true t =
+            not-both (any (ofNode peer) (h .peers)) (find-any (ofNode peer) (h .peers) p e)
+            (ap (λ (z : ℕ). any (ofNode z) (h .peers)) (sym (eqb-true n peer t)) ∙ c .rows .own)
+        go false t = refl
+
     row-step : (p : Peer) → find (ofNode peer) (h .peers) ≡ some p
         → Named (writtenIn room (requestHeld epoch metric h (stepRow log (some p))))
     unfolding stepRow
     row-step p here =
         let row = c .rows .row peer p here in
+        let ne = apart p here in
         by-test (λ (z : Step). Named (writtenIn room (requestHeld epoch metric h z))) (p .aligned)
-        (λ t. go (p .acked .0 + 1) (entriesFrom log (p .acked .0 + 1) maxBatch) refl
+        (λ t. go ne (p .acked .0 + 1) (entriesFrom log (p .acked .0 + 1) maxBatch) refl
         (ap (λ (d : ℕ). entriesFrom log (d + 1) maxBatch) (sym (row .acked))) (sym (row .aligned) ∙ t))
-        (λ t. aligns (sym (row .aligned) ∙ t))
+        (λ t. aligns (λ _. sym (row .aligned) ∙ t))
       where
-        go : (first : ℕ) (v : Log) → entriesFrom log first maxBatch ≡ v → due ≡ entriesFrom log first maxBatch → l .aligned peer ≡ true
+        go : eqb n peer ≡ false → (first : ℕ) (v : Log) → entriesFrom log first maxBatch ≡ v → due ≡ entriesFrom log first maxBatch → l .aligned peer ≡ true
             → Named (writtenIn room (requestHeld epoch metric h (sendOf first v)))
-        go first [] q all t = unfold requestHeld in inr (inl (refl, t, all ∙ q))
-        go first (e ∷ r) q all t =
+        go ne first [] q all t = unfold requestHeld in inr (inl (refl, t, all ∙ q))
+        go ne first (e ∷ r) q all t =
             unfold requestHeld in
-            sends first (length (e ∷ r)) t (count first (e ∷ r) q)
+            sends ne first (length (e ∷ r)) t (count first (e ∷ r) q)
             (all ∙ subst (λ (v : Log). entriesFrom log first maxBatch ≡ entriesFrom log first (length v)) q
             (unfold entriesFrom in sym (take-taken maxBatch (drop (max first 1 - 1) log))))
             (entriesFrom log first (length (e ∷ r))) refl
@@ -348,10 +364,14 @@ module _ (w : World) (s : real.State) (a : State) (k : Sim w s a) (n : ℕ) (key
                 (unfold entriesFrom in (let p = length-take maxBatch (drop (max first 1 - 1) log) in omega arith))
 
     pub steps : Named (writtenIn room (requestHeld epoch metric h (stepRow log (find (ofNode peer) (h .peers)))))
-    steps =
-        let r = any-find (ofNode peer) (h .peers) (c .rows .has peer holder (λ e. eqb-false n peer ne (sym e))) in
-        subst (λ (o : Option Peer). Named (writtenIn room (requestHeld epoch metric h (stepRow log o)))) (sym (r .1))
-        (row-step (r .0) (r .1))
+    steps = go (find (ofNode peer) (h .peers)) refl
+      where
+        -- who has no row is the node itself, and is aligned
+        go : (o : Option Peer) → find (ofNode peer) (h .peers) ≡ o → Named (writtenIn room (requestHeld epoch metric h (stepRow log o)))
+        go (some p) e = row-step p e
+        go none e =
+            unfold stepRow in
+            aligns (λ ne. let r = any-find (ofNode peer) (h .peers) (c .rows .has peer holder ne) in none-some (sym e ∙ r .1))
 
   -- the step at the held shard
   at-held : holds n (w .holders) ≡ true → (h : Held) → x .held ≡ h ∷ [] → HeldSim w top n h b → key ≡ w .key
@@ -374,5 +394,5 @@ module _ (w : World) (s : real.State) (a : State) (k : Sim w s a) (n : ℕ) (key
       (λ y h is hs same. at-held y h is hs same))
 
 pub on-work : (w : World) (s : real.State) (a : State) → Sim w s a → (n : ℕ) (key : Key) (epoch peer : ℕ) (metric : Metric) (room : ℕ)
-    → not (eqb n peer) ≡ true → Gently w (step.onWork s n key epoch peer metric room) a
-on-work w s a k n key epoch peer metric room t = worked w s a k n key epoch peer metric room (not-true (eqb n peer) t)
+    → Gently w (step.onWork s n key epoch peer metric room) a
+on-work w s a k n key epoch peer metric room = worked w s a k n key epoch peer metric room
