@@ -55,7 +55,7 @@ zeros = replicate 1024 0
 abbrev pub before : Lot
 before = lot zeros zeros zeros zeros zeros (replicate 32768 (floatOf 0)) zeros zeros
 
-kept-read : lotAt stores (kept 0 0) ≡ before
+pub kept-read : lotAt stores (kept 0 0) ≡ before
 unfolding lotAt read.columnsAt read.floatsRead noLot
 kept-read = rw (words-read 0, words-read 8192, words-read 16384, bytes-read 24576 (omega arith), bytes-read 25600 (omega arith), words-read 157696, words-read 165888) refl
 
@@ -121,7 +121,7 @@ Small l = All (λ (x : ℕ). x < 256) l
 small-one : Small (bytesOf 4 0x3f800000)
 small-one = (omega arith, (omega arith, (omega arith, (omega arith, tt))))
 
-small : Small (bytesOf 8 1) × Small (bytesOf 8 41)
+pub small : Small (bytesOf 8 1) × Small (bytesOf 8 41)
 small = (
   (omega arith, (omega arith, (omega arith, (omega arith, (omega arith, (omega arith, (omega arith, (omega arith, tt)))))))),
   (omega arith, (omega arith, (omega arith, (omega arith, (omega arith, (omega arith, (omega arith, (omega arith, tt)))))))),

@@ -10,7 +10,7 @@ use Rattle.headerimage.proofs.Back.{Fits}
 use Rattle.headerimage.proofs.OfTidy.{KeptFits}
 use Rattle.onenode.proofs.Headers.{kept, leads}
 
-all-same : {A : Type 0} (P : A → Type 0) (n : ℕ) (x : A) → P x → All P (replicate n x)
+pub all-same : {A : Type 0} (P : A → Type 0) (n : ℕ) (x : A) → P x → All P (replicate n x)
 all-same P zero x p = tt
 all-same P (suc n) x p = (p, all-same P n x p)
 

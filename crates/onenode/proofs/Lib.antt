@@ -7,5 +7,6 @@ pub mod Shown
 pub mod Grant
 pub mod Columns
 pub mod Write
+pub mod Stored
 pub mod WriteImages
 pub mod Wait

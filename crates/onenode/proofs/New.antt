@@ -23,7 +23,7 @@ unused-put : unused ≡ image.headerPut unused (freshNode 0 0)
 unfolding unused image.headerPut image.noNode
 unused-put = refl
 
-made : (id incarnation : ℕ) (t : List ℕ) → id < 256 ^ 8 → incarnation < 256 ^ 8 → t ≡ image.headerPut unused (freshNode id incarnation)
+pub made : (id incarnation : ℕ) (t : List ℕ) → id < 256 ^ 8 → incarnation < 256 ^ 8 → t ≡ image.headerPut unused (freshNode id incarnation)
     → Freshens unused t id incarnation 0
 unfolding image.noNode
 made id incarnation t a b e =

@@ -54,7 +54,7 @@ last = host (withHeader written 1 images.written) (λ s. waitSaid s wrote 0 [] r
 
 -- ---- each is in memory
 
-at-bytes : (f : ℕ → List ℕ) (m : ℕ) (x : List ℕ) → ((n : ℕ) → Bytes (f n)) → Bytes x → (n : ℕ) → Bytes (at f m x n)
+pub at-bytes : (f : ℕ → List ℕ) (m : ℕ) (x : List ℕ) → ((n : ℕ) → Bytes (f n)) → Bytes x → (n : ℕ) → Bytes (at f m x n)
 unfolding at
 at-bytes f m x b h n = by-test Bytes (eqb n m) (λ e. h) (λ e. b n)
 

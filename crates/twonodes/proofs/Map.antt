@@ -1,0 +1,82 @@
+-- The map's image: it lends a well-formed map, and is read as one that Create leaves, of one shard that nodes 1 and 2 hold. Assumes nothing.
+use Prim.Native.Nat.{ℕ, _<_}
+use native.Mathlib.Omega.{arith}
+use mathlib.Core.Path.{_≡_, refl, sym, subst}
+use mathlib.Core.Bool.{true, false}
+use mathlib.Core.List.{List, [], _∷_}
+use borrow.Author.Tests.{ne-eqb}
+use Rattle.model.specs.Lists.{any}
+use Rattle.model.specs.Map.Tables.{Map, NodeInfo, applied}
+use Rattle.model.specs.Map.Change.{holds}
+use Rattle.model.specs.declared.Replica.{Replica}
+use Rattle.model.specs.declared.Metric.the-variants.{Euclidean}
+use Rattle.run.specs.Fresh.{Created}
+use Rattle.run.proofs.Cases.Opened.{opened}
+use Rattle.run.proofs.Cases.Start.{info, created}
+use Rattle.state.specs.View.{viewMap}
+use Rattle.mapcheck.specs.Lent.{tableCounted, counted, wellFormedLent}
+use Rattle.image.specs.Shape as shape
+use Rattle.image.specs.Codes as codes
+use Rattle.maprows.specs.Rows as rows
+use Rattle.mapimage.specs.Image as image
+use Rattle.mapimage.specs.Image.{mapAt, mapLent}
+use Rattle.twonodes.specs.Images.{mapBytes}
+
+abbrev pub copies : List Replica
+copies = record { node = record { 0 = 1 }; incarnation = 4 } ∷ record { node = record { 0 = 2 }; incarnation = 4 } ∷ []
+
+abbrev alive : ℕ → NodeInfo
+alive n = record { node = n; address = []; incarnation = 4; alive = true }
+
+-- what it is read as
+abbrev pub map : Map
+map = record {
+  version = 3;
+  nodes = alive 1 ∷ alive 2 ∷ [];
+  collections = record { name = 0x73 ∷ []; spec = record { dimension = 1; metric = Euclidean; shards = 1; replication = 2 } } ∷ [];
+  shards = info ∷ [];
+  sessions = record { client = 9; seq = 3; outcome = applied } ∷ [];
+}
+
+pub map-read : viewMap (mapAt mapBytes) ≡ map
+unfolding mapBytes mapAt shape.rowsAt rows.nodeAt rows.collectionAt rows.shardAt rows.sessionAt codes.outcomeOf
+map-read = refl
+
+-- it is what the two Registers and Create leave
+pub as-created : created ≡ map
+unfolding opened created
+as-created = refl
+
+pub map-lent : mapLent mapBytes ≡ true
+unfolding opened mapBytes mapLent image.codesListed
+map-lent = refl
+
+pub tested : wellFormedLent (mapAt mapBytes) ≡ true
+unfolding opened mapBytes mapAt shape.rowsAt rows.nodeAt rows.collectionAt rows.shardAt rows.sessionAt wellFormedLent counted tableCounted codes.outcomeOf
+tested = refl
+
+is-created : Created map info
+unfolding opened
+is-created = record {
+  wellFormed = refl;
+  only = refl;
+  key = ((omega arith, refl), omega arith);
+  metric = (Euclidean, refl);
+  distinct = (refl, (refl, tt));
+  live = ((alive 1, refl, refl, refl), omega arith, ((alive 2, refl, refl, refl), omega arith, tt));
+  first = (_, refl, refl);
+  everyone = λ n. refl;
+  epoch = refl;
+}
+
+pub begins : Created (viewMap (mapAt mapBytes)) info
+begins = subst (λ (m : Map). Created m info) (sym map-read) is-created
+
+-- nobody else holds it
+pub none-zero : holds 0 copies ≡ false
+unfolding holds any
+none-zero = refl
+
+pub none-above : (n : ℕ) → 2 < n → holds n copies ≡ false
+unfolding holds any
+none-above n h = rw (ne-eqb 1 n (λ q. absurd (omega arith)), ne-eqb 2 n (λ q. absurd (omega arith)))
