@@ -1,0 +1,7 @@
+pub mod OfSets
+pub mod OfTable
+pub mod OfTypes
+pub mod OfPut
+pub mod OfTables
+pub mod OfCover
+pub mod OfFrames
