@@ -22,7 +22,6 @@ use Rattle.header.specs.Arrays.{arraysFit}
 use Rattle.header.specs.Formed.{lentNode, slotsFit, countsFit}
 use Rattle.header.specs.Seats.{Keeps}
 use Rattle.hears.specs.Hears.{HearsReply}
-use Rattle.headerimage.specs.declared.Lent.{Lent}
 use Rattle.headerimage.specs.Image.{lentHeader}
 use Rattle.rpcw.specs.Written.{textFits}
 use Rattle.asked.specs.Answer.{numberPut}

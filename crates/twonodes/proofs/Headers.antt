@@ -25,7 +25,6 @@ use Rattle.headercalls.specs.Fresh.{freshNode}
 use Rattle.onenode.proofs.Zeros.{zeros-bytes}
 use Rattle.onenode.proofs.Headers.{node, key}
 use Rattle.twonodes.specs.Images.{free, newSecond, firstRow, first, secondRow, second, shown, leased, written, aligned, acked, shownSecond, adopted, holding}
-use Rattle.twonodes.proofs.Map.{copies}
 
 -- ---- what they are read as
 

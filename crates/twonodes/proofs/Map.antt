@@ -6,21 +6,20 @@ use mathlib.Core.Bool.{true, false}
 use mathlib.Core.List.{List, [], _∷_}
 use borrow.Author.Tests.{ne-eqb}
 use Rattle.model.specs.Lists.{any}
-use Rattle.model.specs.Map.Tables.{Map, NodeInfo, applied}
+use Rattle.model.specs.Map.Tables.{Map, NodeInfo}
 use Rattle.model.specs.Map.Change.{holds}
 use Rattle.model.specs.declared.Replica.{Replica}
 use Rattle.model.specs.declared.Metric.the-variants.{Euclidean}
 use Rattle.run.specs.Fresh.{Created}
 use Rattle.run.proofs.Cases.Opened.{opened}
-use Rattle.run.proofs.Cases.Start.{info, created}
+use Rattle.run.proofs.Cases.Start.{info}
 use Rattle.state.specs.View.{viewMap}
 use Rattle.mapcheck.specs.Lent.{tableCounted, counted, wellFormedLent}
 use Rattle.image.specs.Shape as shape
-use Rattle.image.specs.Codes as codes
 use Rattle.maprows.specs.Rows as rows
 use Rattle.mapimage.specs.Image as image
 use Rattle.mapimage.specs.Image.{mapAt, mapLent}
-use Rattle.twonodes.specs.Images.{mapBytes}
+use Rattle.twonodes.specs.Images.{unusedRows, mapBytes}
 
 abbrev pub copies : List Replica
 copies = record { node = record { 0 = 1 }; incarnation = 4 } ∷ record { node = record { 0 = 2 }; incarnation = 4 } ∷ []
@@ -35,24 +34,19 @@ map = record {
   nodes = alive 1 ∷ alive 2 ∷ [];
   collections = record { name = 0x73 ∷ []; spec = record { dimension = 1; metric = Euclidean; shards = 1; replication = 2 } } ∷ [];
   shards = info ∷ [];
-  sessions = record { client = 9; seq = 3; outcome = applied } ∷ [];
+  sessions = [];
 }
 
 pub map-read : viewMap (mapAt mapBytes) ≡ map
-unfolding mapBytes mapAt shape.rowsAt rows.nodeAt rows.collectionAt rows.shardAt rows.sessionAt codes.outcomeOf
+unfolding mapBytes mapAt shape.rowsAt rows.nodeAt rows.collectionAt rows.shardAt rows.sessionAt
 map-read = refl
 
--- it is what the two Registers and Create leave
-pub as-created : created ≡ map
-unfolding opened created
-as-created = refl
-
 pub map-lent : mapLent mapBytes ≡ true
-unfolding opened mapBytes mapLent image.codesListed
+unfolding opened unusedRows mapBytes mapLent image.codesListed
 map-lent = refl
 
 pub tested : wellFormedLent (mapAt mapBytes) ≡ true
-unfolding opened mapBytes mapAt shape.rowsAt rows.nodeAt rows.collectionAt rows.shardAt rows.sessionAt wellFormedLent counted tableCounted codes.outcomeOf
+unfolding opened mapBytes mapAt shape.rowsAt rows.nodeAt rows.collectionAt rows.shardAt rows.sessionAt wellFormedLent counted tableCounted
 tested = refl
 
 is-created : Created map info

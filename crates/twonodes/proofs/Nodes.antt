@@ -1,10 +1,10 @@
 -- The two nodes as their headers and the lent stores are read, and that they pass the test of a lent state (24): before the Write with the
 -- zeroed store, after it with the store that has its entry. Assumes nothing.
 use Prim.Native.Nat.{ℕ}
-use mathlib.Core.Path.{_≡_, refl, sym, subst, _∙_}
+use mathlib.Core.Path.{_≡_, refl, subst}
 use mathlib.Core.Bool.{Bool, true, false, cond}
 use mathlib.Core.List.{List, [], _∷_}
-use mathlib.Core.Option.{Option, none, some}
+use mathlib.Core.Option.{none, some}
 use lib.Ieee.{fits}
 use borrow.Author.Tests.{le-leb}
 use native.Mathlib.Omega.{arith}
@@ -14,20 +14,19 @@ use Rattle.model.specs.declared.Peer.{Peer}
 use Rattle.model.specs.declared.Metric.the-variants.{Euclidean}
 use Rattle.model.specs.declared.Role.{Role}
 use Rattle.model.specs.declared.Role.the-variants.{Backup, Primary}
+use Rattle.model.proofs.Lists.{and-true}
 use Rattle.run.proofs.Cases.Opened.{opened}
 use Rattle.shard.specs.View as view
 use Rattle.shard.specs.Table as table
 use Rattle.shard.specs.Store.{wellFormedStore, everyBelow, sameRows}
 use Rattle.replica.specs.Fits.{sized, lentFits}
 use Rattle.node.specs.declared.Held.{Held}
-use Rattle.serve.specs.declared.Expiry.the-variants.{Never, At}
+use Rattle.serve.specs.declared.Expiry.the-variants.{At}
 use Rattle.header.specs.declared.Node.{Node}
 use Rattle.header.specs.View.{Stores, viewNode, used}
 use Rattle.header.specs.Formed.{lentNode, slotsFit, countsFit}
-use Rattle.headerimage.specs.Image.{nodeAt, headerLent}
 use Rattle.storeimage.specs.Read as read
-use Rattle.storeimage.specs.Image.{wellFormedImage}
-use Rattle.lend.specs.Lend.{Lot, storeOf, keptStore, lentAt, lentFor, slotOf, placeOf, Lends}
+use Rattle.lend.specs.Lend.{Lot, storeIn, keptStore, lentAt, lentFor, slotOf, placeOf}
 use Rattle.lentimage.specs.Lent.{holdsKey, keptOf, keptReadable, lotAt, lotIn, lendsState}
 use Rattle.lentimage.specs.State.{keptImage, storesIn}
 use Rattle.onenode.specs.Images.{stores}
@@ -38,7 +37,7 @@ use Rattle.onenode.proofs.Write.{vectors}
 use Rattle.onenode.proofs.Stored.{columns, image-stored, lends-stored, passes-stored}
 use Rattle.twonodes.specs.Images.{leased, written, aligned, shownSecond, adopted, holding}
 use Rattle.twonodes.proofs.Map.{copies}
-use Rattle.twonodes.proofs.Headers.{row, kept, leading, following, leads, follows, read-leased, read-written, read-aligned, read-second, read-adopted, read-holding}
+use Rattle.twonodes.proofs.Headers.{row, leads, follows, read-leased, read-written, read-aligned, read-second, read-adopted, read-holding}
 use Rattle.twonodes.proofs.Put.{lent-leased, lent-written, lent-aligned, lent-second, lent-adopted, lent-holding}
 
 -- ---- what they are read as
@@ -100,13 +99,35 @@ pub lends-adopted : lendsState adopted stores key ≡ true
 unfolding opened lendsState keptReadable read.allReadable everyBelow
 lends-adopted = rw (lent-adopted, read-adopted, stores-long, le-leb 1392640 1392640 (omega arith)) refl
 
+pub empty-fits : lentFits (storeIn before 0 0) ≡ true
+unfolding opened lentFits sized wellFormedStore everyBelow sameRows view.logOf view.firsts table.rowsOf table.zipped table.playRows table.playRowsFrom
+empty-fits = refl
+
+leased-node : (s : Stores) → lentNode s (leads (At 100) 0 0 0 false) ≡ true
+unfolding opened lentNode slotsFit countsFit
+leased-node s = rw (s .long 0 0) refl
+
+leased-store : let n = leads (At 100) 0 0 0 false in lentAt n before (placeOf n key) ≡ true
+unfolding opened lentAt keptStore
+leased-store = empty-fits
+
 pub first-passes : (s : Stores) → lentFor s (leads (At 100) 0 0 0 false) before key ≡ true
-unfolding opened lentFor lentNode slotsFit countsFit lentAt keptStore lentFits sized wellFormedStore everyBelow sameRows view.logOf view.firsts table.rowsOf table.zipped table.playRows table.playRowsFrom
-first-passes s = rw (s .long 0 0) refl
+unfolding lentFor
+first-passes s =
+    let n = leads (At 100) 0 0 0 false in and-true (lentNode s n) (lentAt n before (placeOf n key)) (leased-node s) leased-store
+
+empty-node : (s : Stores) (epoch : ℕ) → lentNode s (follows epoch 0 0) ≡ true
+unfolding opened lentNode slotsFit countsFit
+empty-node s epoch = rw (s .long 0 0) refl
+
+empty-store : (epoch : ℕ) → let n = follows epoch 0 0 in lentAt n before (placeOf n key) ≡ true
+unfolding opened lentAt keptStore
+empty-store epoch = empty-fits
 
 pub second-passes : (s : Stores) (epoch : ℕ) → lentFor s (follows epoch 0 0) before key ≡ true
-unfolding opened lentFor lentNode slotsFit countsFit lentAt keptStore lentFits sized wellFormedStore everyBelow sameRows view.logOf view.firsts table.rowsOf table.zipped table.playRows table.playRowsFrom
-second-passes s epoch = rw (s .long 0 0) refl
+unfolding lentFor
+second-passes s epoch =
+    let n = follows epoch 0 0 in and-true (lentNode s n) (lentAt n before (placeOf n key)) (empty-node s epoch) (empty-store epoch)
 
 -- ---- with the store that has the entry
 
@@ -176,14 +197,6 @@ pub second-slots : (epoch stored last : ℕ) → slotsFit (used (follows epoch s
 unfolding opened slotsFit
 second-slots epoch stored last = refl
 
-pub first-fits : lentFits (storeOf after (kept 1 (leading 1 (row 0 false)))) ≡ true
+pub one-fits : lentFits (storeIn after 1 1) ≡ true
 unfolding opened fits lentFits sized wellFormedStore everyBelow sameRows view.logOf view.firsts view.entryOf view.opOf view.stretch table.rowsOf table.zipped table.rowOp table.playRows table.playRowsFrom
-first-fits = refl
-
-pub empty-fits : lentFits (storeOf before (kept 0 (following 1 0))) ≡ true
-unfolding opened lentFits sized wellFormedStore everyBelow sameRows view.logOf view.firsts table.rowsOf table.zipped table.playRows table.playRowsFrom
-empty-fits = refl
-
-pub second-fits : lentFits (storeOf after (kept 1 (following 1 1))) ≡ true
-unfolding opened fits lentFits sized wellFormedStore everyBelow sameRows view.logOf view.firsts view.entryOf view.opOf view.stretch table.rowsOf table.zipped table.rowOp table.playRows table.playRowsFrom
-second-fits = refl
+one-fits = refl

@@ -25,7 +25,7 @@ use Rattle.shard.specs.View as view
 use Rattle.shard.specs.Table as table
 use Rattle.header.specs.declared.Node.{Node}
 use Rattle.header.specs.View.{Stores, viewNode}
-use Rattle.header.specs.Seats.{slotsOf, SameSlots}
+use Rattle.header.specs.Seats.{slotsOf}
 use Rattle.header.specs.Answers.{told}
 use Rattle.lend.specs.Lend.{Lot, placeOf, lentFor, slotOf, Whole}
 use Rattle.lentimage.specs.Lent.{storePut, Writable, Puts, StorePuts}
@@ -49,7 +49,7 @@ use Rattle.onenode.proofs.Stored.{columns, columns-log, columns-rows, log-lent,
 use Rattle.twonodes.specs.Images.{shownSecond, adopted, holding, reply}
 use Rattle.twonodes.proofs.Headers.{kept, following, follows, read-second, read-adopted, read-holding}
 use Rattle.twonodes.proofs.Put.{header-adopted, header-holding, header-kept}
-use Rattle.twonodes.proofs.Nodes.{second, second-empty, second-one, second-lot, second-full, second-slot, second-slots, second-passes, holding-passes, lends-second, lends-adopted, lends-holding, empty-fits, second-fits}
+use Rattle.twonodes.proofs.Nodes.{second, second-empty, second-one, second-lot, second-full, second-slot, second-slots, second-passes, holding-passes, lends-second, lends-adopted, lends-holding, empty-fits, one-fits}
 use Rattle.twonodes.proofs.Messages.{alignment, alignBytes, align-decoded, align-names, lone, entryBytes, entry-decoded, entry-names}
 use Rattle.twonodes.proofs.Served.{Facts, at-shard}
 
@@ -154,7 +154,7 @@ stores-one s = rw (second-passes s 1) refl
 
 one-whole : Whole (follows 1 0 0) (follows 1 1 1) after key
 unfolding opened
-one-whole e = (fits-sized _ second-fits, fits-well _ second-fits)
+one-whole e = (fits-sized _ one-fits, fits-well _ one-fits)
 
 stores-at : ReplicatesAt (follows 1 0 0) before after entryBytes storing
 stores-at = record {
@@ -220,7 +220,7 @@ keeps s = rw (holding-passes s) refl
 
 keep-whole : Whole (follows 1 1 1) (follows 1 1 1) after key
 unfolding opened
-keep-whole e = (fits-sized _ second-fits, fits-well _ second-fits)
+keep-whole e = (fits-sized _ one-fits, fits-well _ one-fits)
 
 keeps-at : AnnouncesAt (follows 1 1 1) columns after alignBytes keeping
 keeps-at = record {
@@ -277,7 +277,7 @@ unfolding again write.rowsPut
 again-bytes = sets-bytes (bytesOf 8 1) (sets stored 157696 (bytesOf 8 41)) 165888 (sets-bytes (bytesOf 8 41) stored 157696 stored-bytes (small .1)) (small .0)
 
 writable : Writable (kept 1 (following 1 1)) (kept 1 (following 1 1)) after
-writable = record { slot = omega arith; sized = fits-sized _ second-fits; well = fits-well _ second-fits }
+writable = record { slot = omega arith; sized = fits-sized _ one-fits; well = fits-well _ one-fits }
 
 log-again : logAt again 0 1 ≡ entry ∷ []
 log-again =

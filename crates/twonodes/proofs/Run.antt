@@ -1,13 +1,12 @@
 -- A run of the entry points for C with a late and repeated alignment, that the checker follows: images of the code's own sizes, two nodes,
 -- eleven events. Node 1 takes a Write of one Upsert and aligns node 2; that request comes twice, the second time when node 2 has stored the
 -- entry, and cuts nothing. Node 1 counts the reply and acknowledges. Demand 3 is put to it: node 2, in sync, has the write. Assumes nothing.
-use Prim.Native.Nat.{ℕ, _^_, _<_}
+use Prim.Native.Nat.{ℕ}
 use native.Mathlib.Omega.{arith}
 use mathlib.Core.Path.{_≡_, refl, sym, ap, subst, _∙_}
 use mathlib.Core.Bool.{true}
 use mathlib.Core.List.{List, [], _∷_}
 use mathlib.Core.Option.{Option, some}
-use lib.ListN.{length}
 use Rattle.model.specs.Lists.{nth}
 use Rattle.model.specs.Log.{Log, Entry, upsert, entryAt}
 use Rattle.model.specs.Map.Tables as tables

@@ -1,14 +1,14 @@
 -- A primary's call on the images of a node that holds the shard, by what it does on the columns that they are read into: the contract of its
 -- entry point. Assumes nothing.
 use Prim.Native.Nat.{ℕ}
-use mathlib.Core.Path.{_≡_, refl, sym, ap, subst, _∙_}
+use mathlib.Core.Path.{_≡_, sym, ap, subst, _∙_}
 use mathlib.Core.Bool.{Bool, true, false}
 use mathlib.Core.List.{List}
 use mathlib.Core.Option.{some}
 use Rattle.model.specs.Keys.{Key}
 use Rattle.model.specs.Layout.Format.{Bytes}
 use Rattle.model.specs.Node.Held as held
-use Rattle.model.specs.Node.Shards.{Result, heldShard}
+use Rattle.model.specs.Node.Shards.{heldShard}
 use Rattle.model.specs.Node.Backup.{BackupAnswer}
 use Rattle.model.proofs.Lists.{not-both}
 use Rattle.retained.specs.Retained.{CarriesAll}
@@ -18,7 +18,7 @@ use Rattle.header.specs.Formed.{slotsFit}
 use Rattle.header.specs.Seats.{slotsOf, SameSlots}
 use Rattle.header.specs.Answers.{Told}
 use Rattle.headerimage.specs.Image.{nodeAt, headerWritten}
-use Rattle.lend.specs.Lend.{Lot, placeOf, lentFor, slotOf, Changes, Whole}
+use Rattle.lend.specs.Lend.{Lot, placeOf, lentFor, slotOf, Changes}
 use Rattle.lentimage.specs.Lent.{lotIn, lendsState, Puts}
 use Rattle.lentimage.specs.State.{StateAfter}
 use Rattle.lentimage.proofs.OfPut.{puttable}

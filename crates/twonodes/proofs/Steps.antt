@@ -1,6 +1,6 @@
 -- The steps of node 1's worker: the alignment first, then the entry. Both satisfy the contract of `catalogue_step`, which answers 2 and 3 and
 -- leaves the request and its length. Assumes nothing.
-use Prim.Native.Nat.{ℕ, suc, _^_, _<_}
+use Prim.Native.Nat.{ℕ}
 use native.Mathlib.Omega.{arith}
 use mathlib.Core.Path.{_≡_, refl, sym, ap, subst, _∙_}
 use mathlib.Core.Bool.{Bool, true, false}
@@ -20,7 +20,6 @@ use Rattle.header.specs.declared.Node.{Node}
 use Rattle.header.specs.declared.StepAnswer.{StepAnswer}
 use Rattle.header.specs.declared.StepAnswer.the-variants as stepped
 use Rattle.header.specs.View.{Stores, viewNode}
-use Rattle.header.specs.Formed.{lentNode, slotsFit, countsFit}
 use Rattle.header.specs.Answers.{stepTold, StepsNode}
 use Rattle.outgoing.specs.declared.Request.the-variants as request
 use Rattle.outgoing.specs.Requested.{answerOf, leftOf}
@@ -30,7 +29,7 @@ use Rattle.headerimage.specs.Image.{nodeAt}
 use Rattle.lend.specs.Lend.{Lot, lentFor, slotOf, Lends}
 use Rattle.lentimage.specs.Lent.{lotIn, lendsState}
 use Rattle.asked.specs.Answer.{numberPut}
-use Rattle.workercalls.specs.Steps.{Asking, asking, decodes, sentNumber, outputs, Tells, StepAsked, StepsImage}
+use Rattle.workercalls.specs.Steps.{Asking, asking, decodes, sentNumber, outputs, Tells, StepsImage}
 use Rattle.onenode.specs.Images.{room}
 use Rattle.onenode.proofs.Map.{key}
 use Rattle.onenode.proofs.Columns.{entry, stored}

@@ -1,10 +1,9 @@
 -- The Write: what node 1's buffers hold before and after satisfies the contract of `catalogue_write`, which answers 0 with the offset 1. The
 -- message is that of `onenode`. Assumes nothing.
-use Prim.Native.Nat.{ℕ}
 use native.Mathlib.Omega.{arith}
 use mathlib.Core.Path.{_≡_, refl, sym, ap, subst, _∙_}
-use mathlib.Core.Bool.{true, false}
-use mathlib.Core.List.{List, [], _∷_}
+use mathlib.Core.Bool.{false}
+use mathlib.Core.List.{[], _∷_}
 use lib.Ieee.{fits}
 use Rattle.model.specs.Keys.{Key}
 use Rattle.model.specs.Node.Held as held
@@ -15,24 +14,24 @@ use Rattle.run.proofs.Cases.Opened.{opened}
 use Rattle.replica.proofs.OfFits.{fits-sized, fits-well}
 use Rattle.serve.specs.declared.Expiry.the-variants.{At}
 use Rattle.header.specs.declared.Node.{Node}
-use Rattle.header.specs.View.{Stores, viewNode}
+use Rattle.header.specs.View.{Stores}
 use Rattle.header.specs.Answers.{told}
-use Rattle.lend.specs.Lend.{placeOf, lentFor, slotOf, Whole}
+use Rattle.lend.specs.Lend.{placeOf, lentFor, Whole}
 use Rattle.lentimage.specs.Lent.{storePut, Puts, StorePuts}
 use Rattle.lentimage.proofs.OfPut.{puts-kept}
 use Rattle.clientwrites.specs.declared.WriteAnswer.{WriteAnswer}
-use Rattle.clientwrites.specs.ClientWrites.{writeWord, WriteNames, WriteSlot, SameWrite, WritesAt}
+use Rattle.clientwrites.specs.ClientWrites.{writeWord, WriteNames, SameWrite, WritesAt}
 use Rattle.clientcalls.specs.Written.{buffers, WritesImages}
 use Rattle.onenode.specs.Images.{stores, room, offset, count}
 use Rattle.onenode.proofs.Map.{key}
 use Rattle.onenode.proofs.Columns.{before, after, entry, log-after, rows-after, stored, is-put, puts}
-use Rattle.onenode.proofs.Write.{asked, bytes, decoded, names, accepted, vectors}
+use Rattle.onenode.proofs.Write.{asked, bytes, decoded, accepted, vectors}
 use Rattle.onenode.proofs.Stored.{log-lent, vectors-lent}
 use Rattle.onenode.proofs.WriteImages.{images-written}
 use Rattle.twonodes.specs.Images.{leased, written}
 use Rattle.twonodes.proofs.Headers.{row, kept, leading, leads, read-leased}
 use Rattle.twonodes.proofs.Put.{header-written}
-use Rattle.twonodes.proofs.Nodes.{first, first-empty, first-one, leased-lot, lends-leased, first-passes, first-slot, first-slots, first-fits}
+use Rattle.twonodes.proofs.Nodes.{first, first-empty, first-one, leased-lot, lends-leased, first-passes, first-slot, first-slots, one-fits}
 
 -- ---- the call, on the columns that the bytes are read into
 
@@ -61,7 +60,7 @@ wrote = record { answer = accepted; node = is; refused = 0 }
 
 key-whole : Whole was is after key
 unfolding opened
-key-whole e = (fits-sized _ first-fits, fits-well _ first-fits)
+key-whole e = (fits-sized _ one-fits, fits-well _ one-fits)
 
 whole : (k : Key) → WriteNames bytes k → Whole was is after k
 whole k named = subst (Whole was is after) (sym (named asked decoded)) key-whole

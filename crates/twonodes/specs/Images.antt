@@ -10,16 +10,19 @@ use Rattle.onenode.specs.Images.{name}
 abbrev replicas : List ℕ
 replicas = bytesOf 8 1 ++ bytesOf 8 4 ++ bytesOf 8 2 ++ bytesOf 8 4
 
--- the map, as two Registers and Create of the client 9 left it, at version 3
+-- the other rows of shards, and those of clients
+unfoldable pub unusedRows : List ℕ
+unusedRows = replicate 22256 0
+
+-- the map, as two Registers and Create left it, at version 3. No client is remembered
 unfoldable pub mapBytes : List ℕ
 mapBytes =
-    bytesOf 8 3 ++ bytesOf 8 2 ++ bytesOf 8 1 ++ bytesOf 8 1 ++ bytesOf 8 1
+    bytesOf 8 3 ++ bytesOf 8 2 ++ bytesOf 8 1 ++ bytesOf 8 1 ++ bytesOf 8 0
     ++ bytesOf 8 1 ++ bytesOf 8 4 ++ bytesOf 8 1 ++ replicate 72 0
     ++ bytesOf 8 2 ++ bytesOf 8 4 ++ bytesOf 8 1 ++ replicate 2952 0
     ++ name ++ bytesOf 4 1 ++ bytesOf 4 0 ++ bytesOf 4 1 ++ bytesOf 4 2 ++ replicate 840 0
     ++ name ++ bytesOf 4 0 ++ bytesOf 4 1 ++ bytesOf 8 1 ++ bytesOf 8 1 ++ bytesOf 8 2 ++ bytesOf 8 2
-    ++ replicas ++ replicate 96 0 ++ bytesOf 8 1 ++ bytesOf 8 2 ++ replicate 17184 0
-    ++ bytesOf 8 9 ++ bytesOf 8 3 ++ replicate 5104 0
+    ++ replicas ++ replicate 96 0 ++ bytesOf 8 1 ++ bytesOf 8 2 ++ replicate 48 0 ++ unusedRows
 
 -- the seven rows of a header that are free
 unfoldable pub free : List ℕ
