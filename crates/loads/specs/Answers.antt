@@ -5,8 +5,8 @@ use mathlib.Core.Bool.{cond}
 use mathlib.Core.List.{List, map}
 use mathlib.Core.Option.{Option, none, some}
 use lib.ListN.{take}
-use Rattle.model.specs.Map.Sheet as sheet
-use Rattle.model.specs.Map.Sheet.{sheetOf}
+use Rattle.sheet.specs.Sheet as sheet
+use Rattle.sheet.specs.Sheet.{sheetOf}
 use Rattle.model.specs.Refusals as said
 use Rattle.state.specs.View.{viewMap, refusalOf}
 use Rattle.state.specs.declared.ShardMap.{ShardMap}

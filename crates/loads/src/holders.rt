@@ -5,7 +5,7 @@ ghost use lib.ListN.{length};
 ghost use Rattle.model.specs.Lists.{any};
 ghost use Rattle.model.specs.Map.Create.{isNode};
 ghost use Rattle.model.specs.Map.Place.{onNode};
-ghost use Rattle.model.specs.Map.Sheet.{unknownOn};
+ghost use Rattle.sheet.specs.Sheet.{unknownOn};
 ghost use Rattle.state.specs.View.{viewHolders, viewNodes};
 use model::DataNodeId;
 use state::Holders;

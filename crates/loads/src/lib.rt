@@ -1,7 +1,7 @@
 // The load sheet (paper 02, 2.4): how many replica records name each node of a map, how many name a node that the map does not know, and how many
 // there are. What an answer says stands in specs/Answers.antt.
 ghost use mathlib.Core.Path.{_≡_};
-ghost use Rattle.model.specs.Map.Sheet.{sheetOf};
+ghost use Rattle.sheet.specs.Sheet.{sheetOf};
 ghost use Rattle.state.specs.Counted.{TablesCounted};
 ghost use Rattle.state.specs.View.{viewMap};
 ghost use Rattle.loads.specs.Answers.{SheetAs, answerOf, sheetLent};

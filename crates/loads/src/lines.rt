@@ -2,7 +2,7 @@
 ghost use mathlib.Core.Path.{_≡_};
 ghost use mathlib.Core.List.{map};
 ghost use Prim.Native.Nat.{_≤_};
-ghost use Rattle.model.specs.Map.Sheet.{loadedOf};
+ghost use Rattle.sheet.specs.Sheet.{loadedOf};
 ghost use Rattle.state.specs.Counted.{ShardsCounted};
 ghost use Rattle.state.specs.View.{viewNodes, viewShards};
 ghost use Rattle.loads.specs.Answers.{viewLoads};

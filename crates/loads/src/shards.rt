@@ -2,7 +2,7 @@
 ghost use mathlib.Core.Path.{_≡_};
 ghost use Prim.Native.Nat.{_≤_};
 ghost use Rattle.model.specs.Map.Place.{replicasOf};
-ghost use Rattle.model.specs.Map.Sheet.{recordsIn, unknownIn};
+ghost use Rattle.sheet.specs.Sheet.{recordsIn, unknownIn};
 ghost use Rattle.state.specs.Counted.{ShardsCounted};
 ghost use Rattle.state.specs.View.{viewNodes, viewShards};
 use crate::holders::on_node;

@@ -10,5 +10,3 @@ pub mod Replacements
 pub mod WellFormed
 pub mod Stream
 pub mod InParts
-pub mod Sheet
-pub mod SheetCase

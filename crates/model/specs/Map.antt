@@ -6,4 +6,3 @@ pub mod Place
 pub mod Lightest
 pub mod WellFormed
 pub mod Calls
-pub mod Sheet

@@ -5,8 +5,8 @@ use mathlib.Core.Path.{_≡_, refl, sym, _∙_, ap}
 use mathlib.Core.List.{List, [], _∷_, _++_}
 use Prim.Native.Nat.{ℕ, _+_, _-_, _*_, _≤_, _<_}
 use lib.ListN.{length, getD, take, drop, set}
-use Rattle.model.specs.Map.Sheet as sheet
-use Rattle.model.specs.Map.Sheet.{sheetOf}
+use Rattle.sheet.specs.Sheet as sheet
+use Rattle.sheet.specs.Sheet.{sheetOf}
 use Rattle.state.specs.View.{viewMap}
 use Rattle.loads.proofs.sheet_of.Statement.{statement}
 use Rattle.loads.proofs.sheet_of.Tie as tie

@@ -1,17 +1,19 @@
 -- Paper 01, 'Bytes on the wire': each message is written as the table has it and read back from those bytes, and what the table says
 -- does not decode is not read, computed by the checker. Assumes nothing.
-use mathlib.Core.Path.{_≡_, refl}
-use mathlib.Core.List.{List, map}
+use mathlib.Core.Path.{_≡_, refl, sym, ap, _∙_}
+use mathlib.Core.List.{List, [], _∷_, _++_, map}
 use mathlib.Core.Option.{Option, none, some}
 use Prim.Native.Nat.{ℕ, zero, suc}
-use lib.ListN.{replicate}
+use lib.ListN.{replicate, take, drop}
 use native.Mathlib.Omega.{arith}
 use Rattle.model.specs.Lists.{_and_}
 use Rattle.model.specs.Layout.Format.{All}
+use Rattle.model.specs.Layout.Request.{Request, bench, encodeRequest, decodeRequest}
 use Rattle.model.specs.Layout.Message.{decodeCopyShard, encodeCopyShard, decodeNewEpoch, encodeNewEpoch}
-use Rattle.model.specs.Layout.Writable.{GoodEntry, GoodEnd}
+use Rattle.model.specs.Layout.Writable.{U8, GoodEntry, GoodEnd}
+use Rattle.model.proofs.LayoutLaws.Requests.{request-back}
 use Rattle.model.proofs.LayoutLaws.Messages.{copy-back, new-epoch-back}
-use Rattle.model.specs.Cases.Bytes.{Message, Row, written, read, commands, messages, atLimit, undecoded, tabled, batched, entry}
+use Rattle.model.specs.Cases.Bytes.{Message, request, Row, written, readAs, read, head, commands, messages, atLimit, undecoded, tabled, batched, entry}
 use Rattle.model.proofs.Opened.{opened}
 
 abbrev wrote : List Row → List (List ℕ)
@@ -49,19 +51,36 @@ pub limits-written : wrote atLimit ≡ bytes atLimit
 unfolding opened
 limits-written = refl
 
+all-same : {A : Type 0} (P : A → Type 0) (x : A) → P x → (n : ℕ) → All P (replicate n x)
+all-same P x p zero = tt
+all-same P x p (suc n) = (p, all-same P x p n)
+
+-- a Bench at its limit, and the bytes that carry it
+abbrev longest : Request
+longest = record { index = 0x0807060504030201; client = 2; seq = 3; command = bench (replicate 1024 0) }
+
+abbrev carried : List ℕ
+carried = head ++ (0x19 ∷ 0 ∷ 4 ∷ replicate 1024 0)
+
+longest-written : encodeRequest longest ≡ carried
+unfolding opened
+longest-written = refl
+
+-- by the round trip: computed, this row takes longer than all others together
+longest-read : decodeRequest carried ≡ some longest
+longest-read =
+    ap decodeRequest (sym longest-written)
+    ∙ request-back longest (omega arith, omega arith, omega arith, (omega arith, all-same U8 0 (omega arith) 1024))
+
 pub limits-read : reading atLimit ≡ whole atLimit
 unfolding opened
-limits-read = refl
+limits-read = ap (λ o. take 4 (whole atLimit) ++ (readAs request o ∷ drop 5 (whole atLimit))) longest-read
 
 pub undecoded-unread : reading undecoded ≡ nothing undecoded
 unfolding opened
 undecoded-unread = refl
 
 -- ---- 256 entries and 1,024 pairs decode: the round trips at their limits
-
-all-same : {A : Type 0} (P : A → Type 0) (x : A) → P x → (n : ℕ) → All P (replicate n x)
-all-same P x p zero = tt
-all-same P x p (suc n) = (p, all-same P x p n)
 
 pub batch-256 : decodeCopyShard (encodeCopyShard (batched 256)) ≡ some (batched 256)
 unfolding _and_

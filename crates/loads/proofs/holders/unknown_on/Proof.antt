@@ -8,7 +8,7 @@ use lib.ListN.{length, getD, take, drop, set}
 use mathlib.Core.Bool.{true, false, not}
 use borrow.Author.Tests.{not-true, not-false}
 use Rattle.model.specs.Lists.{filter}
-use Rattle.model.specs.Map.Sheet.{isUnknown, unknownOn}
+use Rattle.sheet.specs.Sheet.{isUnknown, unknownOn}
 use Rattle.state.specs.View.{viewHolders, viewNodes}
 use Rattle.state.proofs.Tables.{of-field}
 use Rattle.loads.proofs.Counting.{count-on, count-past, count-end}

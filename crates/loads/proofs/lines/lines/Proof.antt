@@ -7,7 +7,7 @@ use Prim.Native.Nat.{ℕ, _+_, _-_, _*_, _≤_, _<_}
 use lib.ListN.{length, getD, take, drop, set}
 use mathlib.Core.List.{map}
 use lib.Seq.{take-all}
-use Rattle.model.specs.Map.Sheet.{loadedOf}
+use Rattle.sheet.specs.Sheet.{loadedOf}
 use Rattle.state.specs.View.{viewNode, viewNodes, viewShards}
 use Rattle.state.proofs.Defaults.{noNode}
 use Rattle.state.proofs.Tables.{of-field, used-size}

@@ -8,7 +8,7 @@ use lib.ListN.{length, getD, take, drop, set}
 use borrow.Author.Tests.{leb-true}
 use Rattle.model.specs.Lists.{_and_}
 use Rattle.model.specs.Map.Tables.{ShardInfo}
-use Rattle.model.specs.Map.Sheet.{recordsIn}
+use Rattle.sheet.specs.Sheet.{recordsIn}
 use Rattle.model.proofs.Lists.{and-left}
 use Rattle.state.specs.View.{viewShard, viewShards, viewNodes}
 use Rattle.state.specs.Counted.{rowCounted}

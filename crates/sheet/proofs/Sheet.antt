@@ -10,24 +10,24 @@ use native.Mathlib.Omega.{arith}
 use lib.ListN.{length, length-map}
 use lib.Dec.{eqb, ltb}
 use borrow.Author.Tests.{eqb-true, eqb-false, eq-eqb, ne-eqb, ltb-true}
 use Rattle.model.specs.Lists.{any, filter, every, rising}
 use Rattle.model.specs.Keys.{Name}
 use Rattle.model.specs.Layout.Format.{Bytes}
 use Rattle.model.specs.Layout.Request.{requestAt}
 use Rattle.model.specs.Map.Tables.{NodeInfo, ShardInfo, Map, emptyMap}
 use Rattle.model.specs.Map.Change.{isOn}
 use Rattle.model.specs.Map.Create.{isNode, newShard}
 use Rattle.model.specs.Map.Apply.{nodeBelow}
 use Rattle.model.specs.Map.Place.{onNode, replicasOf}
 use Rattle.model.specs.Map.WellFormed.{wellFormedMap, shardFits}
 use Rattle.model.specs.Map.Calls.{requestsIn, endIn, mapAfter}
-use Rattle.model.specs.Map.Sheet.{Loaded, Sheet, recordsIn, isUnknown, unknownOn, unknownIn, loadedOf, sheetOf, sheetFor}
+use Rattle.sheet.specs.Sheet.{Loaded, Sheet, recordsIn, isUnknown, unknownOn, unknownIn, loadedOf, sheetOf, sheetFor}
 use Rattle.model.specs.declared.Replica.{Replica}
 use Rattle.model.proofs.Map.Orders.{nodes-by-id}
 use Rattle.model.proofs.Map.Rows.{every-tail, length-filter}
 use Rattle.model.proofs.Map.Stream.{nothing-behind, turnMap, applied-in-parts}
 use Rattle.model.proofs.Map.WellFormed.{map-parts, shard-parts}
 use Rattle.model.proofs.Rising.{rising-tail, rising-head}
 
 -- ---- sums over the node table
 

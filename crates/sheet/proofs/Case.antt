@@ -1,16 +1,17 @@
 -- Paper 02, 2.4: a load sheet computed from the bytes of its requests. A node is listed twice in a shard, one is dead, one has no record, and two
 -- records name a node that the map does not know, which is counted by its records.
-use mathlib.Core.Path.{_≡_, refl}
+use mathlib.Core.Path.{_≡_, refl, ap, _∙_}
 use mathlib.Core.List.{List, [], _∷_, _++_, flatten, map}
 use Prim.Native.Nat.{ℕ, _+_}
 use Rattle.model.specs.Keys.{Key}
 use Rattle.model.specs.Layout.Request.{Request, Command, encodeRequest, create, register, markDead, addReplica}
-use Rattle.model.specs.Map.Sheet.{Loaded, Sheet, recordsIn, isUnknown, unknownOn, unknownIn, sheetOf, sheetFor}
-use Rattle.model.specs.Map.Calls.{mapAfter}
+use Rattle.sheet.specs.Sheet.{Loaded, Sheet, recordsIn, isUnknown, unknownOn, unknownIn, sheetOf, sheetFor}
+use Rattle.model.specs.Map.Tables.{emptyMap}
+use Rattle.model.specs.Map.Calls.{requestsIn, mapAfter}
 use Rattle.model.specs.declared.Metric.the-variants.{Euclidean}
 use Rattle.model.proofs.Opened.{opened}
 use Rattle.model.proofs.Map.Example.{request}
-use Rattle.model.proofs.Map.Sheet.{sumOf}
+use Rattle.sheet.proofs.Sheet.{sumOf}
 
 abbrev key : ℕ → Key
 key n = record { collection = 97 ∷ []; shard = n }
@@ -33,10 +34,18 @@ loaded n c = record { node = n; count = c }
 abbrev sheet : Sheet
 sheet = record { lines = loaded 0 2 ∷ loaded 2 2 ∷ loaded 9 0 ∷ loaded 10 0 ∷ []; unknown = 2; total = 6 }
 
+read : requestsIn bytes ≡ asked
+unfolding opened
+read = refl
+
+counted : sheetOf (mapAfter emptyMap asked) ≡ sheet
+unfolding opened sheetOf recordsIn isUnknown unknownOn unknownIn mapAfter
+counted = refl
+
 pub printed : sheetFor bytes ≡ sheet
-unfolding opened sheetFor sheetOf recordsIn isUnknown unknownOn unknownIn mapAfter
-printed = refl
+unfolding sheetFor
+printed = ap (λ rs. sheetOf (mapAfter emptyMap rs)) read ∙ counted
 
 pub adds : sumOf (sheetFor bytes .lines) + sheetFor bytes .unknown ≡ sheetFor bytes .total
-unfolding opened sheetFor sheetOf recordsIn isUnknown unknownOn unknownIn mapAfter sumOf
-adds = refl
+unfolding sumOf
+adds = rw printed refl
