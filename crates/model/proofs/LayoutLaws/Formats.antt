@@ -13,7 +13,7 @@ use native.Mathlib.Omega.{arith}
 use native.Mathlib.Numerals.{add-one}
 use native.Mathlib.Nat.{add-zero, zero-add, add-assoc}
 use Rattle.model.specs.Lists.{_and_}
-use Rattle.model.specs.Layout.Format.{Bytes, Format, code, word, below, text, _▸_, many, either, other, Value, bytesOf, numberAt, concatMap, nextN, fitsN, valueN, encode, next, fits, value, inRange, All, Good, sound, whole}
+use Rattle.model.specs.Layout.Format.{Bytes, Format, code, word, below, text, _▸_, many, either, other, Value, bytesOf, numberAt, concatMap, nextN, fitsN, valueN, encode, next, fits, value, allWithin, inRange, All, Good, sound, whole}
 use Rattle.model.proofs.LayoutLaws.Tests.{and-intro, and-left, and-right, false-not-true}
 use Rattle.model.proofs.LayoutLaws.Bytes.{cut, cut-append, bytes-number, number-below, number-bytes, length-bytes, room, all-within, range-zeros, zeros-range}
 
@@ -29,6 +29,17 @@ pub record ReadsN (f : Format) (s : List ℕ) (n at : ℕ) : Type 0 where
   pub within : nextN (next f s) n at ≤ length s
   pub bytes : drop at s ≡ concatMap (encode f) (valueN (value f s) (next f s) n at) ++ drop (nextN (next f s) n at) s
   pub count : length (valueN (value f s) (next f s) n at) ≡ n
+
+-- a text of n bytes in a field of c, behind its length
+laid : (d : List ℕ) (n c : ℕ) → n ≤ c → c ≤ length d → take (c - n) (drop n d) ≡ replicate (c - n) 0 → (t : List ℕ) → drop c d ≡ t
+    → n ∷ d ≡ (length (take n d) ∷ (take n d ++ replicate (c - length (take n d)) 0)) ++ t
+laid d n c k l z t e =
+    let lv : length (take n d) ≡ n = length-take-le n d (omega arith) in
+    let g : n + (c - n) ≡ c = omega arith in
+    let tail : drop n d ≡ replicate (c - n) 0 ++ t =
+    sym (take-append-drop (c - n) (drop n d)) ∙ ap (λ (x : List ℕ). x ++ drop (c - n) (drop n d)) z
+    ∙ ap (λ (x : List ℕ). replicate (c - n) 0 ++ x) (drop-drop (c - n) n d ∙ ap (λ (m : ℕ). drop m d) g ∙ e) in
+    rw lv (ap (λ (x : List ℕ). n ∷ x) (sym (take-append-drop n d) ∙ ap (λ (x : List ℕ). take n d ++ x) tail ∙ sym (append-assoc (take n d) (replicate (c - n) 0) t)))
 
 module _ (s : List ℕ) (b : Bytes s) where
   reads-many : (f : Format) → ((at : ℕ) → fits f s at ≡ true → Reads f s at)
@@ -47,6 +58,14 @@ module _ (s : List ℕ) (b : Bytes s) where
   one-byte : (at : ℕ) → at + 1 ≤ length s → drop at s ≡ getD s at 0 ∷ drop (at + 1) s
   one-byte at h = rw add-one (drop-cons s at 0 (omega arith))
 
+  zeros-after : (c at n : ℕ) → n ≤ c → at + 1 + c ≤ length s → allWithin 0 0 (c - n) s (at + 1 + n) ≡ true
+      → take (c - n) (drop n (drop (at + 1) s)) ≡ replicate (c - n) 0
+  zeros-after c at n k l e =
+      let lz : length (take (c - n) (drop (at + 1 + n) s)) ≡ c - n = length-take-le (c - n) (drop (at + 1 + n) s) (rw length-drop (omega arith)) in
+      ap (take (c - n)) (drop-drop n (at + 1) s)
+      ∙ zeros-range (take (c - n) (drop (at + 1 + n) s)) (sym (all-within 0 0 (c - n) s (at + 1 + n) (omega arith)) ∙ e)
+      ∙ ap (λ (m : ℕ). replicate m 0) lz
+
   reads-text : (c at : ℕ) → fits (text c) s at ≡ true → Reads (text c) s at
   reads-text c at e =
       let n = getD s at 0 in
@@ -54,21 +73,12 @@ module _ (s : List ℕ) (b : Bytes s) where
       let e₂ = and-right _ _ e₁ in
       let l : at + 1 + c ≤ length s = leb-true _ _ (and-left _ _ e) in
       let k : n ≤ c = leb-true _ _ (and-left _ _ e₁) in
-      let v = take n (drop (at + 1) s) in
-      let lv : length v ≡ n = length-take-le n (drop (at + 1) s) (rw length-drop (omega arith)) in
-      let z = take (c - n) (drop (at + 1 + n) s) in
-      let lz : length z ≡ c - n = length-take-le (c - n) (drop (at + 1 + n) s) (rw length-drop (omega arith)) in
-      let zeros : z ≡ replicate (length z) 0 = zeros-range z (sym (all-within 0 0 (c - n) s (at + 1 + n) (omega arith)) ∙ and-right _ _ e₂) in
-      let tail : drop (at + 1 + n) s ≡ z ++ drop (at + 1 + c) s =
-      let g : at + 1 + n + (c - n) ≡ at + 1 + c = omega arith in
-      sym (take-append-drop (c - n) (drop (at + 1 + n) s)) ∙ ap (λ (l : List ℕ). z ++ l) (drop-drop (c - n) (at + 1 + n) s ∙ ap (λ (m : ℕ). drop m s) g) in
-      let whole : drop (at + 1) s ≡ v ++ (z ++ drop (at + 1 + c) s) =
-      sym (take-append-drop n (drop (at + 1) s)) ∙ ap (λ (l : List ℕ). v ++ l) (drop-drop n (at + 1) s ∙ tail) in
-      let fill : replicate (c - length v) 0 ≡ z = ap (λ (m : ℕ). replicate (c - m) 0) lv ∙ ap (λ (m : ℕ). replicate m 0) (sym lz) ∙ sym zeros in
+      let m : c ≤ length (drop (at + 1) s) = rw length-drop (omega arith) in
+      let z : take (c - n) (drop n (drop (at + 1) s)) ≡ replicate (c - n) 0 = zeros-after c at n k l (and-right _ _ e₂) in
       record {
-        good = (omega arith, sym (all-within 0x20 0x7E n s (at + 1) (omega arith)) ∙ and-left _ _ e₂);
+        good = (rw (length-take-le n (drop (at + 1) s) (omega arith)) k, sym (all-within 0x20 0x7E n s (at + 1) (omega arith)) ∙ and-left _ _ e₂);
         within = l;
-        bytes = one-byte at (omega arith) ∙ ap (λ (l : List ℕ). n ∷ l) whole ∙ (rw (fill, lv) (ap (λ (l : List ℕ). n ∷ l) (sym (append-assoc v z (drop (at + 1 + c) s)))));
+        bytes = one-byte at (omega arith) ∙ laid (drop (at + 1) s) n c k m z (drop (at + 1 + c) s) (drop-drop c (at + 1) s);
       }
 
   module _ (t : ℕ) (f g : Format) (at : ℕ) (l : at + 1 ≤ length s)
