@@ -1,9 +1,11 @@
 -- What a call on the header that was read is of the image. Assumes nothing.
-use Prim.Native.Nat.{ℕ}
+use Prim.Native.Nat.{ℕ, _≤_}
 use mathlib.Core.Bool.{Bool, true, false}
 use mathlib.Core.Path.{_≡_, refl, sym, ap, _∙_, subst}
 use mathlib.Core.List.{List}
-use lib.Dec.{eqb}
+use lib.Dec.{eqb, leb}
+use lib.ListN.{length}
+use borrow.Author.Tests.{leb-true}
 use Rattle.model.specs.Lists.{_and_, every}
 use Rattle.model.specs.Node.Held as held
 use Rattle.model.specs.Node.WellFormed.{wellFormedHeader}
@@ -206,6 +208,15 @@ module _ (m : List ℕ) (l : map.Lent) (read : l ≡ lentMap m) where
             ap (λ (u : List ℕ). formedNode (nodeAt u))
             (ap (λ (x : Left). x .header) (e .buffers) ∙ show-left (after .answer) s p a _ (after .node) d) ∙ f);
       }
+
+-- the map that a lent image is read as
+module _ (m : List ℕ) (lent : mapLent m ≡ true) where
+  pub map-long : 26536 ≤ length m
+  unfolding mapLent
+  map-long = leb-true 26536 (length m) (and-left (leb 26536 (length m)) _ lent)
+
+  pub map-read : record { found = true; map = mapAt m } ≡ lentMap m
+  map-read = rw lent
 
 pub lent-first : (a b : Bool) → a ≡ false → (a and b) ≡ false
 unfolding _and_

@@ -9,7 +9,7 @@ use asked::answer::put_number;
 use header::Node;
 use headerimage::read_header;
 use headerimage::write_header;
-use mapimage::read_map;
+use mapbytes::lent::is_lent;
 use shown::NodeShown;
 use shown::ShownAnswer;
 use shown::Start;
@@ -69,12 +69,10 @@ pub fn show_map(
     if !lent.found {
         return 24;
     }
-    let known = read_map(map);
-    if !known.found {
+    if !is_lent(map) {
         return 24;
     }
     let n = lent.node;
-    let m = known.map;
-    let a = hears::show::show(n, m, fresh);
+    let a = hears::show::show(n, map, fresh);
     put_shown(header, a, starts, answer)
 }

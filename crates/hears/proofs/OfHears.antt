@@ -159,10 +159,6 @@ ack-refused-as ack.noted k e = absurd (let z : _≡_ {A = ℕ} 0 1 = ap ackCode 
 ack-refused-as ack.expand k e = absurd (let z : _≡_ {A = ℕ} 0 1 = ap ackCode e in omega arith)
 
 module _ (n : Node) (k : Key) (epoch peer : ℕ) (sent : Sent) (s : List ℕ) where
-  pub ack-unread : heardOf (message.decodeReply s) ≡ H.Nothing → HearsReply n k epoch peer sent s (record { answer = A.Refused 21; node = n })
-  unfolding calls.ackWith
-  ack-unread e t = rw (read-as (message.decodeReply s) ∙ ap readAs e)
-
   pub ack-read : (a : Reply) → heardOf (message.decodeReply s) ≡ H.Reply a → (r : NodeAcked) → AcksNode n k epoch peer sent a r
       → HearsReply n k epoch peer sent s r
   unfolding calls.ackWith

@@ -1,5 +1,5 @@
-// What a node hears (paper 01, 'Who is turned down'): a map shown to it, and a peer's reply in bytes. Over the whole header, by value;
-// these calls ask nothing of their caller.
+// What a node hears (paper 01, 'Who is turned down'): a map shown to it, in the bytes that a host lends, over the whole header by value; and a
+// peer's reply in bytes.
 use node::Reply;
 
 pub mod ack;

@@ -2,3 +2,4 @@ pub mod OfRows
 pub mod OfListed
 pub mod OfWalk
 pub mod OfShown
+pub mod OfBytes

@@ -29,18 +29,17 @@ use Rattle.state.specs.declared.ShardKey.{ShardKey}
 use Rattle.state.specs.declared.ShardRow.{ShardRow}
 use Rattle.state.specs.declared.CollectionRow.{CollectionRow}
 use Rattle.state.specs.declared.Collections.{Collections}
+use Rattle.state.specs.Find.{firstAt}
 use Rattle.state.specs.Names.{viewName, viewKey}
 use Rattle.state.specs.View.{viewShard, viewCollection, viewCollections}
 use Rattle.state.proofs.Tables.{found, missed}
 use Rattle.header.specs.declared.Kept.{Kept}
 use Rattle.header.specs.declared.Node.{Node}
 use Rattle.header.specs.View.{Stores, viewKept, viewNode, used, otherKey, noKept}
-use Rattle.header.proofs.OfLists.{map-lead}
 use Rattle.header.proofs.OfShards.{shard-none, shard-some}
 use Rattle.header.proofs.OfGrow.{stop-at, view-bare}
 use Rattle.shown.specs.declared.Taken.{Taken}
 use Rattle.shown.specs.declared.RowShown.{RowShown}
-use Rattle.shownrows.specs.Rows.{otherName}
 use Rattle.shown.specs.Rows.{Refreshes, Firsts, viewTaken, takenOf, asKept, TakesAs, placeOf, SlotFrom, opens, stays, listedShown, ShowsListed}
 
 abbrev pub noPeers : Held → Held
@@ -86,20 +85,17 @@ module _ (n : Node) (t : Collections) (row : ShardRow) where
   name = viewName (row .key .collection)
 
   -- the collection's metric, by its place in the table
-  module _ (le : t .count ≤ length (t .items)) (c : ℕ) (is : c ≡ lead (otherName name) (take (t .count) (t .items)))
+  module _ (le : t .count ≤ length (t .items)) (c : ℕ) (is : c ≡ firstAt (show.named name) (viewCollections t))
       (m : tables.Map) (e : m .collections ≡ viewCollections t) where
-    at-name : c ≡ lead (λ x. not (show.named name x)) (viewCollections t)
-    at-name = is ∙ sym (map-lead viewCollection (λ x. not (show.named name x)) (take (t .count) (t .items)))
-
     pub metric-none : t .count ≤ c → show.collectionMetric m name ≡ none
     metric-none h =
         ap (λ (l : List tables.Collection). show.metricOf (find (show.named name) l)) e
-        ∙ ap show.metricOf (missed viewCollection (t .items) (t .count) le (show.named name) c at-name h)
+        ∙ ap show.metricOf (missed viewCollection (t .items) (t .count) le (show.named name) c is h)
 
     pub metric-some : (d : CollectionRow) → c < t .count → show.collectionMetric m name ≡ some (getD (t .items) c d .spec .metric)
     metric-some d h =
         ap (λ (l : List tables.Collection). show.metricOf (find (show.named name) l)) e
-        ∙ ap show.metricOf (found viewCollection (t .items) (t .count) le (show.named name) c at-name d h)
+        ∙ ap show.metricOf (found viewCollection (t .items) (t .count) le (show.named name) c is d h)
 
   module _ (le : n .count ≤ length (n .held)) (at : ℕ) (is : at ≡ lead (otherKey (viewKey (row .key))) (used n)) where
     abbrev kept : Kept

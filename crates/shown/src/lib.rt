@@ -1,5 +1,5 @@
-// A map shown to a node (paper 01, 'The node', 'Map shown'; node.rs, on_map), over the node's header and a map by value. What its rows say, and
-// the slots after it, are crates `shownrows` and `shownslots`.
+// A map shown to a node (paper 01, 'The node', 'Map shown'; node.rs, on_map), over the node's header by value and a map in
+// the bytes that a host lends. What its rows say, and the slots after it, are crates `shownrows` and `shownslots`.
 use header::Kept;
 use header::Node;
 use model::Epoch;
@@ -7,6 +7,7 @@ use model::Metric;
 use node::Nodes;
 use state::ShardKey;
 
+mod dead;
 pub mod listed;
 mod parts;
 pub mod starting;

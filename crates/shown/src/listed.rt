@@ -2,8 +2,11 @@
 ghost use mathlib.Core.Path.{_≡_};
 ghost use mathlib.Core.Bool.{true};
 ghost use Prim.Native.Nat.{_≤_};
+ghost use lib.ListN.{length};
+ghost use Rattle.model.specs.Layout.Format.{numberAt};
 ghost use Rattle.header.specs.Formed.{formedNode};
 ghost use Rattle.state.specs.Counted.{Sized};
+ghost use Rattle.mapimage.specs.Image.{collectionsAt};
 ghost use Rattle.shown.specs.Rows.{takenOf, Refreshes, Firsts, TakesAs, ShowsListed};
 use crate::RowShown;
 use crate::Start;
@@ -11,16 +14,19 @@ use crate::Taken;
 use header::Kept;
 use header::Node;
 use header::shards::place_of;
+use mapbytes::layout::COLLECTION;
+use mapbytes::layout::COLLECTIONS;
+use mapbytes::layout::COLLECTIONS_USED;
+use mapbytes::place::collection_place;
+use maprows::collections::collection_at;
 use model::DataNodeId;
 use model::Metric;
 use node::Held;
 use node::Nodes;
 use onmap::show_held;
 use serve::header::begun;
-use shownrows::rows::collection_of;
 use shownrows::rows::epoch_of;
 use shownrows::rows::info_of;
-use state::Collections;
 use state::ShardKey;
 use state::ShardRow;
 
@@ -104,9 +110,9 @@ fn show_as(
 }
 
 // Where the map lacks the collection, none begins and a held one only learns its replicas.
-pub fn show_listed(n: Node, t: Collections, row: ShardRow) -> RowShown
-    requires { ⌜ (formedNode n ≡ true) × (t .count ≤ 16) × (Sized row) ⌝ }
-    ensures { λ r. ⌜ ShowsListed n t row r ⌝ }
+pub fn show_listed(n: Node, map: &[u8], row: ShardRow) -> RowShown
+    requires { ⌜ (formedNode n ≡ true) × (26536 ≤ length (now map)) × (numberAt 8 (now map) 16 ≤ 16) × (Sized row) ⌝ }
+    ensures { λ r. ⌜ ShowsListed n (collectionsAt (now (map .entry))) row r ⌝ }
 {
     let held = n.held;
     let count = n.count;
@@ -114,9 +120,9 @@ pub fn show_listed(n: Node, t: Collections, row: ShardRow) -> RowShown
     let name = key.collection;
     let me = n.id;
     let at = place_of(held, count, key);
-    let c = collection_of(t, name);
-    let items = t.items;
-    if t.count <= c {
+    let known = num::get8(map, COLLECTIONS_USED) as usize;
+    let c = collection_place(map, known, name);
+    if known <= c {
         let none = Nodes {
             items: [DataNodeId(0); 32],
             count: 0,
@@ -140,7 +146,7 @@ pub fn show_listed(n: Node, t: Collections, row: ShardRow) -> RowShown
             taken: taken,
         };
     }
-    let col = items[c];
+    let col = collection_at(map, COLLECTIONS + COLLECTION * c);
     let spec = col.spec;
     let metric = spec.metric;
     if count <= at {

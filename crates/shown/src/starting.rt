@@ -1,23 +1,27 @@
 // Map shown (paper 01, 'The node', 'Who is turned down'; node.rs, on_map).
 ghost use mathlib.Core.Path.{_≡_};
 ghost use mathlib.Core.Bool.{true};
+ghost use Prim.Native.Nat.{_≤_};
+ghost use lib.ListN.{length};
 ghost use Rattle.model.specs.Map.WellFormed.{wellFormedMap};
 ghost use Rattle.header.specs.Formed.{formedNode};
 ghost use Rattle.state.specs.View.{viewMap};
 ghost use Rattle.state.specs.Counted.{TablesCounted};
+ghost use Rattle.mapimage.specs.Image.{mapAt};
 ghost use Rattle.shown.specs.Shows.{StartsOver, TakesMap, ShowsMap};
 use crate::NodeShown;
 use crate::ShownAnswer;
+use crate::dead::dead_in;
 use crate::parts::kepts_of;
 use crate::parts::starts_of;
 use crate::walk::no_taken;
 use crate::walk::walk;
 use header::Node;
 use header::formed::formed_node;
+use mapbytes::layout::NODES_USED;
+use mapbytes::layout::VERSION;
 use serve::Expiry;
-use shownrows::rows::dead_in;
 use shownslots::slots::assigned;
-use state::ShardMap;
 
 // Internal: the node under a fresh incarnation, with nothing held and no map known.
 pub fn started_over(n: Node, fresh: u64) -> Node
@@ -36,11 +40,12 @@ pub fn started_over(n: Node, fresh: u64) -> Node
 }
 
 // Internal: a map that is taken: 23 if a ninth shard would be held after removals, or a 33rd worker; nothing is changed then.
-fn take_map(n: Node, m: ShardMap) -> NodeShown
-    requires { ⌜ (formedNode n ≡ true) × (TablesCounted m) × (wellFormedMap (viewMap m) ≡ true) ⌝ }
-    ensures { λ r. ⌜ TakesMap n m r ⌝ }
+fn take_map(n: Node, map: &[u8]) -> NodeShown
+    requires { ⌜ (formedNode n ≡ true) × (26536 ≤ length (now map)) × TablesCounted (mapAt (now map)) × (wellFormedMap (viewMap (mapAt (now map))) ≡ true) ⌝ }
+    ensures { λ r. ⌜ TakesMap n (mapAt (now (map .entry))) r ⌝ }
 {
-    let w = walk(n, m);
+    let version = num::get8(map, VERSION);
+    let w = walk(n, map);
     let items = w.items;
     let count = w.count;
     let starts = starts_of(items, count);
@@ -60,7 +65,7 @@ fn take_map(n: Node, m: ShardMap) -> NodeShown
         id: id,
         incarnation: n.incarnation,
         expiry: expiry,
-        version: m.version,
+        version: version,
         held: held,
         count: count,
     };
@@ -74,15 +79,17 @@ fn take_map(n: Node, m: ShardMap) -> NodeShown
 
 // Internal: paper 01, 'Map shown', of a map that has been tested: 24 a malformed header; an older version is ignored; a node listed dead starts over;
 // 23; otherwise the node after, and the workers to start.
-pub fn show_map(n: Node, m: ShardMap, fresh: u64) -> NodeShown
-    requires { ⌜ (TablesCounted m) × (wellFormedMap (viewMap m) ≡ true) ⌝ }
-    ensures { λ r. ⌜ ShowsMap n m fresh r ⌝ }
+pub fn show_map(n: Node, map: &[u8], fresh: u64) -> NodeShown
+    requires { ⌜ (26536 ≤ length (now map)) × TablesCounted (mapAt (now map)) × (wellFormedMap (viewMap (mapAt (now map))) ≡ true) ⌝ }
+    ensures { λ r. ⌜ ShowsMap n (mapAt (now (map .entry))) fresh r ⌝ }
 {
+    let version = num::get8(map, VERSION);
+    let nodes = num::get8(map, NODES_USED) as usize;
     let x = no_taken();
     let fill = x.start;
     let none = [fill; 8];
     if formed_node(n) {
-        if m.version < n.version {
+        if version < n.version {
             return NodeShown {
                 answer: ShownAnswer::Shown,
                 starts: none,
@@ -90,9 +97,8 @@ pub fn show_map(n: Node, m: ShardMap, fresh: u64) -> NodeShown
                 node: n,
             };
         }
-        let nodes = m.nodes;
         let me = n.id;
-        if dead_in(nodes, me.0, n.incarnation) {
+        if dead_in(map, nodes, me.0, n.incarnation) {
             let out = started_over(n, fresh);
             return NodeShown {
                 answer: ShownAnswer::Shown,
@@ -101,7 +107,7 @@ pub fn show_map(n: Node, m: ShardMap, fresh: u64) -> NodeShown
                 node: out,
             };
         }
-        return take_map(n, m);
+        return take_map(n, map);
     }
     NodeShown {
         answer: ShownAnswer::Refused(24),

@@ -4,18 +4,12 @@ use mathlib.Core.Bool.{Bool, not}
 use mathlib.Core.Path.{_≡_}
 use lib.Dec.{eqb}
 use Rattle.model.specs.Lists.{_and_}
-use Rattle.model.specs.Keys as keys
 use Rattle.node.specs.declared.Info.{Info}
 use Rattle.node.specs.Shows.{viewInfo}
 use Rattle.state.specs.declared.ShardRow.{ShardRow}
 use Rattle.state.specs.declared.NodeRow.{NodeRow}
-use Rattle.state.specs.declared.CollectionRow.{CollectionRow}
-use Rattle.state.specs.Names.{viewName, viewKey}
+use Rattle.state.specs.Names.{viewKey}
 use Rattle.state.specs.View.{viewShard}
-
--- the collections before that of a name
-abbrev pub otherName : keys.Name → CollectionRow → Bool
-otherName k c = not (keys.sameName (viewName (c .name)) k)
 
 -- node.rs, on_map: this incarnation of this node, marked dead
 abbrev pub deadAt : (id incarnation : ℕ) → NodeRow → Bool

@@ -1,26 +1,20 @@
 // Internal: what a map says of one shard and of this node, one row or one loop a function.
 ghost use mathlib.Core.Path.{_≡_};
 ghost use Prim.Native.Nat.{_≤_};
-ghost use lib.ListN.{take};
-ghost use Rattle.model.specs.Lists.{any, lead};
+ghost use Rattle.model.specs.Lists.{any};
 ghost use Rattle.model.specs.Node.Shown.{listedAs};
 ghost use Rattle.node.specs.Shows.{leaderOf, recordEpoch};
-ghost use Rattle.state.specs.Names.{viewName};
 ghost use Rattle.state.specs.View.{viewHolders, viewPrimary};
-ghost use Rattle.shownrows.specs.Rows.{otherName, deadAt, Reads};
+ghost use Rattle.shownrows.specs.Rows.{deadAt, Reads};
 use model::Epoch;
 use model::Role;
 use node::Info;
 use node::Leader;
 use node::rows::both;
-use state::Collections;
 use state::Holders;
-use state::Name;
 use state::NodeRow;
-use state::Nodes;
 use state::Primary;
 use state::ShardRow;
-use state::names::same_name;
 
 // A replica on this node, under its incarnation.
 pub fn is_listed(h: Holders, id: u64, incarnation: u64) -> bool
@@ -40,48 +34,12 @@ pub fn is_listed(h: Holders, id: u64, incarnation: u64) -> bool
     false
 }
 
-// The place of the collection, or the count.
-pub fn collection_of(t: Collections, name: Name) -> usize
-    requires { ⌜ t .count ≤ 16 ⌝ }
-    ensures { λ r. ⌜ r ≡ lead (otherName (viewName name)) (take (t .count) (t .items)) ⌝ }
-{
-    let items = t.items;
-    let count = t.count;
-    let mut i: usize = 0;
-    while i < count {
-        let x = items[i];
-        let k = x.name;
-        if same_name(k, name) {
-            return i;
-        }
-        i += 1;
-    }
-    i
-}
-
 // This node's own incarnation, marked dead.
 pub fn is_dead(x: NodeRow, id: u64, incarnation: u64) -> bool
     ensures { λ r. ⌜ r ≡ deadAt id incarnation x ⌝ }
 {
     let gone = both(x.incarnation == incarnation, !x.alive);
     both(x.node.0 == id, gone)
-}
-
-pub fn dead_in(t: Nodes, id: u64, incarnation: u64) -> bool
-    requires { ⌜ t .count ≤ 32 ⌝ }
-    ensures { λ r. ⌜ r ≡ any (deadAt id incarnation) (take (t .count) (t .items)) ⌝ }
-{
-    let items = t.items;
-    let count = t.count;
-    let mut i: usize = 0;
-    while i < count {
-        let x = items[i];
-        if is_dead(x, id, incarnation) {
-            return true;
-        }
-        i += 1;
-    }
-    false
 }
 
 pub fn leader_of(p: Primary) -> Leader
