@@ -28,7 +28,7 @@ use state::answers::rejected;
 use state::shard_table::shard_at;
 
 // Internal: whether the shard takes the change.
-fn decide_change(s: ShardRow, c: Change) -> Verdict
+pub fn decide_change(s: ShardRow, c: Change) -> Verdict
     requires { ⌜ Sized s ⌝ }
     ensures { λ v. ⌜ answerOf v ≡ decideChange (viewShard s) (changeOf c) ⌝ }
 {
@@ -42,7 +42,7 @@ fn decide_change(s: ShardRow, c: Change) -> Verdict
 }
 
 // Internal: the shard after a change that it takes.
-fn changed_row(s: ShardRow, c: Change) -> ShardRow
+pub fn changed_row(s: ShardRow, c: Change) -> ShardRow
     requires { ⌜ Takes s c ⌝ }
     ensures { λ r. ⌜ (viewShard r ≡ changed (viewShard s) (changeOf c)) × (Sized r) ⌝ }
 {

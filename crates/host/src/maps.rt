@@ -13,7 +13,7 @@ pub extern "C" fn catalogue_empty_map(map: &mut [u8]) -> u32
 pub extern "C" fn catalogue_apply(map: &mut [u8], request: &[u8]) -> u32
     ensures { λ r. ⌜ AppliesTo (now (map .entry)) (now (map .exit)) (now (request .entry)) r ⌝ }
 {
-    mapcalls::apply(map, request)
+    applycalls::apply(map, request)
 }
 
 #[no_mangle]

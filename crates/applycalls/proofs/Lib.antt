@@ -1,0 +1,4 @@
+pub mod OfPlaces
+pub mod OfRemember
+pub mod OfSettled
+pub mod OfCall

@@ -1,0 +1,35 @@
+// Apply over a map's image, in place (paper 01, 'The shard map', and 'Who is turned down'): the commands that change one shard. The others go by
+// way of `mapcalls`, before anything is written.
+ghost use Rattle.mapcalls.specs.Calls.{AppliesTo};
+use crate::settled::settle;
+use mapbytes::formed::is_formed;
+use mapbytes::lent::is_lent;
+use requests::load::load;
+use rpc::Message;
+use state::Command;
+
+mod answers;
+mod remember;
+mod settled;
+
+// 21, 24, then the command.
+pub fn apply(map: &mut [u8], request: &[u8]) -> u32
+    ensures { λ r. ⌜ AppliesTo (now (map .entry)) (now (map .exit)) (now (request .entry)) r ⌝ }
+{
+    let message = rpc::decode(request);
+    let Message::Request(p) = message else {
+        return 21;
+    };
+    if !is_lent(map) {
+        return 24;
+    }
+    if !is_formed(map) {
+        return 24;
+    }
+    let r = load(request, p);
+    let command = r.command;
+    let Command::OfShard(change, epoch) = command else {
+        return mapcalls::apply(map, request);
+    };
+    settle(map, r, change, epoch)
+}
