@@ -26,7 +26,7 @@ use Rattle.header.specs.View.{Stores, viewNode}
 use Rattle.header.specs.Answers.{Told, told}
 use Rattle.headerimage.specs.Image.{nodeAt}
 use Rattle.lend.specs.Lend.{Lot, placeOf, slotOf, lentFor, Changes}
-use Rattle.lentimage.specs.Lent.{lendsState, lotIn, Picks, Puttable, Puts}
+use Rattle.lentimage.specs.Lent.{lendsState, lotIn, Picks, Puts}
 use Rattle.lentimage.specs.declared.Picked.{Picked}
 use Rattle.lentimage.specs.State.{StateAfter}
 use Rattle.lentimage.proofs.OfPut.{puttable}
@@ -58,9 +58,6 @@ refusal-turned lastEpoch = refl
 refusal-turned noWorker = refl
 
 module _ (h s a : List ℕ) (k : Key) (b : Lot) (l : Picked) (d : Picks h s k b l) (clock least : ℕ) (m : List ℕ) where
-  pub shard-unlent : l .found ≡ false → WritesShard (buffers h s a) k clock least m (ended 24 (buffers h s a))
-  shard-unlent e = record { unlent = λ z. refl; lent = λ z. not-both _ z (sym (d .found) ∙ e) }
-
   module _ (f : l .found ≡ true) (x : Lot) (w : WriteAnswer) (call : WritesAt (l .node) b x clock least m 0 w) where
     lends : lendsState h s k ≡ true
     lends = sym (d .found) ∙ f
@@ -69,12 +66,6 @@ module _ (h s a : List ℕ) (k : Key) (b : Lot) (l : Picked) (d : Picks h s k b 
     called =
         subst (λ (y : Lot). WritesAt (nodeAt h) y x clock least m 0 w) (d .lot lends)
         (subst (λ (n : Node). WritesAt n b x clock least m 0 w) (d .read lends) call)
-
-    pub shard-puttable : WriteNames m k → turnedDown (w .answer) ≡ false → Puttable s (l .node) (w .node) x (l .at)
-    shard-puttable names t =
-        subst (λ (i : ℕ). Puttable s (l .node) (w .node) x i) (sym (d .at lends))
-        (subst (λ (n : Node). Puttable s n (w .node) x (placeOf (nodeAt h) k)) (sym (d .read lends))
-        (puttable h s k (w .node) x lends (called .whole t k names)))
 
     -- at the slot of the shard
     said : WriteNames m k → (z t : Stores) → Changes z t (slotOf (nodeAt h) k) (lotIn s (nodeAt h) k) x
@@ -138,10 +129,6 @@ module _ (h s a c : List ℕ) (clock least : ℕ) (m : List ℕ) where
         undecoded = λ z. none-some (sym z ∙ write-decoded m p i .decoded);
         read = λ z v q. f v q;
       }
-
-      -- the key that the message names
-      pub names : (k : Key) → k ≡ keyIn m (p .key) → WriteNames m k
-      names k e v q = e ∙ write-key m p i v q
 
       module _ (t : Bool) (tested : t ≡ opInDomain (opIn m (p .op))) where
         tells : (v : message.Write) → message.decodeWrite m ≡ some v → t ≡ opInDomain (v .op)

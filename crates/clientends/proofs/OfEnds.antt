@@ -52,6 +52,3 @@ module _ (h s a : List ℕ) (n : Node) (at : ℕ) (l : Lot) (w : WriteAnswer) wh
 -- .. and whether the images were written
 pub not-accepted : (x y : WriteReply) → x ≡ y → turnedDown y ≡ true → {P : Type 0} → turnedDown x ≡ false → P
 not-accepted x y q t f = not-both (turnedDown x) (ap turnedDown q ∙ t) f
-
-pub accepted-stands : (x : WriteReply) (o : ℕ) → x ≡ R.Accepted (record { 0 = o }) → turnedDown x ≡ false
-accepted-stands x o q = ap turnedDown q

@@ -1,12 +1,11 @@
 -- The store and the header of an admitted Write, by the numbers that were read. Assumes nothing.
 use Prim.Native.Nat.{ℕ, _+_, _*_, _≤_, _<_}
-use mathlib.Core.Path.{_≡_, refl, sym, ap, subst, _∙_}
+use mathlib.Core.Path.{_≡_, sym, ap, subst, _∙_}
 use mathlib.Core.Bool.{true}
 use mathlib.Core.List.{List}
 use native.Mathlib.Omega.{arith}
 use lib.ListN.{length}
 use Rattle.model.specs.Layout.Format.{numberAt}
-use Rattle.model.specs.Log.{Entry}
 use Rattle.rpc.specs.declared.OpPart.{OpPart}
 use Rattle.header.specs.declared.Kept.{Kept}
 use Rattle.header.specs.View.{noKept}
@@ -17,7 +16,7 @@ use Rattle.headerrows.specs.Rows.{keptAt}
 use Rattle.headerimage.specs.Image.{nodeAt}
 use Rattle.headerimage.specs.Becomes.{HeaderWrites}
 use Rattle.headerbytes.specs.Rows.{Counts}
-use Rattle.headerbytes.proofs.OfRows.{counted, row-at, slot-is, last-is, stored-is, count-is}
+use Rattle.headerbytes.proofs.OfRows.{row-at, slot-is, last-is, stored-is, count-is}
 use Rattle.rowbytes.proofs.OfFront.{epoch-is}
 use Rattle.headercounts.specs.Counts.{withCounts}
 use Rattle.storeimage.specs.Image.{wellFormedImage}

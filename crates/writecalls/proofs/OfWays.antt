@@ -32,7 +32,7 @@ use Rattle.serve.specs.declared.Admit.the-variants as A
 use Rattle.shard.specs.View.{opFrom}
 use Rattle.shard.specs.Store.{Storable, Pushed}
 use Rattle.writes.specs.declared.Written.{Written}
-use Rattle.writes.specs.Writes.{writtenAs, Writes}
+use Rattle.writes.specs.Writes.{writtenAs}
 use Rattle.writes.proofs.OfWrite.{admitted-room, writes-refused, writes-pushed}
 use Rattle.header.specs.declared.Kept.{Kept}
 use Rattle.header.specs.declared.Node.{Node}
@@ -41,11 +41,10 @@ use Rattle.header.proofs.OfLists.{by-case}
 use Rattle.headerrows.specs.Rows.{keptAt}
 use Rattle.headerimage.specs.Image.{nodeAt}
 use Rattle.headerimage.specs.Becomes.{HeaderWrites}
-use Rattle.lend.specs.Lend.{Lot, storeIn, storeOf, placeOf, Found, keptWith, withStore}
+use Rattle.lend.specs.Lend.{Lot, storeIn, storeOf, placeOf, keptWith, withStore}
 use Rattle.lend.specs.declared.Lent.the-variants as L
 use Rattle.lend.proofs.OfPut.{put-same}
 use Rattle.asked.specs.Answer.{answerLent, numberPut}
-use Rattle.asked.proofs.OfAnswer.{number-unput}
 use Rattle.storeimage.specs.Write.{Fits, rowsPut, logPut}
 use Rattle.shard.specs.Table.{playRows}
 use Rattle.lentimage.specs.Lent.{noLot, beginOf, lotAt, lotIn, lendsState, StorePuts, Picks, Puts}
@@ -57,15 +56,15 @@ use Rattle.clientwrites.specs.declared.WriteAnswer.{WriteAnswer}
 use Rattle.clientwrites.specs.ClientWrites.{WriteNames, WritesMessage, replyAs, Serves, WritesAt}
 use Rattle.clientwrites.proofs.OfWrites.{writes-message, unfit, gone, served, counts}
 use Rattle.clientwrites.proofs.OfNamed.{write-key}
-use Rattle.clientends.specs.Ends.{Buffers, ended, WriteFinished}
+use Rattle.clientends.specs.Ends.{Buffers, ended}
 use Rattle.clientends.proofs.OfEnds.{told-short, told-accepted, told-elsewhere, told-refused, not-accepted}
 use Rattle.clientcalls.specs.Written.{buffers, WritesShard}
 use Rattle.clientcalls.proofs.OfWritten.{shard-lent}
 use Rattle.storeput.specs.Put.{Appended, Grown, longer, entryBy}
 use Rattle.storeput.proofs.OfEntries.{longer-few}
 use Rattle.storeput.proofs.OfLeft.{left, left-pushed, left-put, left-fits}
-use Rattle.lentbytes.specs.Find.{keptIn, AbsentIn, FoundIn, FindsIn}
-use Rattle.headercounts.specs.Counts.{lastAs, withCounts}
+use Rattle.lentbytes.specs.Find.{keptIn, FoundIn, FindsIn}
+use Rattle.headercounts.specs.Counts.{lastAs}
 use Rattle.writecalls.specs.Grow.{Asked, Grows}
 use Rattle.writecalls.proofs.OfGrow.{row-is}
 
