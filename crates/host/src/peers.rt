@@ -12,7 +12,7 @@ pub extern "C" fn catalogue_replicate(
         (buffers (now (header .entry)) (now (stores .entry)) (now (reply .entry)))
         (buffers (now (header .exit)) (now (stores .exit)) (now (reply .exit))) r ⌝ }
 {
-    peercalls::replicate::replicate(header, stores, message, reply)
+    replicatecalls::replicate(header, stores, message, reply)
 }
 
 #[no_mangle]

@@ -1,4 +1,4 @@
-mod OfServes
-mod OfStates
+pub mod OfServes
+pub mod OfStates
 mod OfKinds
-mod OfMessages
+pub mod OfMessages

@@ -1,1 +1,1 @@
-mod OfEnds
+pub mod OfEnds

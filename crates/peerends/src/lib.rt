@@ -33,8 +33,8 @@ fn outcome_of(a: PeerReply) -> Outcome
     }
 }
 
-// The reply, or 23 without room for its nine bytes.
-fn put_reply(reply: &mut [u8], w: Reply) -> u32
+// Internal: the reply, or 23 without room for its nine bytes.
+pub fn put_reply(reply: &mut [u8], w: Reply) -> u32
     ensures { λ r. ⌜ Replies w (now (reply .entry)) (now (reply .exit)) r ⌝ }
 {
     if reply.len() < 9 {

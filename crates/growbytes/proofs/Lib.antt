@@ -1,0 +1,3 @@
+pub mod OfGrow
+pub mod OfOps
+pub mod OfKept
