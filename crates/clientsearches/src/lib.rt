@@ -17,7 +17,7 @@ use texts::key_of;
 
 mod held;
 mod named;
-mod query;
+pub mod query;
 
 // How many neighbours were found, 18 with the shard's own epoch, or the number of another refusal.
 pub enum SearchAnswer {

@@ -1,0 +1,3 @@
+pub mod OfHits
+pub mod OfHeld
+pub mod OfMessage
