@@ -33,5 +33,5 @@ pub extern "C" fn catalogue_search(
     ensures { λ r. ⌜ SearchesImages (now (header .entry)) (now (stores .entry)) (now (refused .entry)) clock (now (message .entry)) (now (hits .entry))
         (now (answer .entry)) (now (refused .exit)) (now (hits .exit)) (now (answer .exit)) r ⌝ }
 {
-    clientcalls::search(header, stores, refused, clock, message, hits, answer)
+    searchcalls::search(header, stores, refused, clock, message, hits, answer)
 }
