@@ -258,8 +258,12 @@ fn images_apply() {
             },
         );
         measure::print(&row);
-        let older = &requests.all[0];
-        let test = measure::alone(1.0, &mut || assert_eq!(image_apply(&mut image, older), 1));
+        let mut later = start.clone();
+        last.iter()
+            .for_each(|bytes| assert_eq!(image_apply(&mut later, bytes), 0));
+        let test = measure::alone(1.0, &mut || {
+            assert_eq!(image_apply(&mut later, &last[0]), 1)
+        });
         println!("| {name}, an older request | {test:.0} | | | |");
     }
 }

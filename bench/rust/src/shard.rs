@@ -312,13 +312,10 @@ pub fn append() {
     );
 }
 
-/// The Rust's side of an adoption: the message read, then the log aligned.
-fn adopt_peer(peer: &mut ShardReplica, message: &[u8]) -> u64 {
+/// The Rust's side of an adoption: the message read, then the log aligned, at an epoch that rises from one to the next.
+fn adopt_peer(peer: &mut ShardReplica, message: &[u8], epoch: u64) -> u64 {
     let Some(Message::NewEpoch {
-        epoch,
-        end_offset,
-        epochs,
-        ..
+        end_offset, epochs, ..
     }) = wire::read(message)
     else {
         unreachable!()
@@ -327,7 +324,7 @@ fn adopt_peer(peer: &mut ShardReplica, message: &[u8]) -> u64 {
     peer.adopt(Epoch(epoch), end_offset, &table).unwrap()
 }
 
-/// A log of `kept` entries and one more, which a NewEpoch message of the epoch cuts: the table of the
+/// A log of `kept` entries and one more, which a NewEpoch message of a higher epoch cuts: the table of the
 /// others is made anew. Epochs rise with each entry, or all are 1.
 fn adopt_one(name: &str, writes: &[(u64, Vec<f32>)], kept: usize, rising: bool) {
     let epoch_of = |i: usize| if rising { i as u64 + 1 } else { 1 };
@@ -343,7 +340,7 @@ fn adopt_one(name: &str, writes: &[(u64, Vec<f32>)], kept: usize, rising: bool) 
     let epochs = peer.epoch_ends().iter().map(|(e, o)| (e.0, *o)).collect();
     let news = wire::write(&Message::NewEpoch {
         key: key(),
-        epoch: own,
+        epoch: own + 1,
         end_offset: kept as u64,
         epochs,
         metric: 0,
@@ -351,6 +348,7 @@ fn adopt_one(name: &str, writes: &[(u64, Vec<f32>)], kept: usize, rising: bool) 
     let last = &writes[kept];
     store.append(own, &message(last.0, &last.1));
     let (before, rows) = (store.clone(), store.stored);
+    let mut epoch = own;
     let row = measure::row(
         name,
         1.0,
@@ -363,7 +361,8 @@ fn adopt_one(name: &str, writes: &[(u64, Vec<f32>)], kept: usize, rising: bool) 
         },
         &mut || {
             peer.append(upsert(last));
-            std::hint::black_box(adopt_peer(&mut peer, &news));
+            epoch += 1;
+            std::hint::black_box(adopt_peer(&mut peer, &news, epoch));
         },
     );
     store.adopt(own, &news);
