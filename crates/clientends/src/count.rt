@@ -1,7 +1,7 @@
 // The count of refused client calls in its four bytes (paper 01, 'The node'). Internal.
 ghost use mathlib.Core.Path.{_≡_};
 ghost use Rattle.clientends.specs.Count.{countPut};
-use refused::next_count;
+use refused::one_more;
 
 // One more, if the call was refused and its count is lent.
 pub fn count_call(refused: &mut [u8], number: u8)
@@ -14,5 +14,5 @@ pub fn count_call(refused: &mut [u8], number: u8)
         return;
     }
     let before = num::get4(refused, 0);
-    num::put4(refused, 0, next_count(before));
+    num::put4(refused, 0, one_more(before));
 }

@@ -1,7 +1,7 @@
 // The one count of refused Write and Search calls (paper 01, 'The node'). It is lent apart from a node's state, so that a call refused for a
 // malformed state counts too.
 ghost use mathlib.Core.Path.{_≡_};
-ghost use Rattle.refused.specs.Count.{bumped, after};
+ghost use Rattle.refused.specs.Count.{bumped};
 
 // How many Write and Search calls were refused; it stops at the largest u32.
 pub struct Refused {
@@ -22,21 +22,11 @@ pub fn count_refused(r: &mut Refused)
     r.count = next_count(r.count);
 }
 
-// One more, through a record that is made for it and lent.
-fn one_more(n: u32) -> u32
+// One more refused call, through a record that is made for it and lent.
+pub fn one_more(n: u32) -> u32
     ensures { λ r. ⌜ r ≡ bumped n ⌝ }
 {
     let mut r = Refused { count: n };
     count_refused(&mut r);
     r.count
-}
-
-// The count after a call that was answered by that refusal's number, 0 where it was not refused.
-pub fn counted(n: u32, number: u8) -> u32
-    ensures { λ r. ⌜ r ≡ after n number ⌝ }
-{
-    if number == 0 {
-        return n;
-    }
-    one_more(n)
 }

@@ -16,8 +16,8 @@ returns-2 c = count-short _ _ (c .before .if1 .left) (c .if2 .taken)
 get4-requires : tie.Need-get4-requires
 get4-requires c κs = search needs
 
-next-count-requires : tie.Need-next-count-requires
-next-count-requires c κs = search needs
+one-more-requires : tie.Need-one-more-requires
+one-more-requires c κs = search needs
 
 put4-requires : tie.Need-put4-requires
 put4-requires c κs = search needs
@@ -26,7 +26,7 @@ same-length : tie.Need-same-length
 same-length c = search needs
 
 returns-3 : tie.Need-returns-3
-returns-3 c = c .before .before .put4 .ensures ∙ count-more _ _ (c .before .before .before .before .before .before .before .before .if1 .left) (omega arith) _ (c .before .before .before .next-count .ensures ∙ ap bumped (c .before .before .before .before .before .get4 .ensures))
+returns-3 c = c .before .before .put4 .ensures ∙ count-more _ _ (c .before .before .before .before .before .before .before .before .if1 .left) (omega arith) _ (c .before .before .before .one-more .ensures ∙ ap bumped (c .before .before .before .before .before .get4 .ensures))
 
 pub count-call-spec : {M : Type 1} → statement M
 count-call-spec =
@@ -35,7 +35,7 @@ count-call-spec =
     returns
     returns-2
     get4-requires
-    next-count-requires
+    one-more-requires
     put4-requires
     same-length
     returns-3)
