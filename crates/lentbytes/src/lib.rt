@@ -5,19 +5,17 @@ ghost use Rattle.lentbytes.specs.Find.{FindsIn};
 use headerbytes::formed::is_formed;
 use headerbytes::place::place_at;
 use headerimage::is_lent;
+use layout::header::LAST;
+use layout::header::ROW;
+use layout::header::ROWS;
+use layout::header::SHARDS;
+use layout::header::SLOT;
+use layout::header::STORED;
+use layout::stores::STORE;
+use layout::stores::STORES;
 use lend::Lent;
-use row::LAST;
-use row::ROW;
-use row::ROWS;
-use row::SHARDS;
-use row::SLOT;
-use row::STORE;
-use row::STORED;
-use row::STORES;
 use state::ShardKey;
 use storebytes::is_store;
-
-pub mod row;
 
 // Where the shard of a key stands in the header, if the header passes its test and the shard's store its own.
 pub fn find(header: &[u8], stores: &[u8], key: ShardKey) -> Lent

@@ -13,27 +13,23 @@ use asked::answer::put_number;
 use headerimage::expiry_of;
 use headerrows::held::role_at;
 use image::codes::metric_of;
-use lentbytes::row::EPOCH;
-use lentbytes::row::LAST;
-use lentbytes::row::ROLE;
-use lentbytes::row::ROW;
-use lentbytes::row::ROWS;
-use lentbytes::row::SLOT;
-use lentbytes::row::STORE;
-use lentbytes::row::STORED;
+use layout::header::EPOCH;
+use layout::header::LAST;
+use layout::header::LEASE;
+use layout::header::LEASE_TIME;
+use layout::header::METRIC;
+use layout::header::ROLE;
+use layout::header::ROW;
+use layout::header::ROWS;
+use layout::header::SLOT;
+use layout::header::STORED;
+use layout::stores::STORE;
 use model::Epoch;
 use nearest::answer::least;
 use nearest::select::Hits;
 use node::rows::leads;
 use serve::lease::leased;
 use state::ShardKey;
-
-// The metric of a row, and the lease's end in a header: its kind, and its time.
-const METRIC: usize = 96;
-
-const LEASE: usize = 36;
-
-const LEASE_TIME: usize = 40;
 
 // As many as a log can have.
 const MOST: usize = 1024;

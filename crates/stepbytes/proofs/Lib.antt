@@ -1,1 +1,2 @@
+pub mod OfAdmission
 pub mod OfStep

@@ -15,12 +15,15 @@ use headerimage::expiry_of;
 use headerrows::held::role_at;
 use headerrows::peers::peer_at;
 use image::codes::flag_of;
-use lentbytes::row::COUNT;
-use lentbytes::row::EPOCH;
-use lentbytes::row::LAST;
-use lentbytes::row::OWN;
-use lentbytes::row::PEERS;
-use lentbytes::row::ROLE;
+use layout::header::COUNT;
+use layout::header::EPOCH;
+use layout::header::LAST;
+use layout::header::LEASE;
+use layout::header::LEASE_TIME;
+use layout::header::OWN;
+use layout::header::PEER;
+use layout::header::PEERS;
+use layout::header::ROLE;
 use node::rows::leads;
 use serve::Admit;
 use serve::lease::leased;
@@ -33,7 +36,7 @@ fn members(s: &[u8], at: usize, count: usize) -> u64
     let mut n: u64 = 0;
     let mut i: usize = 0;
     while i < count {
-        let p = peer_at(s, at + 32 * i);
+        let p = peer_at(s, at + PEER * i);
         if p.member {
             n += 1;
             i += 1;
@@ -57,7 +60,7 @@ fn is_leased(s: &[u8], clock: u64) -> bool
     requires { ⌜ 10288 ≤ length (now s) ⌝ }
     ensures { λ r. ⌜ r ≡ before (viewExpiry (nodeAt (now (s .entry)) .expiry)) clock ⌝ }
 {
-    let e = expiry_of(num::get4(s, 36), num::get8(s, 40));
+    let e = expiry_of(num::get4(s, LEASE), num::get8(s, LEASE_TIME));
     leased(e, clock)
 }
 

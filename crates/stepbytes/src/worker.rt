@@ -1,4 +1,4 @@
-// The worker's step (paper 01, 'The node'; node.rs, replicate_to), from the row of a held shard where it stands in a header's bytes. Internal.
+// The worker's step (paper 01, 'The node'; node.rs, replicate_to). Internal.
 ghost use mathlib.Core.Path.{_≡_};
 ghost use mathlib.Core.Bool.{true};
 ghost use Prim.Native.Nat.{_+_, _≤_};
@@ -11,6 +11,13 @@ ghost use Rattle.headerrows.specs.Rows.{peersAt, keptAt};
 use headerrows::held::role_at;
 use headerrows::peers::peer_at;
 use image::replicas::replicas_at;
+use layout::header::COUNT;
+use layout::header::HOLDERS;
+use layout::header::LAST;
+use layout::header::PEER;
+use layout::header::PEERS;
+use layout::header::REPLICAS;
+use layout::header::ROLE;
 use node::rows::is_holder;
 use node::rows::leads;
 use serve::Step;
@@ -46,7 +53,7 @@ fn peer_place(s: &[u8], at: usize, count: usize, node: u64) -> usize
 {
     let mut i: usize = 0;
     while i < count {
-        if num::get8(s, at + 32 * i) == node {
+        if num::get8(s, at + PEER * i) == node {
             return i;
         }
         i += 1;
@@ -59,24 +66,24 @@ pub fn step(header: &[u8], row: usize, epoch: u64, peer: u64) -> Step
     requires { ⌜ (row + 1280 ≤ length (now header)) × (formedHeld (keptAt (now header) row .held) ≡ true) ⌝ }
     ensures { λ r. ⌜ Steps (keptAt (now (header .entry)) row .held) epoch peer r ⌝ }
 {
-    let rows = row + 256;
-    let role = role_at(header, row + 108);
+    let rows = row + PEERS;
+    let role = role_at(header, row + ROLE);
     if !leads(role, epoch) {
         return Step::Stop;
     }
-    let replicas = replicas_at(header, row + 128);
-    let holders = num::get8(header, row + 80) as usize;
+    let replicas = replicas_at(header, row + REPLICAS);
+    let holders = num::get8(header, row + HOLDERS) as usize;
     if !is_holder(replicas, holders, peer) {
         return Step::Stop;
     }
-    let count = num::get8(header, row + 88) as usize;
+    let count = num::get8(header, row + COUNT) as usize;
     let at = peer_place(header, rows, count, peer);
     if count <= at {
         return Step::Align;
     }
-    let p = peer_at(header, rows + 32 * at);
+    let p = peer_at(header, rows + PEER * at);
     if !p.aligned {
         return Step::Align;
     }
-    sends(p.acked.0, num::get8(header, row + 72))
+    sends(p.acked.0, num::get8(header, row + LAST))
 }

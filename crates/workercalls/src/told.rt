@@ -18,12 +18,12 @@ use crate::codes::sent_number;
 use asked::answer::put_number;
 use header::StepAnswer;
 use headerrows::held::role_at;
-use lentbytes::row::LAST;
-use lentbytes::row::ROLE;
-use lentbytes::row::ROW;
-use lentbytes::row::ROWS;
-use lentbytes::row::SLOT;
-use lentbytes::row::STORE;
+use layout::header::LAST;
+use layout::header::ROLE;
+use layout::header::ROW;
+use layout::header::ROWS;
+use layout::header::SLOT;
+use layout::stores::STORE;
 use model::Metric;
 use outgoing::Request;
 use outgoing::worker::end_of;
@@ -127,7 +127,7 @@ pub fn step_at(
     if answer.len() < 8 {
         return 23;
     }
-    let s = stepbytes::step(header, ROWS + ROW * at, epoch, peer);
+    let s = stepbytes::worker::step(header, ROWS + ROW * at, epoch, peer);
     let w = request_at(
         request,
         header,

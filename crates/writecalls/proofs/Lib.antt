@@ -1,3 +1,1 @@
-pub mod OfAdmission
-pub mod OfGrow
 pub mod OfWays

@@ -65,8 +65,9 @@ use Rattle.storeput.proofs.OfEntries.{longer-few}
 use Rattle.storeput.proofs.OfLeft.{left, left-pushed, left-put, left-fits}
 use Rattle.lentbytes.specs.Find.{keptIn, FoundIn, FindsIn}
 use Rattle.headercounts.specs.Counts.{lastAs}
-use Rattle.writecalls.specs.Grow.{Asked, Grows}
-use Rattle.writecalls.proofs.OfGrow.{row-is}
+use Rattle.writecalls.specs.Asked.{Asked}
+use Rattle.growbytes.specs.Grow.{Grows}
+use Rattle.growbytes.proofs.OfGrow.{row-is}
 
 -- ---- an operation of a message, by its code
 

@@ -3,18 +3,18 @@ ghost use Rattle.state.specs.Names.{viewKey};
 ghost use Rattle.clientends.specs.Ends.{ended};
 ghost use Rattle.clientcalls.specs.Written.{buffers, WritesShard};
 ghost use Rattle.lentbytes.specs.Find.{FoundIn};
-ghost use Rattle.writecalls.specs.Grow.{Asked};
-use crate::admission::admit_write;
-use crate::grow::grow;
+ghost use Rattle.writecalls.specs.Asked.{Asked};
 use asked::answer::put_number;
+use growbytes::grow;
+use layout::header::LAST;
+use layout::header::ROW;
+use layout::header::ROWS;
 use lend::Lent;
 use lentbytes::find;
-use lentbytes::row::LAST;
-use lentbytes::row::ROW;
-use lentbytes::row::ROWS;
 use rpc::WritePart;
 use serve::Admit;
 use state::ShardKey;
+use stepbytes::admission::admit_write;
 
 // At its place in the header: 18, 19, 20, 23 a full log or no room for the offset. All of these are decided before a byte is written.
 fn write_found(

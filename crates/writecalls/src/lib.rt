@@ -4,8 +4,6 @@ ghost use Rattle.clientcalls.specs.Written.{buffers, WritesImages};
 use clientends::count::count_call;
 use message::write_message;
 
-mod admission;
-mod grow;
 mod held;
 mod message;
 

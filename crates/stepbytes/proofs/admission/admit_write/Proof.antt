@@ -1,18 +1,16 @@
 -- `admission::admit_write` meets its contract. Assumes nothing.
 use borrow.Author.Needs.{needs}
 use native.Mathlib.Omega.{arith}
-use mathlib.Core.Path.{_≡_, refl, sym, _∙_, ap}
-use mathlib.Core.List.{List, [], _∷_, _++_}
-use Prim.Native.Nat.{ℕ, _+_, _-_, _*_, _≤_, _<_}
-use lib.ListN.{length, getD, take, drop, set}
+use mathlib.Core.Path.{sym, _∙_, ap}
+use Prim.Native.Nat.{_-_}
 use borrow.Author.Tests.{not-true, not-false}
 use Rattle.model.specs.Node.Lease.{before}
 use Rattle.serve.specs.View.{viewExpiry}
 use Rattle.image.specs.Codes.{flagOf}
 use Rattle.headerimage.specs.Image.{nodeAt}
-use Rattle.writecalls.proofs.OfAdmission.{elsewhere, unleased, too-few, full, admitted}
-use Rattle.writecalls.proofs.admission.admit_write.Statement.{statement}
-use Rattle.writecalls.proofs.admission.admit_write.Tie as tie
+use Rattle.stepbytes.proofs.OfAdmission.{elsewhere, unleased, too-few, full, admitted}
+use Rattle.stepbytes.proofs.admission.admit_write.Statement.{statement}
+use Rattle.stepbytes.proofs.admission.admit_write.Tie as tie
 
 add-role-at : tie.Need-add-role-at
 add-role-at c = search needs

@@ -1,18 +1,15 @@
 -- `admission::is_leased` meets its contract. Assumes nothing.
 use borrow.Author.Needs.{needs}
-use native.Mathlib.Omega.{arith}
-use mathlib.Core.Path.{_≡_, refl, sym, _∙_, ap}
-use mathlib.Core.List.{List, [], _∷_, _++_}
-use Prim.Native.Nat.{ℕ, _+_, _-_, _*_, _≤_, _<_}
-use lib.ListN.{length, getD, take, drop, set}
+use mathlib.Core.Path.{_≡_, _∙_, ap}
+use Prim.Native.Nat.{_-_}
 use Rattle.model.specs.Layout.Format.{numberAt}
 use Rattle.model.specs.Node.Lease.{before}
 use Rattle.serve.specs.View.{viewExpiry}
 use Rattle.serve.specs.declared.Expiry.{Expiry}
 use Rattle.headerrows.specs.Rows.{expiryOf}
 use Rattle.headerimage.specs.Image.{nodeAt}
-use Rattle.writecalls.proofs.admission.is_leased.Statement.{statement}
-use Rattle.writecalls.proofs.admission.is_leased.Tie as tie
+use Rattle.stepbytes.proofs.admission.is_leased.Statement.{statement}
+use Rattle.stepbytes.proofs.admission.is_leased.Tie as tie
 
 get4-requires : tie.Need-get4-requires
 get4-requires c κs = search needs

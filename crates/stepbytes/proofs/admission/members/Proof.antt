@@ -2,16 +2,15 @@
 use borrow.Author.Needs.{needs}
 use native.Mathlib.Omega.{arith}
 use mathlib.Core.Path.{_≡_, refl, sym, _∙_, ap}
-use mathlib.Core.List.{List, [], _∷_, _++_}
-use Prim.Native.Nat.{ℕ, _+_, _-_, _*_, _≤_, _<_}
-use lib.ListN.{length, getD, take, drop, set}
+use Prim.Native.Nat.{ℕ, _-_, _≤_}
+use lib.ListN.{length, take}
 use Rattle.model.specs.Lists.{filter}
 use Rattle.model.specs.Node.Client.{isMember}
 use Rattle.serve.proofs.OfAdmission.{filter-on, filter-past}
 use Rattle.headerrows.specs.Rows.{noPeer, peersAt}
 use Rattle.headerbytes.proofs.OfRows.{peers-long, peer-row}
-use Rattle.writecalls.proofs.admission.members.Statement.{statement}
-use Rattle.writecalls.proofs.admission.members.Tie as tie
+use Rattle.stepbytes.proofs.admission.members.Statement.{statement}
+use Rattle.stepbytes.proofs.admission.members.Tie as tie
 
 abbrev Inv-loop : tie.InvT-loop
 Inv-loop s at count n₀ i₀ n i = (i ≤ count) × (n ≤ i) × (n ≡ length (filter isMember (take i (peersAt s at))))

@@ -1,12 +1,9 @@
 -- `admission::plus_own` meets its contract. Assumes nothing.
 use borrow.Author.Needs.{needs}
 use native.Mathlib.Omega.{arith}
-use mathlib.Core.Path.{_≡_, refl, sym, _∙_, ap}
-use mathlib.Core.List.{List, [], _∷_, _++_}
-use Prim.Native.Nat.{ℕ, _+_, _-_, _*_, _≤_, _<_}
-use lib.ListN.{length, getD, take, drop, set}
-use Rattle.writecalls.proofs.admission.plus_own.Statement.{statement}
-use Rattle.writecalls.proofs.admission.plus_own.Tie as tie
+use Prim.Native.Nat.{_-_}
+use Rattle.stepbytes.proofs.admission.plus_own.Statement.{statement}
+use Rattle.stepbytes.proofs.admission.plus_own.Tie as tie
 
 add-result : tie.Need-add-result
 add-result c = search needs

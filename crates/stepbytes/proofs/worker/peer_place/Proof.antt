@@ -1,18 +1,17 @@
 -- `peer_place` meets its contract. Assumes nothing.
 use borrow.Author.Needs.{needs}
 use native.Mathlib.Omega.{arith}
-use mathlib.Core.Path.{_≡_, refl, sym, _∙_, ap}
-use mathlib.Core.List.{List, [], _∷_, _++_}
-use Prim.Native.Nat.{ℕ, _+_, _-_, _*_, _≤_, _<_}
-use lib.ListN.{length, getD, take, drop, set}
+use mathlib.Core.Path.{_≡_}
+use Prim.Native.Nat.{_+_, _-_, _≤_}
+use lib.ListN.{take, drop}
 use Rattle.model.specs.Lists.{lead}
 use Rattle.node.specs.View.{others, noPeer}
 use Rattle.node.proofs.Loops.{lead-on, lead-stop, lead-end}
 use Rattle.headerrows.specs.Rows.{peersAt}
 use Rattle.headerbytes.proofs.OfRows.{peers-long}
 use Rattle.stepbytes.proofs.OfStep.{row-same, row-other}
-use Rattle.stepbytes.proofs.peer_place.Statement.{statement}
-use Rattle.stepbytes.proofs.peer_place.Tie as tie
+use Rattle.stepbytes.proofs.worker.peer_place.Statement.{statement}
+use Rattle.stepbytes.proofs.worker.peer_place.Tie as tie
 
 abbrev Inv-loop : tie.InvT-loop
 Inv-loop s at count node i₀ i = (i ≤ count) × (lead (others node) (take count (peersAt s at)) ≡ i + lead (others node) (drop i (take count (peersAt s at))))

@@ -1,16 +1,14 @@
 -- `sends` meets its contract. Assumes nothing.
 use borrow.Author.Needs.{needs}
 use native.Mathlib.Omega.{arith}
-use mathlib.Core.Path.{_≡_, refl, sym, _∙_, ap}
-use mathlib.Core.List.{List, [], _∷_, _++_}
-use Prim.Native.Nat.{ℕ, _+_, _-_, _*_, _≤_, _<_}
-use lib.ListN.{length, getD, take, drop, set}
+use mathlib.Core.Path.{_≡_, refl, sym, ap}
+use Prim.Native.Nat.{_+_, _-_}
 use Prim.Native.Nat.{min}
 use mathlib.Core.Bool.{Bool, cond}
 use borrow.Author.Tests.{le-leb, lt-leb}
 use Rattle.serve.specs.declared.Step.the-variants as S
-use Rattle.stepbytes.proofs.sends.Statement.{statement}
-use Rattle.stepbytes.proofs.sends.Tie as tie
+use Rattle.stepbytes.proofs.worker.sends.Statement.{statement}
+use Rattle.stepbytes.proofs.worker.sends.Tie as tie
 
 returns : tie.Need-returns
 returns c = let a = (c .before .args) in sym (ap (λ (b : Bool). cond b S.Wait (S.Send (a .acked + 1) (min 256 (a .last - a .acked)))) (le-leb _ _ ((c .if1) .taken)))

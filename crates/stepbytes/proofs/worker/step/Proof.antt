@@ -1,14 +1,11 @@
 -- `step` meets its contract. Assumes nothing.
 use borrow.Author.Needs.{needs}
 use native.Mathlib.Omega.{arith}
-use mathlib.Core.Path.{_≡_, refl, sym, _∙_, ap}
-use mathlib.Core.List.{List, [], _∷_, _++_}
-use Prim.Native.Nat.{ℕ, _+_, _-_, _*_, _≤_, _<_}
-use lib.ListN.{length, getD, take, drop, set}
+use Prim.Native.Nat.{_-_}
 use borrow.Author.Tests.{not-true, not-false}
 use Rattle.stepbytes.proofs.OfStep.{holders-few, count-few, stop-not, stop-gone, align-new, align-old, ack-fits, sends-on}
-use Rattle.stepbytes.proofs.step.Statement.{statement}
-use Rattle.stepbytes.proofs.step.Tie as tie
+use Rattle.stepbytes.proofs.worker.step.Statement.{statement}
+use Rattle.stepbytes.proofs.worker.step.Tie as tie
 
 add-rows : tie.Need-add-rows
 add-rows c = search needs

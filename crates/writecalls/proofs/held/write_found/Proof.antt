@@ -1,14 +1,12 @@
 -- `held::write_found` meets its contract. Assumes nothing.
 use borrow.Author.Needs.{needs}
 use native.Mathlib.Omega.{arith}
-use mathlib.Core.Path.{_≡_, refl, sym, _∙_, ap}
-use mathlib.Core.List.{List, [], _∷_, _++_}
-use Prim.Native.Nat.{ℕ, _+_, _-_, _*_, _≤_, _<_}
-use lib.ListN.{length, getD, take, drop, set}
+use mathlib.Core.Path.{sym, _∙_, ap}
+use Prim.Native.Nat.{ℕ, _+_, _-_}
 use borrow.Author.Tests.{not-true, not-false}
 use Rattle.state.specs.Names.{viewKey}
 use Rattle.arrivals.proofs.OfMessages.{write-there}
-use Rattle.writecalls.proofs.OfGrow.{row-last, row-few}
+use Rattle.growbytes.proofs.OfGrow.{row-last, row-few}
 use Rattle.writecalls.proofs.OfWays.{admits-so, not-primary, no-lease, too-few, no-room, free, no-answer, grown-so}
 use Rattle.writecalls.proofs.held.write_found.Statement.{statement}
 use Rattle.writecalls.proofs.held.write_found.Tie as tie
