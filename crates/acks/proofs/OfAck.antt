@@ -1,11 +1,8 @@
 -- Laws of an ack, one for each way out. Assumes nothing.
 use mathlib.Core.Path.{_≡_, refl, ap, sym, _∙_}
-use mathlib.Core.Bool.{Bool, true, false, cond, not}
-use mathlib.Core.List.{List}
-use mathlib.Core.Option.{Option, none, some}
+use mathlib.Core.Bool.{Bool, true, false, cond}
 use Prim.Native.Nat.{ℕ, zero, suc, _<_, _≤_}
 use native.Mathlib.Omega.{arith}
-use lib.Dec.{eqb, ltb}
 use lib.ListN.{length, take, getD, set}
 use Rattle.model.specs.Lists.{_or_, lead}
 use Rattle.model.specs.Layout.Message.{replyGap}
@@ -21,11 +18,9 @@ use Rattle.node.specs.declared.Sent.{Sent}
 use Rattle.node.specs.declared.Reply.{Reply}
 use Rattle.node.specs.declared.Deed.{Deed}
 use Rattle.node.specs.declared.Deed.the-variants as D
-use Rattle.node.specs.declared.Acked.{Acked}
 use Rattle.node.specs.declared.AckAnswer.the-variants as A
 use Rattle.node.specs.View.{others, noPeer, viewHeld, withRows}
-use Rattle.node.specs.Formed.{formedHeld}
-use Rattle.node.specs.Acks.{replyOf, sentOf, deedWord, doesDeed, Demotes, ackTold, AcksHeld, ackCall, Acks}
+use Rattle.node.specs.Acks.{replyOf, sentOf, deedWord, doesDeed, Demotes, ackTold, AcksHeld}
 use Rattle.node.proofs.OfRows.{row-set, row-found, row-missing}
 
 -- a Gap that is not refused names an offset
@@ -107,17 +102,3 @@ module _ (h : Held) (epoch peer : ℕ) (s : Sent) (a : Reply) where
           told false x = refl
 
 -- ---- the call
-
-module _ (h : Held) (epoch peer : ℕ) (s : Sent) (a : Reply) where
-  pub acks-bad : ack.badReply (replyOf a) ≡ true → Acks h epoch peer s a (record { answer = A.Refused 21; held = h })
-  unfolding ackCall
-  acks-bad b k l v e = rw b
-
-  module _ (ok : ack.badReply (replyOf a) ≡ false) where
-    pub acks-malformed : formedHeld h ≡ false → Acks h epoch peer s a (record { answer = A.Refused 24; held = h })
-    unfolding ackCall
-    acks-malformed f k l v e = rw (ok, f)
-
-    pub acks-formed : formedHeld h ≡ true → (r : Acked) → AcksHeld h epoch peer s a r → Acks h epoch peer s a r
-    unfolding ackCall
-    acks-formed f r w k l v e = rw (ok, f) (w k l v e)

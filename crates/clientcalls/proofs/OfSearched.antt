@@ -20,11 +20,10 @@ use Rattle.texts.specs.Texts.{keyIn}
 use Rattle.header.specs.declared.Node.{Node}
 use Rattle.headerimage.specs.Image.{nodeAt}
 use Rattle.lend.specs.Lend.{Lot}
-use Rattle.lentimage.specs.Lent.{lendsState, lotIn, Picks}
+use Rattle.lentimage.specs.Lent.{lendsState, Picks}
 use Rattle.lentimage.specs.declared.Picked.{Picked}
 use Rattle.clientsearches.specs.Searches.{IsSearch}
 use Rattle.clientsearches.proofs.OfNamed.{search-key}
-use Rattle.clientends.specs.Count.{countLent}
 use Rattle.clientends.specs.Found.{SearchEnded, ended, SearchServed}
 use Rattle.clientcalls.specs.Searched.{lendsCall, SearchesShard, SearchesQuery, SearchesBytes}
 
@@ -41,9 +40,6 @@ lends-long c h s k e = rw (le-leb 4 (length c) e) refl
 -- ---- at the shard of a key
 
 module _ (h s : List ℕ) (k : Key) (b : Lot) (l : Picked) (d : Picks h s k b l) (clock : ℕ) (m o a : List ℕ) where
-  pub shard-unlent : l .found ≡ false → SearchesShard h s k clock m o a (ended 24 o a)
-  shard-unlent e = record { unlent = λ z. refl; lent = λ z. not-both _ z (sym (d .found) ∙ e) }
-
   pub shard-lent : l .found ≡ true → (e : SearchEnded) → SearchServed (l .node) b m clock o a e → SearchesShard h s k clock m o a e
   shard-lent f e t =
       let z = sym (d .found) ∙ f in

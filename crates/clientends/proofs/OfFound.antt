@@ -16,7 +16,6 @@ use Rattle.asked.specs.Answer.{answerLent, numberPut}
 use Rattle.asked.proofs.OfAnswer.{number-unput}
 use Rattle.clientsearches.specs.declared.NodeSearched.{NodeSearched}
 use Rattle.clientsearches.specs.Searches.{Output, output, room, SearchesAt}
-use Rattle.clientsearches.specs.declared.SearchAnswer.{SearchAnswer}
 use Rattle.clientends.specs.Hits.{hitsBytes}
 use Rattle.clientends.specs.Found.{SearchEnded, ended, foundIn, searchEnded, freshHits, hitsLent, SearchServed}
 
@@ -28,10 +27,6 @@ module _ (o a : List ℕ) (p : Output) (n : ℕ) where
       → ended 0 o′ a′ ≡ foundIn o a p n
   found-put h o′ a′ e f =
       ap (λ (x : List ℕ). ended 0 x a′) e ∙ ap (ended 0 _) f ∙ (rw h refl)
-
--- an answer, in other words
-pub ended-as : (o a : List ℕ) (p : Output) (x y : SearchAnswer) → x ≡ y → (e : SearchEnded) → e ≡ searchEnded o a p y → e ≡ searchEnded o a p x
-ended-as o a p x y q e f = f ∙ ap (searchEnded o a p) (sym q)
 
 -- a fresh column's front
 take-fresh : {A : Type 0} (x : A) (r m : ℕ) → r ≤ m → take r (replicate m x) ≡ replicate r x
@@ -45,18 +40,6 @@ module _ (r q : ℕ) (e : r ≡ min 1024 q) where
 
   pub front-long : {A : Type 0} (x : A) → r ≡ length (take r (replicate 1024 x))
   front-long x = sym (ap length (take-fresh x r 1024 front-least) ∙ length-replicate r x)
-
-pub front-fresh : (o : List ℕ) (r : ℕ) → r ≡ hitsLent o → output (take r (replicate 1024 0)) (take r (replicate 1024 (floatOf 0))) ≡ freshHits (hitsLent o)
-unfolding freshHits
-front-fresh o r e =
-    let h = front-least r (length o / 12) e in
-    ap (λ (x : List ℕ). output x (take r (replicate 1024 (floatOf 0)))) (take-fresh 0 r 1024 h)
-    ∙ ap (output (replicate r 0)) (take-fresh (floatOf 0) r 1024 h)
-    ∙ ap (λ (n : ℕ). output (replicate n 0) (replicate n (floatOf 0))) e
-
--- a column that stayed as long
-pub as-long : (x y n : ℕ) → x ≡ y → n ≤ y → n ≤ x
-as-long x y n e h = subst (λ (k : ℕ). n ≤ k) (sym e) h
 
 -- ---- fresh columns, as long as the buffer has room for neighbours
 

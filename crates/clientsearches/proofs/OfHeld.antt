@@ -1,5 +1,5 @@
 -- Laws of a Search on one held shard and at the shard of a key, one for each way out. Assumes nothing.
-use Prim.Native.Nat.{ℕ, _<_}
+use Prim.Native.Nat.{ℕ}
 use mathlib.Core.Path.{_≡_, refl, sym, ap, subst, _∙_}
 use mathlib.Core.Bool.{Bool, true, false, cond}
 use mathlib.Core.List.{List}
@@ -34,7 +34,7 @@ use Rattle.header.proofs.OfShards.{shard-some, call-absent}
 use Rattle.lend.specs.declared.Lent.the-variants as L
 use Rattle.lend.specs.declared.Lent as found
 use Rattle.lend.specs.Lend.{Lot, storeOf, lentFor, slotOf, Lends, Finds, Found}
-use Rattle.lend.proofs.OfLend.{few-held, slot-held, lends-view}
+use Rattle.lend.proofs.OfLend.{slot-held, lends-view}
 use Rattle.clientsearches.specs.declared.SearchAnswer.{SearchAnswer}
 use Rattle.clientsearches.specs.declared.SearchAnswer.the-variants as S
 use Rattle.clientsearches.specs.Searches.{Output, output, room, Tells, foundAs, SearchesHeld, testedSearch, SearchesNamed}
@@ -61,12 +61,6 @@ module _ (h : Held) (s : Store) (epoch : ℕ) (lease : Bool) (k : ℕ) (q : List
 
     pub held-unleased : d ≡ A.NoLease → SearchesHeld h s epoch lease k q o o (S.Refused 19)
     held-unleased z = held-as o A.NoLease (subst (AdmitsSearch h epoch lease) z a) _ (λ key. record { answer = refl; output = refl })
-
-    pub held-few : d ≡ A.TooFew → SearchesHeld h s epoch lease k q o o (S.Refused 20)
-    held-few z = held-as o A.TooFew (subst (AdmitsSearch h epoch lease) z a) _ (λ key. record { answer = refl; output = refl })
-
-    pub held-full : d ≡ A.NoRoom → SearchesHeld h s epoch lease k q o o (S.Refused 23)
-    held-full z = held-as o A.NoRoom (subst (AdmitsSearch h epoch lease) z a) _ (λ key. record { answer = refl; output = refl })
 
     -- admitted: the nearest of the shard's vectors
     module _ (z : d ≡ A.Yes) (well : wellFormedStore s ≡ true) (asked : wellFormedVector q ≡ true) (f : nearest.Found) (is′ : List ℕ) (ds′ : List Float) where
@@ -111,9 +105,6 @@ module _ (n : Node) (a : Lot) (key : Key) (clock epoch k : ℕ) (q : List Float)
   module _ (at : ℕ) (e : f ≡ L.At at) where
     pub named-at : Found n key a at
     named-at = subst (Finds n key a) e finds
-
-    pub named-few : at < 8
-    named-few = few-held n key a at named-at
 
     abbrev kept : Kept
     kept = getD (n .held) at noKept

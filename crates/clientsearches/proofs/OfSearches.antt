@@ -1,13 +1,13 @@
 -- Laws of a Search of bytes on a header, one for each way out. Assumes nothing.
-use Prim.Native.Nat.{ℕ, _≤_, _<_}
+use Prim.Native.Nat.{ℕ, _≤_}
 use mathlib.Core.Path.{_≡_, refl, sym, ap, subst, _∙_}
 use mathlib.Core.Bool.{Bool, true, false}
 use mathlib.Core.List.{List}
-use mathlib.Core.Option.{none, some}
+use mathlib.Core.Option.{some}
 use native.Mathlib.Omega.{arith}
 use lib.Ieee.{Float}
 use lib.ListN.{take}
-use borrow.Author.Tests.{lt-ltb, le-ltb}
+use borrow.Author.Tests.{le-ltb}
 use Rattle.model.specs.Limits.{maxTime}
 use Rattle.model.specs.Keys.{Key}
 use Rattle.model.specs.Refusals.{unknownShard, notPrimary, noLease, tooFewInSync, undecodable, outsideDomain, noRoom, malformed, lastEpoch, noWorker}
@@ -19,7 +19,7 @@ use Rattle.model.specs.Node.WellFormed.{wellFormedVector}
 use Rattle.model.specs.Node.Client as client
 use Rattle.model.specs.Node.Refused.{counted, countSearch, searchTurnedDown}
 use Rattle.model.specs.Node.Calls as calls
-use Rattle.model.proofs.Lists.{by-test, not-both}
+use Rattle.model.proofs.Lists.{not-both}
 use Rattle.model.proofs.Node.Refusals.{search-same}
 use Rattle.rpc.specs.declared.SearchPart.{SearchPart}
 use Rattle.rpc.proofs.Decoded.{search-decoded}
@@ -33,7 +33,6 @@ use Rattle.texts.specs.Texts.{keyIn}
 use Rattle.lend.specs.Lend.{Lot, lentFor, slotOf, Lends}
 use Rattle.lend.proofs.OfLend.{holding, holding-changes}
 use Rattle.clientsearches.specs.declared.SearchAnswer.{SearchAnswer}
-use Rattle.clientsearches.specs.declared.SearchAnswer.the-variants as S
 use Rattle.clientsearches.specs.Query.{ReadsQuery}
 use Rattle.clientsearches.specs.Searches.{word, turnedDown, Output, room, filled, searchTold, SearchSlot, Tells, testedSearch, SearchesNamed, IsSearch, Searches, SearchesAt}
 use Rattle.clientsearches.proofs.OfNamed.{search-key}
@@ -43,11 +42,6 @@ use Rattle.clientsearches.proofs.OfHeld.{tells-as}
 -- ---- a message that was read
 
 module _ (n : Node) (a : Lot) (m : List ℕ) (clock : ℕ) (o : Output) where
-  pub message-late : maxTime < clock → Searches n a m clock o o (S.Refused 21)
-  unfolding calls.searchWith
-  message-late h s slot j l =
-      tells-as o o (S.Refused 21) _ (client.searchRefused undecodable) (rw (lt-ltb maxTime clock h) refl) (record { answer = refl; output = refl })
-
   module _ (early : clock ≤ maxTime) (p : SearchPart) (i : IsSearch m p) where
     -- the query as its parts stand in the message
     abbrev asked : message.Query
@@ -68,12 +62,6 @@ module _ (n : Node) (a : Lot) (m : List ℕ) (clock : ℕ) (o : Output) where
     with-is s = rw (le-ltb maxTime clock early) (rw decodes refl)
 
     module _ (b : Bool) (column : List Float) (reads : ReadsQuery (bitsIn m (p .vector)) b (p .vector .len) column) where
-      pub message-outside : b ≡ false → Searches n a m clock o o (S.Refused 22)
-      message-outside e s slot j l =
-          tells-as o o (S.Refused 22) _ (client.searchRefused outsideDomain)
-          (ap (λ (z : Result client.SearchAnswer held.Node). z .answer) (with-is s) ∙ rw (← reads .tested) (rw e refl))
-          (record { answer = refl; output = refl })
-
       module _ (e : b ≡ true) where
         inside : patternsInDomain (bitsIn m (p .vector)) ≡ true
         inside = sym (reads .tested) ∙ e
@@ -148,17 +136,3 @@ module _ (n : Node) (a : Lot) (m : List ℕ) (clock : ℕ) (o p : Output) (befor
       }
 
 -- ---- bytes that are no Search
-
-pub search-undecoded : (n : Node) (a : Lot) (m : List ℕ) (clock : ℕ) (o : Output) (before c : ℕ) → c ≡ counted before true → message.decodeSearch m ≡ none
-    → SearchesAt n a m clock o o before (record { answer = S.Refused 21; refused = c })
-unfolding calls.searchWith
-search-undecoded n a m clock o before c count e = record {
-  same = told-by n a m clock o o before (S.Refused 21) c count undecoded;
-  kept = λ z. refl;
-  counts = count;
-}
-  where
-    undecoded : Searches n a m clock o o (S.Refused 21)
-    undecoded s slot j l =
-        by-test (λ (z : Result client.SearchAnswer held.Node). Tells o o (S.Refused 21) (z .answer)) (calls.lateTime clock)
-        (λ z. record { answer = refl; output = refl }) (λ z. rw e (record { answer = refl; output = refl }))

@@ -1,15 +1,14 @@
 -- Laws of the calls on a header, one for each way out. Assumes nothing.
 use mathlib.Core.Path.{_≡_, refl, sym, ap, _∙_}
-use mathlib.Core.Bool.{Bool, true, false, not}
+use mathlib.Core.Bool.{Bool, true, false}
 use mathlib.Core.List.{List, []}
-use mathlib.Core.Option.{some}
 use Prim.Native.Nat.{ℕ, _<_, _≤_}
 use lib.Dec.{ltb}
 use lib.ListN.{length, take, getD}
 use Rattle.model.specs.Lists.{_or_, lead}
 use Rattle.model.specs.Limits.{maxTime}
 use Rattle.model.specs.Keys.{Key}
-use Rattle.model.specs.Refusals.{unknownShard, malformed}
+use Rattle.model.specs.Refusals.{unknownShard}
 use Rattle.model.specs.Node.Held as held
 use Rattle.model.specs.Node.Shards.{gives}
 use Rattle.model.specs.Node.Client as client
@@ -20,10 +19,8 @@ use Rattle.model.specs.declared.DataNodeId.{DataNodeId}
 use Rattle.node.specs.declared.Held.{Held}
 use Rattle.node.specs.declared.Nodes.{Nodes}
 use Rattle.node.specs.declared.Waited.{Waited}
-use Rattle.node.specs.declared.WaitAnswer.{WaitAnswer}
 use Rattle.node.specs.declared.WaitAnswer.the-variants as W
 use Rattle.node.specs.declared.Acked.{Acked}
-use Rattle.node.specs.declared.AckAnswer.{AckAnswer}
 use Rattle.node.specs.declared.AckAnswer.the-variants as A
 use Rattle.node.specs.declared.OutcomeAnswer.the-variants as O
 use Rattle.node.specs.declared.Sent.{Sent}
@@ -36,13 +33,11 @@ use Rattle.serve.specs.declared.Step.the-variants as D
 use Rattle.serve.specs.View.{Grants}
 use Rattle.serve.specs.Steps.{Steps}
 use Rattle.state.specs.Names.{viewKey}
-use Rattle.header.specs.declared.Kept.{Kept}
 use Rattle.header.specs.declared.Node.{Node}
 use Rattle.header.specs.declared.GrantAnswer.the-variants as G
 use Rattle.header.specs.declared.NodeWaited.{NodeWaited}
 use Rattle.header.specs.declared.NodeAcked.{NodeAcked}
 use Rattle.header.specs.declared.Proposal.{Proposal}
-use Rattle.header.specs.declared.StepAnswer.{StepAnswer}
 use Rattle.header.specs.declared.StepAnswer.the-variants as S
 use Rattle.header.specs.View.{Stores, viewKept, viewNode, used, otherKey, noKept, withShard}
 use Rattle.header.specs.Formed.{lentNode}
@@ -71,15 +66,7 @@ Lent n b = (s : Stores) → b ≡ lentNode s n
 -- ---- lease grant
 
 module _ (n : Node) (i sent lease : ℕ) where
-  pub grant-late : ltb maxTime sent ≡ true → GrantsNode n i sent lease (record { answer = G.Refused 21; node = n })
-  unfolding calls.grantWith _or_
-  grant-late a s = rw a
-
   module _ (early : ltb maxTime sent ≡ false) where
-    pub grant-long : ltb maxTime lease ≡ true → GrantsNode n i sent lease (record { answer = G.Refused 21; node = n })
-    unfolding calls.grantWith _or_
-    grant-long a s = rw early (rw a)
-
     module _ (short : ltb maxTime lease ≡ false) where
       pub grant-malformed : Lent n false → GrantsNode n i sent lease (record { answer = G.Refused 24; node = n })
       unfolding calls.grantWith _or_
@@ -95,15 +82,6 @@ module _ (n : Node) (i sent lease : ℕ) where
 
 module _ (n : Node) (k : Key) (epoch offset now timeout : ℕ) where
   module _ (none : Nodes) (free : take (none .count) (none .items) ≡ []) where
-    pub wait-late : ltb maxTime now ≡ true → WaitsNode n k epoch offset now timeout (record { answer = W.Refused 21; shrink = none; node = n })
-    unfolding calls.waitWith _or_
-    wait-late a s = rw a (ap (λ (l : List DataNodeId). record { answer = W.Refused 21; shrink = l; node = viewNode s n }) free)
-
-    pub wait-long : ltb maxTime now ≡ false → ltb maxTime timeout ≡ true
-        → WaitsNode n k epoch offset now timeout (record { answer = W.Refused 21; shrink = none; node = n })
-    unfolding calls.waitWith _or_
-    wait-long a b s = rw a (rw b (ap (λ (l : List DataNodeId). record { answer = W.Refused 21; shrink = l; node = viewNode s n }) free))
-
     pub wait-malformed : ltb maxTime now ≡ false → ltb maxTime timeout ≡ false → Lent n false
         → WaitsNode n k epoch offset now timeout (record { answer = W.Refused 24; shrink = none; node = n })
     unfolding calls.waitWith _or_

@@ -4,11 +4,8 @@ ghost use Prim.Native.Nat.{_≤_, _<_};
 ghost use lib.ListN.{take};
 ghost use Rattle.model.specs.Lists.{lead};
 ghost use Rattle.state.specs.Names.{viewKey};
-ghost use Rattle.header.specs.View.{otherKey, withShard};
-ghost use Rattle.header.specs.Arrays.{atMost, Trims};
+ghost use Rattle.header.specs.View.{otherKey};
 use crate::Kept;
-use crate::Node;
-use node::Held;
 use state::ShardKey;
 use state::names::same_key;
 
@@ -27,45 +24,4 @@ pub fn place_of(held: [Kept; 8], count: usize, key: ShardKey) -> usize
         i += 1;
     }
     i
-}
-
-// Internal: a count that its array can hold.
-pub fn at_most(n: usize, limit: usize) -> usize
-    ensures { λ r. ⌜ r ≡ atMost n limit ⌝ }
-{
-    if n < limit { n } else { limit }
-}
-
-// Internal: the shard as it is read, its counts within their arrays.
-pub fn trimmed(h: Held) -> Held
-    ensures { λ r. ⌜ Trims h r ⌝ }
-{
-    let count = at_most(h.count, 32);
-    let holders = at_most(h.holders, 8);
-    let mut g = h;
-    g.count = count;
-    g.holders = holders;
-    g
-}
-
-// Internal: the shard with what a call left of it. Its key, its slot and the lengths of its log and its table stay: no store was lent.
-pub fn with_held(n: Node, at: usize, h: Held) -> Node
-    requires { ⌜ at < 8 ⌝ }
-    ensures { λ r. ⌜ r ≡ withShard n at h ⌝ }
-{
-    let held = n.held;
-    let x = held[at];
-    let key = x.key;
-    let old = x.held;
-    let mut g = h;
-    g.last = old.last;
-    let y = Kept {
-        key: key,
-        slot: x.slot,
-        stored: x.stored,
-        held: g,
-    };
-    let mut out = n;
-    out.held[at] = y;
-    out
 }

@@ -1,6 +1,6 @@
 -- Laws of the outcome of a proposal, one for each way out. Assumes nothing.
-use mathlib.Core.Path.{_≡_, refl, ap, sym, _∙_}
-use mathlib.Core.Bool.{Bool, true, false, cond, not}
+use mathlib.Core.Path.{_≡_}
+use mathlib.Core.Bool.{Bool, true, false, not}
 use mathlib.Core.List.{List}
 use Prim.Native.Nat.{ℕ, _<_, _≤_}
 use lib.Dec.{eqb}
@@ -10,10 +10,8 @@ use Rattle.model.specs.Node.Shards.{leadsAt, ofNode}
 use Rattle.model.specs.Node.Ack.{settledRow, outcomeHeld}
 use Rattle.model.specs.declared.Peer.{Peer}
 use Rattle.node.specs.declared.Held.{Held}
-use Rattle.node.specs.declared.OutcomeAnswer.the-variants as O
 use Rattle.node.specs.View.{others, noPeer}
-use Rattle.node.specs.Formed.{formedHeld}
-use Rattle.node.specs.Answers.{SettlesHeld, outcomeCall, Settles}
+use Rattle.node.specs.Answers.{SettlesHeld}
 use Rattle.node.proofs.OfRows.{row-set, row-kept}
 
 -- a shard after an outcome
@@ -46,13 +44,3 @@ module _ (h : Held) (me epoch peer : ℕ) (left : Bool) where
     unfolding outcomeHeld
     settles-row in-use q e k l v =
         rw (leads, mine, ← (row-set (ofNode peer) (h .peers) (h .count) at fits is (settledRow left) noPeer q in-use e))
-
-module _ (h : Held) (me epoch peer : ℕ) (left : Bool) where
-  pub settles-malformed : formedHeld h ≡ false → Settles h me epoch peer left (record { answer = O.Refused 24; held = h })
-  unfolding outcomeCall
-  settles-malformed a k l v = rw a
-
-  pub settles-formed : formedHeld h ≡ true → (r : Held) → SettlesHeld h me epoch peer left r
-      → Settles h me epoch peer left (record { answer = O.Noted; held = r })
-  unfolding outcomeCall
-  settles-formed a r w k l v = rw (a, w k l v)

@@ -1,6 +1,5 @@
 // CopyShard (22): stored entries that follow one another, from their columns straight into a lent message (shard.rs, entries_from). The stores
 // of the entries are crate `sententries`.
-ghost use mathlib.Core.Path.{_≡_};
 ghost use mathlib.Core.Option.{some};
 ghost use Prim.Native.Nat.{_+_, _-_, _≤_};
 ghost use lib.ListN.{length};

@@ -1,7 +1,5 @@
 // A held shard's header where its log begins, grows or is aligned (node.rs: or_insert_with, write, on_new_epoch); the log itself is the
 // store's.
-ghost use mathlib.Core.Path.{_≡_};
-ghost use Prim.Native.Nat.{_≤_};
 ghost use Rattle.serve.specs.Headers.{Begins, Realigns};
 use model::DataNodeId;
 use model::Epoch;

@@ -3,7 +3,6 @@
 pub mod admission;
 pub mod header;
 pub mod lease;
-pub mod worker;
 
 // When the lease ends.
 pub enum Expiry {

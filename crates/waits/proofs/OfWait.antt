@@ -1,22 +1,19 @@
 -- Laws of waiting for acks, one for each way out. Assumes nothing.
 use mathlib.Core.Path.{_≡_, refl, ap, sym, _∙_}
-use mathlib.Core.Bool.{Bool, true, false, cond, not}
-use mathlib.Core.List.{List, [], map}
+use mathlib.Core.Bool.{Bool, true, false, not}
+use mathlib.Core.List.{List, map}
 use Prim.Native.Nat.{ℕ, _-_}
 use lib.Dec.{ltb}
-use lib.ListN.{length, take}
+use lib.ListN.{take}
 use Rattle.model.specs.Lists.{_and_, _or_, every, collect}
-use Rattle.model.specs.Limits.{maxTime}
 use Rattle.model.specs.Node.Shards.{leadsAt}
 use Rattle.model.specs.Node.Client.{lacks, behindSince, toShrink, waitRow, nodeOf, hasAcked, waitHeld}
 use Rattle.model.specs.declared.Peer.{Peer}
 use Rattle.node.specs.declared.Held.{Held}
 use Rattle.node.specs.declared.Nodes.{Nodes}
-use Rattle.node.specs.declared.Waited.{Waited}
 use Rattle.node.specs.declared.WaitAnswer.the-variants as W
 use Rattle.node.specs.View.{withRows}
-use Rattle.node.specs.Formed.{formedHeld}
-use Rattle.node.specs.Answers.{WaitsHeld, waitCall, Waits}
+use Rattle.node.specs.Answers.{WaitsHeld}
 
 module _ (last now timeout : ℕ) (p : Peer) where
   pub shrink-late : lacks last p ≡ true → (e : ℕ) → e ≡ now - behindSince p now → (x : Bool) → x ≡ (ltb timeout e and not (p .proposing))
@@ -50,24 +47,3 @@ module _ (h : Held) (epoch offset now timeout : ℕ) where
     waits-on a k l v e = rw (e, leads, a, late, waited)
 
 -- ---- the call
-
-module _ (h : Held) (epoch offset now timeout : ℕ) where
-  pub waits-late : ltb maxTime now ≡ true → (s : Nodes) → s .count ≡ 0 → Waits h epoch offset now timeout (record { answer = W.Refused 21; shrink = s; held = h })
-  unfolding waitCall _or_
-  waits-late a s z k l v e = rw (a, z)
-
-  module _ (timely : ltb maxTime now ≡ false) where
-    pub waits-long : ltb maxTime timeout ≡ true → (s : Nodes) → s .count ≡ 0
-        → Waits h epoch offset now timeout (record { answer = W.Refused 21; shrink = s; held = h })
-    unfolding waitCall _or_
-    waits-long a s z k l v e = rw (timely, a, z)
-
-    module _ (short : ltb maxTime timeout ≡ false) where
-      pub waits-malformed : formedHeld h ≡ false → (s : Nodes) → s .count ≡ 0
-          → Waits h epoch offset now timeout (record { answer = W.Refused 24; shrink = s; held = h })
-      unfolding waitCall _or_
-      waits-malformed a s z k l v e = rw (timely, short, a, z)
-
-      pub waits-formed : formedHeld h ≡ true → (r : Waited) → WaitsHeld h epoch offset now timeout r → Waits h epoch offset now timeout r
-      unfolding waitCall _or_
-      waits-formed a r w k l v e = rw (timely, short, a) (w k l v e)

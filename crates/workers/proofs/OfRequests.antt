@@ -1,49 +1,27 @@
 -- Laws of the request of a worker's step at a node, one for each way out. Assumes nothing.
-use Prim.Native.Nat.{ℕ, _-_, _<_, _≤_}
-use native.Mathlib.Nat.{sub-zero}
+use Prim.Native.Nat.{ℕ, _-_, _<_}
 use mathlib.Core.Path.{_≡_, refl, sym, ap, subst, _∙_}
-use mathlib.Core.Bool.{true}
 use mathlib.Core.List.{List}
-use lib.ListN.{length, getD, take}
-use borrow.Author.Tests.{leb-true}
+use lib.ListN.{length, getD}
 use Rattle.model.specs.Keys.{Key}
-use Rattle.model.specs.Limits.{maxName}
 use Rattle.model.specs.Node.Worker as worker
 use Rattle.model.specs.Node.Calls as calls
 use Rattle.model.specs.declared.Metric.{Metric}
-use Rattle.model.proofs.Lists.{and-left}
 use Rattle.state.specs.Names.{viewKey}
-use Rattle.state.proofs.Tables.{every-at}
-use Rattle.shard.specs.Store.{Store}
 use Rattle.writes.specs.Writes.{viewStored}
 use Rattle.outgoing.specs.declared.Request.{Request}
 use Rattle.outgoing.specs.declared.Request.the-variants as R
-use Rattle.outgoing.specs.Requested.{answerOf, leftOf, keyNamed, requestOn, Requested}
+use Rattle.outgoing.specs.Requested.{answerOf, leftOf, requestOn, Requested}
 use Rattle.outgoing.proofs.OfStep.{request-of}
 use Rattle.header.specs.declared.Kept.{Kept}
 use Rattle.header.specs.declared.Node.{Node}
 use Rattle.header.specs.View.{Stores, viewKept, viewNode, noKept}
-use Rattle.header.specs.Formed.{keptFits}
-use Rattle.header.proofs.OfFormed.{header-fit}
 use Rattle.header.proofs.OfShards.{shard-none, shard-some}
 use Rattle.lend.specs.declared.Lent.the-variants as L
 use Rattle.lend.specs.declared.Lent as found
 use Rattle.lend.specs.Lend.{Lot, storeOf, lentFor, slotOf, Lends, Finds, Found}
 use Rattle.lend.proofs.OfLend.{few-held, slot-held, lends-view}
 use Rattle.workers.specs.Requests.{Requests}
-
--- a shard that passed has its name within the array
-pub kept-named : (x : Kept) → keptFits x ≡ true → x .key .collection .len ≤ 32
-unfolding keptFits
-kept-named x e = leb-true (x .key .collection .len) maxName (and-left _ _ e)
-
--- the request goes under the shard's key
-pub under-key : (x : Kept) (s : Store) (epoch peer : ℕ) (metric : Metric) (before after : List ℕ) (r : Request)
-    → Requested (requestOn epoch peer metric (viewStored (keyNamed (take (x .key .collection .len - 0) (x .key .collection .bytes)) (x .key .shard)) (x .held) s)) before after r
-    → Requested (requestOn epoch peer metric (viewStored (viewKey (x .key)) (x .held) s)) before after r
-under-key x s epoch peer metric before after r d =
-    subst (λ (i : ℕ). Requested (requestOn epoch peer metric (viewStored (keyNamed (take i (x .key .collection .bytes)) (x .key .shard)) (x .held) s)) before after r)
-    (sub-zero (x .key .collection .len)) d
 
 module _ (n : Node) (a : Lot) (k : Key) (f : found.Lent) (finds : Finds n k a f) where
   module _ (epoch peer : ℕ) (metric : Metric) (out : List ℕ) where
@@ -68,12 +46,6 @@ module _ (n : Node) (a : Lot) (k : Key) (f : found.Lent) (finds : Finds n k a f)
 
     pub found-few : at < 8
     found-few = few-held n _ a at found-at
-
-    -- what the shard and its store have passed
-    pub found-fits : keptFits (getD (n .held) at noKept) ≡ true
-    found-fits =
-        let g = found-at in
-        every-at keptFits (n .held) (n .count) at noKept (g .inside) (header-fit n (g .formed)) (g .under)
 
     module _ (epoch peer : ℕ) (metric : Metric) (before : List ℕ) where
       abbrev x : Kept
