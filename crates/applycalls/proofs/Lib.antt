@@ -1,4 +1,5 @@
 pub mod OfPlaces
 pub mod OfRemember
 pub mod OfSettled
+pub mod OfChanged
 pub mod OfCall

@@ -1,6 +1,6 @@
 -- The whole call: what is refused before the command is looked at, and what settling comes to. Assumes nothing.
 use Prim.Native.Nat.{ℕ, _≤_}
-use mathlib.Core.Path.{_≡_, refl, sym, ap, subst, _∙_}
+use mathlib.Core.Path.{_≡_, refl, sym, subst}
 use mathlib.Core.Bool.{Bool, true, false}
 use mathlib.Core.List.{List, []}
 use mathlib.Core.Option.{none, some}
@@ -10,27 +10,21 @@ use borrow.Author.Tests.{leb-true}
 use Rattle.model.specs.Lists.{_and_}
 use Rattle.model.specs.Layout.Request as request
 use Rattle.model.specs.Layout.Request.{decodeRequest}
-use Rattle.model.specs.declared.Epoch.{Epoch}
 use Rattle.model.proofs.Lists.{and-left}
 use Rattle.state.specs.declared.Answer.the-variants.{Refused}
-use Rattle.state.specs.declared.Change.{Change}
-use Rattle.state.specs.declared.Command.the-variants.{OfShard}
 use Rattle.state.specs.declared.Refusal.the-variants.{Undecodable, Malformed}
 use Rattle.state.specs.declared.Request.{Request}
 use Rattle.state.specs.declared.ShardKey.{ShardKey}
 use Rattle.state.specs.declared.Verdict.{Verdict}
-use Rattle.requests.specs.Read.{LoadedAll}
-use Rattle.requests.specs.declared.Loaded.{Loaded}
 use Rattle.mapcheck.specs.Lent.{wellFormedLent}
 use Rattle.mapcheck.proofs.Formed.{lent-tables}
-use Rattle.settle.specs.Applied.{Settleable}
 use Rattle.apply.specs.Calls.{AppliesBytes}
 use Rattle.apply.proofs.Ways as ways
 use Rattle.mapimage.specs.Image.{mapAt, mapLent, codesListed}
 use Rattle.mapcalls.specs.Calls.{noted, AppliesTo}
 use Rattle.mapcalls.proofs.OfApply.{unlent-way, unlent-21, unlent-24, kept-way, written-way}
 use Rattle.mapput.specs.Few.{Few}
-use Rattle.applycalls.specs.Settles.{Ready, Settles}
+use Rattle.applycalls.specs.Settles.{Called, Ready, Settles}
 
 abbrev noKey : ShardKey
 noKey = record { collection = record { bytes = []; len = 0 }; shard = 0 }
@@ -62,17 +56,18 @@ module _ (s bytes : List ℕ) where
         let v : Verdict = record { answer = Refused Malformed; key = noKey } in
         kept-way s bytes 24 (mapAt s) (record { verdict = v; map = mapAt s }) given refl (ways.unformed (mapAt s) bytes q read v w refl) refl refl
 
-  module _ (given : mapLent s ≡ true) (w : wellFormedLent (mapAt s) ≡ true) (q : Request) (l : LoadedAll bytes (record { found = true; request = q; next = length bytes })) where
-    pub ready-for : (c : Change) (e : Epoch) → q .command ≡ OfShard c e → Ready s q c e
-    ready-for c e is = record { few = few-of s given w; settleable = ways.settleable (mapAt s) q (l .within refl) w; command = is }
+  module _ (q : Request) (c : Called s bytes q) where
+    pub ready-for : Ready s q
+    ready-for = record { few = few-of s (c .given) (c .formed); settleable = ways.settleable (mapAt s) q (c .loaded .within refl) (c .formed) }
 
     module _ (t : List ℕ) (r : ℕ) (x : Settles s t q r) where
       called : AppliesBytes (mapAt s) bytes (x .after)
-      called = ways.settled (mapAt s) bytes q (l .padding) (l .read) (x .after) w (x .settles)
+      called = ways.settled (mapAt s) bytes q (c .loaded .padding) (c .loaded .read) (x .after) (c .formed) (x .settles)
 
       pub settled-way : AppliesTo s t bytes r
       settled-way = go (noted r) refl
         where
           go : (b : Bool) → noted r ≡ b → AppliesTo s t bytes r
-          go true n = written-way s bytes r (mapAt s) (x .after) given refl called (x .answer) t n (x .written n)
-          go false n = subst (λ (u : List ℕ). AppliesTo s u bytes r) (sym (x .kept n)) (kept-way s bytes r (mapAt s) (x .after) given refl called (x .answer) n)
+          go true n = written-way s bytes r (mapAt s) (x .after) (c .given) refl called (x .answer) t n (x .written n)
+          go false n =
+              subst (λ (u : List ℕ). AppliesTo s u bytes r) (sym (x .kept n)) (kept-way s bytes r (mapAt s) (x .after) (c .given) refl called (x .answer) n)

@@ -5,11 +5,13 @@ use mathlib.Core.List.{List}
 use lib.ListN.{length}
 use lib.Seq.{sets}
 use native.Mathlib.Omega.{arith}
+use Rattle.model.specs.Keys.{Key}
 use Rattle.model.specs.Lists.{put}
 use Rattle.model.specs.Layout.Format.{Bytes, bytesOf}
 use Rattle.model.specs.Map.Apply.{sessionBelow}
 use Rattle.model.specs.Map.Tables as tables
-use Rattle.state.specs.View.{viewSession, viewMap}
+use Rattle.state.specs.View.{answerIn, viewSession, viewMap}
+use Rattle.state.specs.declared.Answer.{Answer}
 use Rattle.state.specs.declared.SessionRow.{SessionRow}
 use Rattle.mapimage.specs.Image.{mapAt, MapWrites}
 use Rattle.mapimage.proofs.Back.{Fits}
@@ -17,10 +19,11 @@ use Rattle.mapput.specs.Few.{Few}
 use Rattle.mapput.specs.Rows.{readAs}
 use Rattle.mapput.proofs.OfWhole.{read-as, fits}
 use Rattle.mapedits.specs.Becomes.{Apart, SessionsBecome}
+use Rattle.mapedits.specs.Edits.{After}
 use Rattle.mapedits.specs.Other.{withSessions, withVersion}
 use Rattle.mapedits.proofs.OfCover.{within-then, within-version, within-sessions}
-use Rattle.mapedits.proofs.OfFrames.{After, after-sessions, after-version, after-then, written-over}
-use Rattle.applycalls.specs.Settles.{Writes}
+use Rattle.mapedits.proofs.OfFrames.{after-sessions, after-version, written-over}
+use Rattle.applycalls.specs.Settles.{Writes, Noted}
 
 module _ (s : List ℕ) (few : Few s) (row : SessionRow) (room : length (put sessionBelow (viewSession row) (readAs s .sessions)) ≤ 64)
     (t : List ℕ) (b : SessionsBecome s t (put sessionBelow (viewSession row) (readAs s .sessions)))
@@ -60,3 +63,8 @@ module _ (s : List ℕ) (few : Few s) (row : SessionRow) (room : length (put ses
               (within-then (within-sessions _ _ _ _ (subst (λ (i : ℕ). Apart s t 32 21416 (21416 + 80 * i)) (sym k) (b .apart))) (within-version _ _ _ _ version e))
               p;
         }
+
+-- what was noted of an answer, by its name
+pub noted-as : (s t : List ℕ) (client seq : ℕ) (k : Key) (x y : Answer) (version : ℕ) → x ≡ y → Noted s client seq t (answerIn y k) version
+    → Noted s client seq t (answerIn x k) version
+noted-as s t client seq k x y version e w = subst (λ (a : Answer). Noted s client seq t (answerIn a k) version) (sym e) w

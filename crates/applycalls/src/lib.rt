@@ -1,18 +1,19 @@
-// Apply over a map's image, in place (paper 01, 'The shard map', and 'Who is turned down'): the commands that change one shard. The others go by
-// way of `mapcalls`, before anything is written.
+// Apply over a map's image, in place (paper 01, 'The shard map', and 'Who is turned down').
 ghost use Rattle.mapcalls.specs.Calls.{AppliesTo};
 use crate::settled::settle;
 use mapbytes::formed::is_formed;
 use mapbytes::lent::is_lent;
 use requests::load::load;
 use rpc::Message;
-use state::Command;
 
 mod answers;
+mod changed;
 mod remember;
 mod settled;
+mod tell;
+mod turn;
 
-// 21, 24, then the command.
+// 21, 24, then the sessions and the command.
 pub fn apply(map: &mut [u8], request: &[u8]) -> u32
     ensures { λ r. ⌜ AppliesTo (now (map .entry)) (now (map .exit)) (now (request .entry)) r ⌝ }
 {
@@ -27,9 +28,5 @@ pub fn apply(map: &mut [u8], request: &[u8]) -> u32
         return 24;
     }
     let r = load(request, p);
-    let command = r.command;
-    let Command::OfShard(change, epoch) = command else {
-        return mapcalls::apply(map, request);
-    };
-    settle(map, r, change, epoch)
+    settle(map, request, r)
 }

@@ -22,15 +22,8 @@ use Rattle.maprows.specs.Rows.{nodeF, nodeValue, nodeBytes, collectionF, collec
 use Rattle.mapimage.specs.Image.{headImage, mapStored}
 use Rattle.mapimage.proofs.Back.{NodeFits, CollectionFits, ShardFits, SessionFits, Fits}
 use Rattle.mapedits.specs.Becomes.{Apart}
+use Rattle.mapedits.specs.Edits.{Within}
 use Rattle.mapedits.proofs.OfSets.{sets-below, sets-behind, sets-in}
-
--- but for the first 40 bytes and so many rows of each table
-pub record Within (s t : List ℕ) (a b c d : ℕ) : Type 0 where
-  pub long : length t ≡ length s
-  pub nodes : (i : ℕ) → 40 + 96 * a ≤ i → i < 3112 → getD t i 0 ≡ getD s i 0
-  pub collections : (i : ℕ) → 3112 + 56 * b ≤ i → i < 4008 → getD t i 0 ≡ getD s i 0
-  pub shards : (i : ℕ) → 4008 + 272 * c ≤ i → i < 21416 → getD t i 0 ≡ getD s i 0
-  pub sessions : (i : ℕ) → 21416 + 80 * d ≤ i → getD t i 0 ≡ getD s i 0
 
 pub within-self : (s : List ℕ) (a b c d : ℕ) → Within s s a b c d
 within-self s a b c d = record { long = refl; nodes = λ i h k. refl; collections = λ i h k. refl; shards = λ i h k. refl; sessions = λ i h. refl }
@@ -43,6 +36,11 @@ within-then p q = record {
   shards = λ i h k. q .shards i h k ∙ p .shards i h k;
   sessions = λ i h. q .sessions i h ∙ p .sessions i h;
 }
+
+-- of an image none of whose sessions changed
+pub within-any : {s t : List ℕ} {a b c : ℕ} (d : ℕ) → Within s t a b c 0 → Within s t a b c d
+within-any d p =
+    record { long = p .long; nodes = p .nodes; collections = p .collections; shards = p .shards; sessions = λ i h. p .sessions i (omega arith) }
 
 module _ {s t : List ℕ} (a b c d : ℕ) where
   pub within-version : (v : ℕ) → t ≡ sets s 0 (bytesOf 8 v) → Within s t a b c d

@@ -8,7 +8,7 @@ use lib.Seq.{sets, length-sets}
 use native.Mathlib.Omega.{arith}
 use Rattle.model.specs.Lists.{every}
 use Rattle.model.specs.Layout.Format.{numberAt, bytesOf}
-use Rattle.model.specs.Map.Apply.{setShards}
+use Rattle.model.specs.Map.Apply.{setNodes, setCollections, setShards}
 use Rattle.model.specs.Map.Tables as tables
 use Rattle.model.proofs.LayoutLaws.Bytes.{length-bytes}
 use Rattle.state.specs.Counted.{rowCounted, TablesCounted}
@@ -25,11 +25,12 @@ use Rattle.mapput.specs.Rows.{nodeRows, collectionRows, shardRows, sessionRows,
 use Rattle.mapput.proofs.OfBytes.{Same, number-same, items-same}
 use Rattle.mapput.proofs.OfTidy.{rows-used}
 use Rattle.mapput.proofs.OfWhole.{node-same, collection-same, shard-same, session-same}
-use Rattle.mapedits.specs.Becomes.{Apart, ShardsBecome, SessionsBecome}
+use Rattle.mapedits.specs.Becomes.{NodesBecome, CollectionsBecome, ShardsBecome, SessionsBecome}
+use Rattle.mapedits.specs.Edits.{Within, After, Edits}
 use Rattle.mapedits.specs.Other.{withSessions, withVersion}
 use Rattle.mapedits.proofs.OfSets.{sets-behind}
 use Rattle.mapedits.proofs.OfTable.{counted}
-use Rattle.mapedits.proofs.OfCover.{Within, cover}
+use Rattle.mapedits.proofs.OfCover.{within-self, within-then, within-nodes, within-collections, within-shards, cover}
 
 -- ---- a table whose bytes are as they were
 
@@ -59,12 +60,6 @@ module _ (s t : List ℕ) (few : Few s) where
       ∙ items-same t s (numberAt 8 s 32) (sessionAt t) (sessionAt s) 80 21416 21416 (session-same t s) (λ i h. f i (omega arith))
 
 -- ---- what an image says after a change
-
--- the map that it is read as, of tables that have no more rows than places, and shards within their arrays where they were
-pub record After (s t : List ℕ) (x : tables.Map) : Type 0 where
-  pub few : Few t
-  pub view : readAs t ≡ x
-  pub counted : every rowCounted (shardRows s) ≡ true → every rowCounted (shardRows t) ≡ true
 
 module _ (s t : List ℕ) (few : Few s) where
   pub after-sessions : (l : List tables.Session) → length l ≤ 64 → SessionsBecome s t l → After s t (withSessions (readAs s) l)
@@ -111,6 +106,50 @@ module _ (s t : List ℕ) (few : Few s) where
         counted = b .counted;
       }
 
+  pub after-nodes : (l : List tables.NodeInfo) → length l ≤ 32 → NodesBecome s t l → After s t (setNodes (readAs s) l)
+  after-nodes l room b =
+      let a = b .apart in
+      let long = few .long in
+      let len = a .long in
+      let v : numberAt 8 t 0 ≡ numberAt 8 s 0 = number-same t s 8 0 0 (λ i h. a .below (0 + i) (omega arith)) in
+      let c : collectionRows t ≡ collectionRows s = collections-kept s t few (λ i h. a .between (16 + i) (omega arith) (omega arith)) (λ i h. a .behind (3112 + i) (omega arith)) in
+      let h : shardRows t ≡ shardRows s = shards-kept s t few (λ i h. a .between (24 + i) (omega arith) (omega arith)) (λ i h. a .behind (4008 + i) (omega arith)) in
+      let e : sessionRows t ≡ sessionRows s = sessions-kept s t few (λ i h. a .between (32 + i) (omega arith) (omega arith)) (λ i h. a .behind (21416 + i) (omega arith)) in
+      let k : numberAt 8 t 8 ≡ length l = sym (length-map (nodeRows t) viewNode ∙ length-items (numberAt 8 t 8) (nodeAt t) 96 40) ∙ ap length (b .view) in
+      let kc = number-same t s 8 16 16 (λ i h. a .between (16 + i) (omega arith) (omega arith)) in
+      let kh = number-same t s 8 24 24 (λ i h. a .between (24 + i) (omega arith) (omega arith)) in
+      let ke = number-same t s 8 32 32 (λ i h. a .between (32 + i) (omega arith) (omega arith)) in
+      let fc = few .collections in
+      let fh = few .shards in
+      let fe = few .sessions in
+      record {
+        few = record { long = omega arith; nodes = omega arith; collections = omega arith; shards = omega arith; sessions = omega arith };
+        view = rw (v, c, h, e, b .view);
+        counted = λ q. ap (every rowCounted) h ∙ q;
+      }
+
+  pub after-collections : (l : List tables.Collection) → length l ≤ 16 → CollectionsBecome s t l → After s t (setCollections (readAs s) l (readAs s .shards))
+  after-collections l room b =
+      let a = b .apart in
+      let long = few .long in
+      let len = a .long in
+      let v : numberAt 8 t 0 ≡ numberAt 8 s 0 = number-same t s 8 0 0 (λ i h. a .below (0 + i) (omega arith)) in
+      let n : nodeRows t ≡ nodeRows s = nodes-kept s t few (λ i h. a .below (8 + i) (omega arith)) (λ i h. a .between (40 + i) (omega arith) (omega arith)) in
+      let h : shardRows t ≡ shardRows s = shards-kept s t few (λ i h. a .between (24 + i) (omega arith) (omega arith)) (λ i h. a .behind (4008 + i) (omega arith)) in
+      let e : sessionRows t ≡ sessionRows s = sessions-kept s t few (λ i h. a .between (32 + i) (omega arith) (omega arith)) (λ i h. a .behind (21416 + i) (omega arith)) in
+      let k : numberAt 8 t 16 ≡ length l = sym (length-map (collectionRows t) viewCollection ∙ length-items (numberAt 8 t 16) (collectionAt t) 56 3112) ∙ ap length (b .view) in
+      let kn = number-same t s 8 8 8 (λ i h. a .below (8 + i) (omega arith)) in
+      let kh = number-same t s 8 24 24 (λ i h. a .between (24 + i) (omega arith) (omega arith)) in
+      let ke = number-same t s 8 32 32 (λ i h. a .between (32 + i) (omega arith) (omega arith)) in
+      let fn = few .nodes in
+      let fh = few .shards in
+      let fe = few .sessions in
+      record {
+        few = record { long = omega arith; nodes = omega arith; collections = omega arith; shards = omega arith; sessions = omega arith };
+        view = rw (v, n, h, e, b .view);
+        counted = λ q. ap (every rowCounted) h ∙ q;
+      }
+
   pub after-version : (v : ℕ) → v < 256 ^ 8 → t ≡ sets s 0 (bytesOf 8 v) → After s t (withVersion (readAs s) v)
   after-version v small is =
       let l = length-bytes 8 v in
@@ -138,6 +177,29 @@ module _ (s t : List ℕ) (few : Few s) where
 
 pub after-then : {s t u : List ℕ} {x y : tables.Map} → After s t x → After t u y → After s u y
 after-then a b = record { few = b .few; view = b .view; counted = λ e. b .counted (a .counted e) }
+
+-- ---- what a command makes of one table
+
+pub edits-none : (s : List ℕ) → Few s → Edits s s (readAs s)
+edits-none s few = record { after = record { few = few; view = refl; counted = λ e. e }; within = within-self s _ _ _ _ }
+
+module _ (s t : List ℕ) (few : Few s) where
+  pub edits-nodes : (l : List tables.NodeInfo) → length l ≤ 32 → NodesBecome s t l → Edits s t (setNodes (readAs s) l)
+  edits-nodes l room b = record { after = after-nodes s t few l room b; within = within-nodes _ _ _ _ room (b .apart) }
+
+  pub edits-shards : (l : List tables.ShardInfo) → length l ≤ 64 → ShardsBecome s t l → Edits s t (setShards (readAs s) l)
+  edits-shards l room b = record { after = after-shards s t few l room b; within = within-shards _ _ _ _ room (b .apart) }
+
+-- the collections, then the shards
+pub edits-both : (s t u : List ℕ) → Few s → (cs : List tables.Collection) → length cs ≤ 16 → CollectionsBecome s t cs
+    → (ss : List tables.ShardInfo) → length ss ≤ 64 → ShardsBecome t u ss → Edits s u (setCollections (readAs s) cs ss)
+edits-both s t u few cs room b ss place d =
+    let a = after-collections s t few cs room b in
+    let e = after-shards t u (a .few) ss place d in
+    record {
+      after = record { few = e .few; view = e .view ∙ ap (λ (x : tables.Map). setShards x ss) (a .view); counted = λ q. e .counted (a .counted q) };
+      within = within-then (within-collections _ _ _ _ room (b .apart)) (within-shards _ _ _ _ place (d .apart));
+    }
 
 -- ---- the map that an image says
 

@@ -1,3 +1,4 @@
 pub mod Moved
 pub mod Becomes
+pub mod Edits
 pub mod Other

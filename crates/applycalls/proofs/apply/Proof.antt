@@ -9,7 +9,7 @@ use borrow.Author.Tests.{not-true, not-false}
 use types.Run.{miss}
 use Rattle.rpc.proofs.Decoded.{request-decoded}
 use Rattle.requests.proofs.Loads.{decoded-shows, missed-all, some-all}
-use Rattle.applycalls.proofs.OfCall.{room, undecoded-way, lent-not, malformed-way, ready-for, settled-way}
+use Rattle.applycalls.proofs.OfCall.{room, undecoded-way, lent-not, malformed-way}
 use Rattle.applycalls.proofs.apply.Statement.{statement}
 use Rattle.applycalls.proofs.apply.Tie as tie
 
@@ -29,7 +29,7 @@ same-length : tie.Need-same-length
 same-length c = search needs
 
 returns-2 : tie.Need-returns-2
-returns-2 c = lent-not ((c .before .before .before .before .before .before .before .before .before .args) .map .now) ((c .before .before .before .before .before .before .before .before .before .args) .request .now) ((request-decoded ((c .before .before .before .before .before .before .before .before .before .args) .request .now) _ (sym ((c .before .before .before .before .before .before .decode) .ensures) ∙ (c .before .before .before .before .message) .given .1)) .read) ((request-decoded ((c .before .before .before .before .before .before .before .before .before .args) .request .now) _ (sym ((c .before .before .before .before .before .before .decode) .ensures) ∙ (c .before .before .before .before .message) .given .1)) .decoded) (sym ((c .before .is-lent) .ensures) ∙ not-true _ ((c .if1) .taken))
+returns-2 c = let d = request-decoded ((c .before .before .before .before .before .before .before .before .before .args) .request .now) _ (sym ((c .before .before .before .before .before .before .decode) .ensures) ∙ (c .before .before .before .before .message) .given .1) in lent-not ((c .before .before .before .before .before .before .before .before .before .args) .map .now) ((c .before .before .before .before .before .before .before .before .before .args) .request .now) (d .read) (d .decoded) (sym ((c .before .is-lent) .ensures) ∙ not-true _ ((c .if1) .taken))
 
 is-formed-requires : tie.Need-is-formed-requires
 is-formed-requires c κs = room ((c .before .before .before .before .before .before .before .before .before .before .args) .map .now) (sym ((c .before .before .is-lent) .ensures) ∙ not-false _ ((c .before .if1) .left))
@@ -38,31 +38,19 @@ same-length-2 : tie.Need-same-length-2
 same-length-2 c = search needs
 
 returns-3 : tie.Need-returns-3
-returns-3 c = malformed-way ((c .before .before .before .before .before .before .before .before .before .before .before .before .args) .map .now) ((c .before .before .before .before .before .before .before .before .before .before .before .before .args) .request .now) ((request-decoded ((c .before .before .before .before .before .before .before .before .before .before .before .before .args) .request .now) _ (sym ((c .before .before .before .before .before .before .before .before .before .decode) .ensures) ∙ (c .before .before .before .before .before .before .before .message) .given .1)) .read) ((request-decoded ((c .before .before .before .before .before .before .before .before .before .before .before .before .args) .request .now) _ (sym ((c .before .before .before .before .before .before .before .before .before .decode) .ensures) ∙ (c .before .before .before .before .before .before .before .message) .given .1)) .decoded) (sym ((c .before .before .before .before .is-lent) .ensures) ∙ not-false _ ((c .before .before .before .if1) .left)) (sym ((c .before .is-formed) .ensures) ∙ not-true _ ((c .if2) .taken))
+returns-3 c = let d = request-decoded ((c .before .before .before .before .before .before .before .before .before .before .before .before .args) .request .now) _ (sym ((c .before .before .before .before .before .before .before .before .before .decode) .ensures) ∙ (c .before .before .before .before .before .before .before .message) .given .1) in malformed-way ((c .before .before .before .before .before .before .before .before .before .before .before .before .args) .map .now) ((c .before .before .before .before .before .before .before .before .before .before .before .before .args) .request .now) (d .read) (d .decoded) (sym ((c .before .before .before .before .is-lent) .ensures) ∙ not-false _ ((c .before .before .before .if1) .left)) (sym ((c .before .is-formed) .ensures) ∙ not-true _ ((c .if2) .taken))
 
 load-requires : tie.Need-load-requires
 load-requires c κs = decoded-shows ((c .before .before .before .before .before .before .before .before .before .before .before .before .args) .request .now) _ (request-decoded ((c .before .before .before .before .before .before .before .before .before .before .before .before .args) .request .now) _ (sym ((c .before .before .before .before .before .before .before .before .before .decode) .ensures) ∙ (c .before .before .before .before .before .before .before .message) .given .1)) .held
 
-enum-known-command : tie.Need-enum-known-command
-enum-known-command c = search needs
-
-apply-requires : tie.Need-apply-requires
-apply-requires c κs = search needs
+settle-requires : tie.Need-settle-requires
+settle-requires c κs = record { given = sym ((c .before .before .before .before .before .before .is-lent) .ensures) ∙ not-false _ ((c .before .before .before .before .before .if1) .left); formed = sym ((c .before .before .before .is-formed) .ensures) ∙ not-false _ ((c .before .before .if2) .left); loaded = some-all ((c .before .before .before .before .before .before .before .before .before .before .before .before .before .before .args) .request .now) _ (sym ((c .before .before .before .before .before .before .before .before .before .before .before .decode) .ensures) ∙ (c .before .before .before .before .before .before .before .before .before .message) .given .1) ((c .before .load) .result) ((c .before .load) .ensures) }
 
 same-length-3 : tie.Need-same-length-3
 same-length-3 c = search needs
 
 returns-4 : tie.Need-returns-4
-returns-4 c = (c .before .before .apply) .ensures
-
-settle-requires : tie.Need-settle-requires
-settle-requires c κs = ready-for ((c .before .before .before .before .before .before .before .before .before .before .before .before .before .before .before .before .before .args) .map .now) ((c .before .before .before .before .before .before .before .before .before .before .before .before .before .before .before .before .before .args) .request .now) (sym ((c .before .before .before .before .before .before .before .before .before .is-lent) .ensures) ∙ not-false _ ((c .before .before .before .before .before .before .before .before .if1) .left)) (sym ((c .before .before .before .before .before .before .is-formed) .ensures) ∙ not-false _ ((c .before .before .before .before .before .if2) .left)) ((c .before .before .before .before .load) .result) (some-all ((c .before .before .before .before .before .before .before .before .before .before .before .before .before .before .before .before .before .args) .request .now) _ (sym ((c .before .before .before .before .before .before .before .before .before .before .before .before .before .before .decode) .ensures) ∙ (c .before .before .before .before .before .before .before .before .before .before .before .before .message) .given .1) ((c .before .before .before .before .load) .result) ((c .before .before .before .before .load) .ensures)) _ _ ((c .before .before .command) .given .1)
-
-same-length-4 : tie.Need-same-length-4
-same-length-4 c = search needs
-
-returns-5 : tie.Need-returns-5
-returns-5 c = settled-way ((c .before .before .before .before .before .before .before .before .before .before .before .before .before .before .before .before .before .before .before .before .args) .map .now) ((c .before .before .before .before .before .before .before .before .before .before .before .before .before .before .before .before .before .before .before .before .args) .request .now) (sym ((c .before .before .before .before .before .before .before .before .before .before .before .before .is-lent) .ensures) ∙ not-false _ ((c .before .before .before .before .before .before .before .before .before .before .before .if1) .left)) (sym ((c .before .before .before .before .before .before .before .before .before .is-formed) .ensures) ∙ not-false _ ((c .before .before .before .before .before .before .before .before .if2) .left)) ((c .before .before .before .before .before .before .before .load) .result) (some-all ((c .before .before .before .before .before .before .before .before .before .before .before .before .before .before .before .before .before .before .before .before .args) .request .now) _ (sym ((c .before .before .before .before .before .before .before .before .before .before .before .before .before .before .before .before .before .decode) .ensures) ∙ (c .before .before .before .before .before .before .before .before .before .before .before .before .before .before .before .message) .given .1) ((c .before .before .before .before .before .before .before .load) .result) ((c .before .before .before .before .before .before .before .load) .ensures)) _ _ ((c .before .before .settle) .ensures)
+returns-4 c = (c .before .before .settle) .ensures
 
 pub apply-spec : {M : Type 1} → statement M
-apply-spec = tie.close (tie.spec decode-requires enum-known-message returns is-lent-requires same-length returns-2 is-formed-requires same-length-2 returns-3 load-requires enum-known-command apply-requires same-length-3 returns-4 settle-requires same-length-4 returns-5)
+apply-spec = tie.close (tie.spec decode-requires enum-known-message returns is-lent-requires same-length returns-2 is-formed-requires same-length-2 returns-3 load-requires settle-requires same-length-3 returns-4)

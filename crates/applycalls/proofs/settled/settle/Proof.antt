@@ -5,66 +5,48 @@ use mathlib.Core.Path.{_≡_, refl, sym, _∙_, ap}
 use mathlib.Core.List.{List, [], _∷_, _++_}
 use Prim.Native.Nat.{ℕ, _+_, _-_, _*_, _≤_, _<_}
 use lib.ListN.{length, getD, take, drop, set}
-use Rattle.applycalls.proofs.OfSettled.{seq-is, older-way, next-way, full-way, new-way}
+use mathlib.Core.Path.{subst}
+use Rattle.applycalls.specs.Settles.{Turned}
+use Rattle.applycalls.specs.declared.turn.Turn.{Turn}
+use Rattle.applycalls.proofs.OfCall.{ready-for, settled-way}
 use Rattle.applycalls.proofs.settled.settle.Statement.{statement}
 use Rattle.applycalls.proofs.settled.settle.Tie as tie
 
-get8-requires : tie.Need-get8-requires
-get8-requires c κs = let l = (c .before .before .pre) .few .long in omega arith
+turn-of-requires : tie.Need-turn-of-requires
+turn-of-requires c κs = ready-for ((c .before .before .before .args) .map .now) ((c .before .before .before .args) .request .now) ((c .before .before .before .args) .r) ((c .before .before .before .pre)) .few
 
-session-place-requires : tie.Need-session-place-requires
-session-place-requires c κs = let l = (c .before .before .before .before .pre) .few .long in let f = (c .before .before .before .before .pre) .few .sessions in let e = (c .before .get8) .ensures in (l, omega arith, sym e)
+enum-known-turn : tie.Need-enum-known-turn
+enum-known-turn c = search needs
+
+enum-known-turn-2 : tie.Need-enum-known-turn-2
+enum-known-turn-2 c = search needs
+
+repeated-requires : tie.Need-repeated-requires
+repeated-requires c κs = let k = subst (Turned ((c .before .before .before .before .before .before .before .before .args) .map .now) ((c .before .before .before .before .before .before .before .before .args) .r)) ((c .before .before .turn2) .given .1) ((c .before .before .before .before .turn-of) .ensures ((c .before .before .before .before .before .before .before .before .args) .r) (ready-for ((c .before .before .before .before .before .before .before .before .args) .map .now) ((c .before .before .before .before .before .before .before .before .args) .request .now) ((c .before .before .before .before .before .before .before .before .args) .r) ((c .before .before .before .before .before .before .before .before .pre))) refl refl) in (k .ready .few, k .inside)
+
+enum-told : tie.Need-enum-told
+enum-told c = search needs
+
+taken-requires : tie.Need-taken-requires
+taken-requires c κs = ((c .before .before .before .before .before .before .before .pre), subst (Turned ((c .before .before .before .before .before .before .before .args) .map .now) ((c .before .before .before .before .before .before .before .args) .r)) ((c .before .enum-told) .given .1) ((c .before .before .before .turn-of) .ensures ((c .before .before .before .before .before .before .before .args) .r) (ready-for ((c .before .before .before .before .before .before .before .args) .map .now) ((c .before .before .before .before .before .before .before .args) .request .now) ((c .before .before .before .before .before .before .before .args) .r) ((c .before .before .before .before .before .before .before .pre))) refl refl))
 
 same-length : tie.Need-same-length
 same-length c = search needs
 
 returns : tie.Need-returns
-returns c = let e = (c .before .before .before .before .get8) .ensures in let p = (c .before .if1) .taken in let f = (c .if2) .taken in full-way ((c .before .before .before .before .before .before .before .args) .map .now) ((c .before .before .before .before .before .before .before .args) .r) ((c .before .before .before .before .before .before .before .args) .change) ((c .before .before .before .before .before .before .before .args) .epoch) ((c .before .before .before .before .before .before .before .pre)) ((c .before .before .session-place) .result) ((c .before .before .session-place) .ensures) (omega arith) (omega arith)
-
-taken-requires : tie.Need-taken-requires
-taken-requires c κs = let e = (c .before .before .before .before .before .get8) .ensures in let p = (c .before .before .if1) .taken in let f = (c .before .if2) .left in new-way ((c .before .before .before .before .before .before .before .before .args) .map .now) ((c .before .before .before .before .before .before .before .before .args) .r) ((c .before .before .before .before .before .before .before .before .args) .change) ((c .before .before .before .before .before .before .before .before .args) .epoch) ((c .before .before .before .before .before .before .before .before .pre)) ((c .before .before .before .session-place) .result) ((c .before .before .before .session-place) .ensures) (omega arith) (omega arith)
+returns c = settled-way ((c .before .before .before .before .before .before .before .args) .map .now) ((c .before .before .before .before .before .before .before .args) .request .now) ((c .before .before .before .before .before .before .before .args) .r) ((c .before .before .before .before .before .before .before .pre)) _ _ (subst (Turned ((c .before .before .before .before .before .before .before .args) .map .now) ((c .before .before .before .before .before .before .before .args) .r)) ((c .before .turn) .given .1) ((c .before .before .before .turn-of) .ensures ((c .before .before .before .before .before .before .before .args) .r) (ready-for ((c .before .before .before .before .before .before .before .args) .map .now) ((c .before .before .before .before .before .before .before .args) .request .now) ((c .before .before .before .before .before .before .before .args) .r) ((c .before .before .before .before .before .before .before .pre))) refl refl))
 
 same-length-2 : tie.Need-same-length-2
 same-length-2 c = search needs
 
 returns-2 : tie.Need-returns-2
-returns-2 c = (c .before .before .taken) .ensures
-
-mul-get8 : tie.Need-mul-get8
-mul-get8 c = let f = (c .before .before .before .before .before .before .before .pre) .few .sessions in let e = (c .before .before .before .before .get8) .ensures in let i = (c .before .if1) .left in search needs
-
-add-get8 : tie.Need-add-get8
-add-get8 c = let f = (c .before .before .before .before .before .before .before .pre) .few .sessions in let e = (c .before .before .before .before .get8) .ensures in let i = (c .before .if1) .left in search needs
-
-add-get8-2 : tie.Need-add-get8-2
-add-get8-2 c = let f = (c .before .before .before .before .before .before .before .pre) .few .sessions in let e = (c .before .before .before .before .get8) .ensures in let i = (c .before .if1) .left in search needs
-
-get8-requires-2 : tie.Need-get8-requires-2
-get8-requires-2 c κs = let l = (c .before .before .before .before .before .before .before .pre) .few .long in let f = (c .before .before .before .before .before .before .before .pre) .few .sessions in let e = (c .before .before .before .before .get8) .ensures in let i = (c .before .if1) .left in omega arith
+returns-2 c = settled-way ((c .before .before .before .before .before .before .before .before .before .before .before .args) .map .now) ((c .before .before .before .before .before .before .before .before .before .before .before .args) .request .now) ((c .before .before .before .before .before .before .before .before .before .before .before .args) .r) ((c .before .before .before .before .before .before .before .before .before .before .before .pre)) _ _ ((c .before .before .repeated) .ensures ((c .before .before .before .before .before .before .before .before .before .before .before .args) .r) (subst (Turned ((c .before .before .before .before .before .before .before .before .before .before .before .args) .map .now) ((c .before .before .before .before .before .before .before .before .before .before .before .args) .r)) ((c .before .before .before .before .before .turn2) .given .1) ((c .before .before .before .before .before .before .before .turn-of) .ensures ((c .before .before .before .before .before .before .before .before .before .before .before .args) .r) (ready-for ((c .before .before .before .before .before .before .before .before .before .before .before .args) .map .now) ((c .before .before .before .before .before .before .before .before .before .before .before .args) .request .now) ((c .before .before .before .before .before .before .before .before .before .before .before .args) .r) ((c .before .before .before .before .before .before .before .before .before .before .before .pre))) refl refl)))
 
 same-length-3 : tie.Need-same-length-3
 same-length-3 c = search needs
 
 returns-3 : tie.Need-returns-3
-returns-3 c = let d = (c .before .before .before .before .before .before .get8) .ensures in let i = (c .before .before .before .if1) .left in let e = (c .before .get82) .ensures in let f = seq-is ((c .before .before .before .before .before .before .before .before .before .args) .map .now) (21416 + 80 * (c .before .before .before .before .session-place) .result) in let t = (c .if3) .taken in older-way ((c .before .before .before .before .before .before .before .before .before .args) .map .now) ((c .before .before .before .before .before .before .before .before .before .args) .r) ((c .before .before .before .before .before .before .before .before .before .args) .change) ((c .before .before .before .before .before .before .before .before .before .args) .epoch) ((c .before .before .before .before .session-place) .result) (record { ready = (c .before .before .before .before .before .before .before .before .before .pre); found = (c .before .before .before .before .session-place) .ensures; inside = omega arith }) (omega arith)
-
-repeated-requires : tie.Need-repeated-requires
-repeated-requires c κs = let d = (c .before .before .before .before .before .before .before .before .get8) .ensures in let i = (c .before .before .before .before .before .if1) .left in (record { ready = (c .before .before .before .before .before .before .before .before .before .before .before .pre); found = (c .before .before .before .before .before .before .session-place) .ensures; inside = omega arith }, (c .before .if4) .taken ∙ (c .before .before .before .get82) .ensures ∙ sym (seq-is ((c .before .before .before .before .before .before .before .before .before .before .before .args) .map .now) (21416 + 80 * (c .before .before .before .before .before .before .session-place) .result)))
-
-same-length-4 : tie.Need-same-length-4
-same-length-4 c = search needs
-
-returns-4 : tie.Need-returns-4
-returns-4 c = (c .before .before .repeated) .ensures
-
-taken-requires-2 : tie.Need-taken-requires-2
-taken-requires-2 c κs = let d = (c .before .before .before .before .before .before .before .before .get8) .ensures in let i = (c .before .before .before .before .before .if1) .left in let e = (c .before .before .before .get82) .ensures in let f = seq-is ((c .before .before .before .before .before .before .before .before .before .before .before .args) .map .now) (21416 + 80 * (c .before .before .before .before .before .before .session-place) .result) in let t = (c .before .before .if3) .left in let u = (c .before .if4) .left in next-way ((c .before .before .before .before .before .before .before .before .before .before .before .args) .map .now) ((c .before .before .before .before .before .before .before .before .before .before .before .args) .r) ((c .before .before .before .before .before .before .before .before .before .before .before .args) .change) ((c .before .before .before .before .before .before .before .before .before .before .before .args) .epoch) ((c .before .before .before .before .before .before .session-place) .result) (record { ready = (c .before .before .before .before .before .before .before .before .before .before .before .pre); found = (c .before .before .before .before .before .before .session-place) .ensures; inside = omega arith }) (omega arith)
-
-same-length-5 : tie.Need-same-length-5
-same-length-5 c = search needs
-
-returns-5 : tie.Need-returns-5
-returns-5 c = (c .before .before .taken2) .ensures
+returns-3 c = (c .before .before .taken) .ensures
 
 pub settle-spec : {M : Type 1} → statement M
-settle-spec = tie.close (tie.spec get8-requires session-place-requires same-length returns taken-requires same-length-2 returns-2 mul-get8 add-get8 add-get8-2 get8-requires-2 same-length-3 returns-3 repeated-requires same-length-4 returns-4 taken-requires-2 same-length-5 returns-5)
+settle-spec = tie.close (tie.spec turn-of-requires enum-known-turn enum-known-turn-2 repeated-requires enum-told taken-requires same-length returns same-length-2 returns-2 same-length-3 returns-3)

@@ -1,0 +1,134 @@
+-- A change of one shard, over the row that its key names. Assumes nothing.
+use Prim.Native.Nat.{ℕ, _+_, _*_, _≤_, _<_}
+use mathlib.Core.Path.{_≡_, refl, sym, ap, _∙_}
+use mathlib.Core.Bool.{Bool, true, false}
+use mathlib.Core.List.{List, [], map}
+use mathlib.Core.Option.{some}
+use lib.ListN.{length, getD, set, length-set, List·getD-map}
+use lib.Dec.{leb}
+use native.Mathlib.Omega.{arith}
+use borrow.Author.Tests.{leb-true, leb-false}
+use Rattle.model.specs.Refusals as said
+use Rattle.model.specs.Layout.Format.{numberAt}
+use Rattle.model.specs.Map.Tables as tables
+use Rattle.model.specs.Map.Apply as model
+use Rattle.model.specs.Map.Apply.{isShard, changeAnswer, commit, changeShard, update, setShards}
+use Rattle.model.specs.Map.Change.{accepts, rejects, changed}
+use Rattle.model.specs.Map.WellFormed.{shardFits}
+use Rattle.model.specs.declared.Epoch.{Epoch}
+use Rattle.model.proofs.Map.Rows.{every-find}
+use Rattle.model.proofs.Map.WellFormed.{map-parts}
+use Rattle.state.specs.Find.{firstAt}
+use Rattle.state.specs.Names.{viewKey, viewAddress}
+use Rattle.state.specs.View.{answerOf, changeOf, changeCommand, commandIn, viewCommand, viewMap, viewPlacement, viewShard, viewShards}
+use Rattle.state.specs.declared.Change.{Change}
+use Rattle.state.specs.declared.Command.{Command}
+use Rattle.state.specs.declared.Command.the-variants.{OfShard}
+use Rattle.state.specs.declared.Request.{Request}
+use Rattle.state.specs.declared.ShardRow.{ShardRow}
+use Rattle.state.specs.declared.ShardMap.{ShardMap}
+use Rattle.state.specs.declared.Verdict.{Verdict}
+use Rattle.state.proofs.Tables.{update-at}
+use Rattle.changes.specs.Taken.{Takes}
+use Rattle.commands.specs.Decided.{Decided}
+use Rattle.commands.proofs.OfCommand.{decide-of, commit-of, change-accepts}
+use Rattle.maprows.specs.Rows.{shardAt}
+use Rattle.mapimage.specs.Image.{noShard, shardsAt, mapAt}
+use Rattle.mapbytes.proofs.OfRows.{item-at}
+use Rattle.mapput.specs.Few.{Few}
+use Rattle.mapput.specs.Rows.{shardRows, readAs}
+use Rattle.mapput.proofs.OfTidy.{rows-used}
+use Rattle.mapput.proofs.OfWhole.{shards-long}
+use Rattle.mapedits.specs.Becomes.{ShardsBecome}
+use Rattle.mapedits.specs.Edits.{Edits}
+use Rattle.mapedits.proofs.OfFrames.{edits-shards}
+use Rattle.applycalls.specs.Settles.{Fresh, Stands}
+use Rattle.applycalls.proofs.OfPlaces.{shard-none, shard-some, shard-sized}
+
+pub stands : (s : List ℕ) (q : Request) → Fresh s q → (n hit : ℕ) → n ≡ numberAt 8 s 24
+    → hit ≡ firstAt (isShard (viewKey (q .key))) (viewShards (shardsAt s)) → Stands s n hit (q .key)
+unfolding mapAt
+stands s q fr n hit f g = record { few = fr .ready .few; counted = fr .ready .settleable .counted .shards; count = f; found = g }
+
+module _ (s : List ℕ) (q : Request) (fr : Fresh s q) (c : Change) (e : Epoch) (asks : q .command ≡ OfShard c e) (n hit : ℕ) (count : n ≡ numberAt 8 s 24)
+    (found : hit ≡ firstAt (isShard (viewKey (q .key))) (viewShards (shardsAt s))) (v : Verdict)
+    (answered : answerOf v ≡ changeAnswer (viewKey (q .key)) (e .0) (changeOf c) (model.shardAt (viewShards (shardsAt s)) (viewKey (q .key)))) where
+  abbrev m : ShardMap
+  m = mapAt s
+
+  abbrev few : Few s
+  few = fr .ready .few
+
+  abbrev z : Stands s n hit (q .key)
+  z = stands s q fr n hit count found
+
+  answers : answerOf v ≡ changeAnswer (viewKey (q .key)) (e .0) (changeOf c) (model.shardAt (viewMap m .shards) (viewKey (q .key)))
+  unfolding mapAt
+  answers = answered
+
+  as-command : (bs : List ℕ) → viewCommand q bs ≡ changeCommand (viewKey (q .key)) (e .0) (changeOf c)
+  as-command bs = ap (λ (d : Command). commandIn d (viewKey (q .key)) (viewAddress (q .address)) (viewPlacement (q .placement)) bs) asks
+
+  pub change-decided : Decided m q v
+  change-decided = record { answer = λ bs. answers ∙ sym (decide-of (viewMap m) (viewKey (q .key)) (e .0) (changeOf c)) ∙ ap (model.decide (viewMap m)) (sym (as-command bs)) }
+
+  module _ (ok : answerOf v ≡ accepts) where
+    pub hit-inside : hit < n
+    unfolding changeAnswer
+    hit-inside = go (leb n hit) refl
+      where
+        go : (b : Bool) → leb n hit ≡ b → hit < n
+        go false f = leb-false n hit f
+        go true f =
+            let none = shard-none s n hit (q .key) z (leb-true n hit f) in
+            let w : rejects (said.noShard (viewKey (q .key))) ≡ accepts = rw none at (sym answered ∙ ok) in
+            let y : _≡_ {A = ℕ} 0 1 = cc in absurd (omega arith)
+
+    abbrev old : ShardRow
+    old = shardAt s (4008 + 272 * hit)
+
+    there : model.shardAt (viewMap m .shards) (viewKey (q .key)) ≡ some (viewShard old)
+    unfolding mapAt
+    there = shard-some s n hit (q .key) z hit-inside
+
+    pub takes : Takes old c
+    unfolding model.shardAt
+    takes = record {
+      sized = shard-sized s n hit (q .key) z hit-inside;
+      fits = every-find shardFits (isShard (viewKey (q .key))) (viewMap m .shards) (viewShard old) (map-parts (viewMap m) (fr .ready .settleable .formed) .2 .2) there;
+      taken = change-accepts (viewMap m) (viewKey (q .key)) (e .0) (changeOf c) (viewShard old) (ap (model.decide (viewMap m)) (sym (as-command [])) ∙ sym (change-decided .answer []) ∙ ok) there;
+    }
+
+    module _ (new : ShardRow) (is : viewShard new ≡ changed (viewShard old) (changeOf c)) (t : List ℕ) (b : ShardsBecome s t (set (readAs s .shards) hit (viewShard new))) where
+      abbrev shards : List tables.ShardInfo
+      shards = readAs s .shards
+
+      found-at : hit ≡ firstAt (isShard (viewKey (q .key))) shards
+      found-at = found ∙ ap (λ (l : List ShardRow). firstAt (isShard (viewKey (q .key))) (map viewShard l)) (rows-used (numberAt 8 s 24) (shardAt s) 272 4008 noShard 64 (few .shards))
+
+      old-at : getD shards (firstAt (isShard (viewKey (q .key))) shards) (viewShard noShard) ≡ viewShard old
+      old-at =
+          let i = hit-inside in
+          ap (λ (j : ℕ). getD shards j (viewShard noShard)) (sym found-at) ∙ List·getD-map viewShard (shardRows s) hit noShard
+          ∙ ap viewShard (item-at (numberAt 8 s 24) (shardAt s) 272 4008 hit noShard (omega arith))
+
+      set-is : set shards hit (viewShard new) ≡ update (isShard (viewKey (q .key))) (λ (x : tables.ShardInfo). changed x (changeOf c)) shards
+      set-is =
+          let i = hit-inside in
+          let l = shards-long s few in
+          let f = found-at in
+          ap (λ (x : tables.ShardInfo). set shards hit x) (is ∙ ap (λ (x : tables.ShardInfo). changed x (changeOf c)) (sym old-at))
+          ∙ ap (λ (j : ℕ). set shards j (changed (getD shards (firstAt (isShard (viewKey (q .key))) shards) (viewShard noShard)) (changeOf c))) found-at
+          ∙ sym (update-at (isShard (viewKey (q .key))) (viewShard noShard) (λ (x : tables.ShardInfo). changed x (changeOf c)) shards (omega arith))
+
+      room : length (set shards hit (viewShard new)) ≤ 64
+      room = let k = length-set shards hit (viewShard new) in let l = shards-long s few in let f = few .shards in omega arith
+
+      pub change-edits : Edits s t (setShards (readAs s) (set shards hit (viewShard new)))
+      change-edits = edits-shards s t few (set shards hit (viewShard new)) room b
+
+      pub change-is : (bs : List ℕ) → setShards (readAs s) (set shards hit (viewShard new)) ≡ commit (readAs s) (viewCommand q bs)
+      unfolding changeShard
+      change-is bs =
+          ap (setShards (readAs s)) set-is
+          ∙ sym (commit-of (readAs s) (viewKey (q .key)) (e .0) (changeOf c)) ∙ ap (commit (readAs s)) (sym (as-command bs))
