@@ -3,5 +3,6 @@ pub mod OfTable
 pub mod OfTypes
 pub mod OfPut
 pub mod OfTables
+pub mod OfNodes
 pub mod OfCover
 pub mod OfFrames
