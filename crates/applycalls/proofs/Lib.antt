@@ -2,4 +2,6 @@ pub mod OfPlaces
 pub mod OfRemember
 pub mod OfSettled
 pub mod OfChanged
+pub mod OfNodes
+pub mod OfBench
 pub mod OfCall

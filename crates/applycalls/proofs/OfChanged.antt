@@ -2,9 +2,9 @@
 use Prim.Native.Nat.{ℕ, _+_, _*_, _≤_, _<_}
 use mathlib.Core.Path.{_≡_, refl, sym, ap, _∙_}
 use mathlib.Core.Bool.{Bool, true, false}
-use mathlib.Core.List.{List, [], map}
+use mathlib.Core.List.{List, []}
 use mathlib.Core.Option.{some}
-use lib.ListN.{length, getD, set, length-set, List·getD-map}
+use lib.ListN.{length, set, length-set}
 use lib.Dec.{leb}
 use native.Mathlib.Omega.{arith}
 use borrow.Author.Tests.{leb-true, leb-false}
@@ -28,22 +28,19 @@ use Rattle.state.specs.declared.Request.{Request}
 use Rattle.state.specs.declared.ShardRow.{ShardRow}
 use Rattle.state.specs.declared.ShardMap.{ShardMap}
 use Rattle.state.specs.declared.Verdict.{Verdict}
-use Rattle.state.proofs.Tables.{update-at}
 use Rattle.changes.specs.Taken.{Takes}
 use Rattle.commands.specs.Decided.{Decided}
 use Rattle.commands.proofs.OfCommand.{decide-of, commit-of, change-accepts}
 use Rattle.maprows.specs.Rows.{shardAt}
 use Rattle.mapimage.specs.Image.{noShard, shardsAt, mapAt}
-use Rattle.mapbytes.proofs.OfRows.{item-at}
 use Rattle.mapput.specs.Few.{Few}
-use Rattle.mapput.specs.Rows.{shardRows, readAs}
-use Rattle.mapput.proofs.OfTidy.{rows-used}
+use Rattle.mapput.specs.Rows.{readAs}
 use Rattle.mapput.proofs.OfWhole.{shards-long}
 use Rattle.mapedits.specs.Becomes.{ShardsBecome}
 use Rattle.mapedits.specs.Edits.{Edits}
 use Rattle.mapedits.proofs.OfFrames.{edits-shards}
 use Rattle.applycalls.specs.Settles.{Fresh, Stands}
-use Rattle.applycalls.proofs.OfPlaces.{shard-none, shard-some, shard-sized}
+use Rattle.applycalls.proofs.OfPlaces.{set-is, shard-none, shard-some, shard-sized}
 
 pub stands : (s : List ℕ) (q : Request) → Fresh s q → (n hit : ℕ) → n ≡ numberAt 8 s 24
     → hit ≡ firstAt (isShard (viewKey (q .key))) (viewShards (shardsAt s)) → Stands s n hit (q .key)
@@ -103,23 +100,11 @@ module _ (s : List ℕ) (q : Request) (fr : Fresh s q) (c : Change) (e : Epoch) 
       abbrev shards : List tables.ShardInfo
       shards = readAs s .shards
 
-      found-at : hit ≡ firstAt (isShard (viewKey (q .key))) shards
-      found-at = found ∙ ap (λ (l : List ShardRow). firstAt (isShard (viewKey (q .key))) (map viewShard l)) (rows-used (numberAt 8 s 24) (shardAt s) 272 4008 noShard 64 (few .shards))
-
-      old-at : getD shards (firstAt (isShard (viewKey (q .key))) shards) (viewShard noShard) ≡ viewShard old
-      old-at =
+      changed-is : set shards hit (viewShard new) ≡ update (isShard (viewKey (q .key))) (λ (x : tables.ShardInfo). changed x (changeOf c)) shards
+      changed-is =
           let i = hit-inside in
-          ap (λ (j : ℕ). getD shards j (viewShard noShard)) (sym found-at) ∙ List·getD-map viewShard (shardRows s) hit noShard
-          ∙ ap viewShard (item-at (numberAt 8 s 24) (shardAt s) 272 4008 hit noShard (omega arith))
-
-      set-is : set shards hit (viewShard new) ≡ update (isShard (viewKey (q .key))) (λ (x : tables.ShardInfo). changed x (changeOf c)) shards
-      set-is =
-          let i = hit-inside in
-          let l = shards-long s few in
-          let f = found-at in
-          ap (λ (x : tables.ShardInfo). set shards hit x) (is ∙ ap (λ (x : tables.ShardInfo). changed x (changeOf c)) (sym old-at))
-          ∙ ap (λ (j : ℕ). set shards j (changed (getD shards (firstAt (isShard (viewKey (q .key))) shards) (viewShard noShard)) (changeOf c))) found-at
-          ∙ sym (update-at (isShard (viewKey (q .key))) (viewShard noShard) (λ (x : tables.ShardInfo). changed x (changeOf c)) shards (omega arith))
+          set-is (numberAt 8 s 24) (shardAt s) 272 4008 noShard 64 (few .shards) viewShard (isShard (viewKey (q .key))) hit found (omega arith)
+          (λ (x : tables.ShardInfo). changed x (changeOf c)) (viewShard new) is
 
       room : length (set shards hit (viewShard new)) ≤ 64
       room = let k = length-set shards hit (viewShard new) in let l = shards-long s few in let f = few .shards in omega arith
@@ -130,5 +115,5 @@ module _ (s : List ℕ) (q : Request) (fr : Fresh s q) (c : Change) (e : Epoch) 
       pub change-is : (bs : List ℕ) → setShards (readAs s) (set shards hit (viewShard new)) ≡ commit (readAs s) (viewCommand q bs)
       unfolding changeShard
       change-is bs =
-          ap (setShards (readAs s)) set-is
+          ap (setShards (readAs s)) changed-is
           ∙ sym (commit-of (readAs s) (viewKey (q .key)) (e .0) (changeOf c)) ∙ ap (commit (readAs s)) (sym (as-command bs))

@@ -1,26 +1,79 @@
 -- The sessions and shards of a map that the bytes are read as, by the places at which they were found. Assumes nothing.
 use Prim.Native.Nat.{ℕ, _+_, _*_, _≤_, _<_}
 use mathlib.Core.Path.{_≡_, refl, sym, ap, subst, _∙_}
+use mathlib.Core.Bool.{Bool}
 use mathlib.Core.List.{List, map}
 use mathlib.Core.Option.{none, some}
-use lib.ListN.{length, getD, take}
+use lib.ListN.{length, getD, take, set, length-map, List·getD-map}
 use native.Mathlib.Omega.{arith}
 use Rattle.model.specs.Layout.Format.{numberAt}
 use Rattle.model.specs.Map.Apply as model
-use Rattle.model.specs.Map.Apply.{isClient, isShard}
+use Rattle.model.specs.Map.Apply.{isClient, isShard, update}
+use Rattle.model.specs.Map.Create.{isNode, nodeAt}
 use Rattle.state.specs.Find.{firstAt}
 use Rattle.state.specs.Names.{viewKey}
 use Rattle.state.specs.Counted.{rowCounted, Sized}
-use Rattle.state.specs.View.{viewSession, viewSessions, viewShard, viewShards}
+use Rattle.state.specs.View.{viewNode, viewNodes, viewSession, viewSessions, viewShard, viewShards}
+use Rattle.state.specs.declared.NodeRow.{NodeRow}
 use Rattle.state.specs.declared.SessionRow.{SessionRow}
 use Rattle.state.specs.declared.ShardRow.{ShardRow}
 use Rattle.state.specs.declared.ShardKey.{ShardKey}
-use Rattle.state.proofs.Tables.{found, missed, every-at}
+use Rattle.state.proofs.Tables.{found, missed, every-at, update-at, used-size}
 use Rattle.changes.proofs.OfChange.{sized}
+use Rattle.image.specs.Shape.{items, rowsAt, inUse}
+use Rattle.image.proofs.Images.{length-items}
+use Rattle.maprows.specs.Rows as rows
 use Rattle.maprows.specs.Rows.{shardAt, sessionAt}
-use Rattle.mapimage.specs.Image.{noShard, noSession, shardsAt, sessionsAt}
-use Rattle.mapbytes.proofs.OfRows.{rows-long, rows-row}
-use Rattle.applycalls.specs.Settles.{Stands}
+use Rattle.mapimage.specs.Image.{noNode, noShard, noSession, nodesAt, shardsAt, sessionsAt}
+use Rattle.mapbytes.proofs.OfRows.{rows-long, rows-row, item-at}
+use Rattle.mapput.proofs.OfTidy.{rows-used}
+use Rattle.applycalls.specs.Settles.{NodeStands, Stands}
+
+-- ---- one row of a table, changed where it was found
+
+module _ {A B : Type 0} (n : ℕ) (get : ℕ → A) (w base : ℕ) (no : A) (limit : ℕ) (few : n ≤ limit) (view : A → B) (p : B → Bool) (hit : ℕ)
+    (is : hit ≡ firstAt p (map view (take n (rowsAt limit (inUse limit n) get no w base)))) (inside : hit < n) where
+  abbrev used : List B
+  used = map view (items n get w base)
+
+  found-at : hit ≡ firstAt p used
+  found-at = is ∙ ap (λ (l : List A). firstAt p (map view l)) (rows-used n get w base no limit few)
+
+  old-at : getD used (firstAt p used) (view no) ≡ view (get (base + w * hit))
+  old-at =
+      ap (λ (j : ℕ). getD used j (view no)) (sym found-at) ∙ List·getD-map view (items n get w base) hit no
+      ∙ ap view (item-at n get w base hit no inside)
+
+  pub set-is : (f : B → B) (new : B) → new ≡ f (view (get (base + w * hit))) → set used hit new ≡ update p f used
+  set-is f new e =
+      let l : length used ≡ n = length-map (items n get w base) view ∙ length-items n get w base in
+      let q = found-at in
+      ap (set used hit) (e ∙ ap f (sym old-at)) ∙ ap (λ (j : ℕ). set used j (f (getD used (firstAt p used) (view no)))) found-at
+      ∙ sym (update-at p (view no) f used (omega arith))
+
+-- ---- the node of an id
+
+module _ (s : List ℕ) (n hit node : ℕ) (z : NodeStands s n hit node) where
+  nodes-room : numberAt 8 s 8 ≤ length (nodesAt s .items)
+  nodes-room = let q = rows-long 32 96 40 (rows.nodeAt s) noNode (numberAt 8 s 8) (z .few .nodes) in let f = z .few .nodes in omega arith
+
+  pub nodes-count : length (viewNodes (nodesAt s)) ≡ n
+  nodes-count = used-size viewNode (nodesAt s .items) (numberAt 8 s 8) nodes-room ∙ sym (z .count)
+
+  pub node-none : n ≤ hit → nodeAt (viewNodes (nodesAt s)) node ≡ none
+  unfolding nodeAt
+  node-none h = let q = z .count in missed viewNode (nodesAt s .items) (numberAt 8 s 8) nodes-room (isNode node) hit (z .found) (omega arith)
+
+  pub node-some : hit < n → nodeAt (viewNodes (nodesAt s)) node ≡ some (viewNode (rows.nodeAt s (40 + 96 * hit)))
+  unfolding nodeAt
+  node-some h =
+      let q = z .count in
+      found viewNode (nodesAt s .items) (numberAt 8 s 8) nodes-room (isNode node) hit (z .found) noNode (omega arith)
+      ∙ ap (λ (r : NodeRow). some (viewNode r)) (rows-row 32 96 40 (rows.nodeAt s) noNode (numberAt 8 s 8) (z .few .nodes) hit noNode (omega arith))
+
+pub incarnation-is : (s : List ℕ) (p : ℕ) → viewNode (rows.nodeAt s p) .incarnation ≡ numberAt 8 s (p + 8)
+unfolding rows.nodeAt
+incarnation-is s p = refl
 
 -- ---- the shard of a key
 

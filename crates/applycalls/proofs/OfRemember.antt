@@ -1,10 +1,9 @@
 -- A session and a version put into an image, and the map written back. Assumes nothing.
 use Prim.Native.Nat.{ℕ, _+_, _*_, _^_, _≤_, _<_}
-use mathlib.Core.Path.{_≡_, refl, sym, ap, subst, _∙_}
+use mathlib.Core.Path.{_≡_, sym, ap, subst, _∙_}
 use mathlib.Core.List.{List}
 use lib.ListN.{length}
 use lib.Seq.{sets}
-use native.Mathlib.Omega.{arith}
 use Rattle.model.specs.Keys.{Key}
 use Rattle.model.specs.Lists.{put}
 use Rattle.model.specs.Layout.Format.{Bytes, bytesOf}

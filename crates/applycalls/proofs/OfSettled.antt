@@ -32,7 +32,6 @@ use Rattle.state.specs.declared.Rejection.{Rejection}
 use Rattle.state.specs.declared.Rejection.the-variants.{Older}
 use Rattle.state.specs.declared.Request.{Request}
 use Rattle.state.specs.declared.SessionRow.{SessionRow}
-use Rattle.state.specs.declared.ShardKey.{ShardKey}
 use Rattle.state.specs.declared.ShardMap.{ShardMap}
 use Rattle.state.specs.declared.Verdict.{Verdict}
 use Rattle.commands.specs.Decided.{Decided}

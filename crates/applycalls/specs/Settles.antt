@@ -8,11 +8,12 @@ use Rattle.model.specs.Lists.{every, put}
 use Rattle.model.specs.Layout.Format.{Bytes, numberAt}
 use Rattle.model.specs.Map.Apply.{isClient, isShard, sessionBelow}
 use Rattle.model.specs.Map.Calls.{reasonNumber}
+use Rattle.model.specs.Map.Create.{isNode}
 use Rattle.model.specs.Map.Tables as tables
 use Rattle.state.specs.Names.{viewKey}
 use Rattle.state.specs.Find.{firstAt}
 use Rattle.state.specs.Counted.{rowCounted, ShardsCounted}
-use Rattle.state.specs.View.{answerOf, viewSessions, viewShards}
+use Rattle.state.specs.View.{answerOf, viewNodes, viewSessions, viewShards}
 use Rattle.state.specs.declared.Request.{Request}
 use Rattle.state.specs.declared.ShardKey.{ShardKey}
 use Rattle.requests.specs.Read.{LoadedAll}
@@ -20,7 +21,7 @@ use Rattle.mapcheck.specs.Lent.{wellFormedLent}
 use Rattle.settle.specs.Applied.{Settleable, DecidedNow, Unseen, SettledAs}
 use Rattle.settle.specs.declared.Settled.{Settled}
 use Rattle.maprows.specs.Rows.{sessionAt}
-use Rattle.mapimage.specs.Image.{mapAt, mapLent, shardsAt, sessionsAt, MapWrites}
+use Rattle.mapimage.specs.Image.{mapAt, mapLent, nodesAt, shardsAt, sessionsAt, MapWrites}
 use Rattle.mapcalls.specs.Calls.{noted}
 use Rattle.mapput.specs.Few.{Few}
 use Rattle.mapput.specs.Rows.{shardRows, readAs}
@@ -60,6 +61,12 @@ pub record Stands (s : List ℕ) (n hit : ℕ) (key : ShardKey) : Type 0 where
   pub counted : ShardsCounted (shardsAt s)
   pub count : n ≡ numberAt 8 s 24
   pub found : hit ≡ firstAt (isShard (viewKey key)) (viewShards (shardsAt s))
+
+-- where the node's row stands
+pub record NodeStands (s : List ℕ) (n hit node : ℕ) : Type 0 where
+  pub few : Few s
+  pub count : n ≡ numberAt 8 s 8
+  pub found : hit ≡ firstAt (isNode node) (viewNodes (nodesAt s))
 
 -- ---- what is written
 

@@ -7,7 +7,9 @@ use requests::load::load;
 use rpc::Message;
 
 mod answers;
+mod bench;
 mod changed;
+mod nodes;
 mod remember;
 mod settled;
 mod tell;

@@ -4,7 +4,10 @@ ghost use Rattle.model.specs.Layout.Format.{numberAt};
 ghost use Rattle.mapcalls.specs.Calls.{AppliesTo};
 ghost use Rattle.mapput.specs.Few.{Few};
 ghost use Rattle.applycalls.specs.Settles.{Called, Fresh, Repeats};
+use crate::bench::bench;
 use crate::changed::change_shard;
+use crate::nodes::mark_dead;
+use crate::nodes::register;
 use crate::turn::Turn;
 use crate::turn::turn_of;
 use image::codes::outcome_coded;
@@ -42,10 +45,10 @@ fn taken(map: &mut [u8], request: &[u8], r: Request) -> u32
     match command {
         Command::Create(_) => mapcalls::apply(map, request),
         Command::Drop => mapcalls::apply(map, request),
-        Command::Register(_, _) => mapcalls::apply(map, request),
-        Command::MarkNodeDead(_, _) => mapcalls::apply(map, request),
+        Command::Register(node, incarnation) => register(map, r, node, incarnation),
+        Command::MarkNodeDead(node, incarnation) => mark_dead(map, r, node, incarnation),
         Command::OfShard(change, epoch) => change_shard(map, r, change, epoch),
-        Command::Bench => mapcalls::apply(map, request),
+        Command::Bench => bench(map, r),
     }
 }
 

@@ -1,0 +1,113 @@
+-- Register and MarkNodeDead, over the row of the node. Assumes nothing.
+use Prim.Native.Nat.{ℕ, _+_, _*_, _≤_, _<_}
+use mathlib.Core.Path.{_≡_, refl, sym, ap, subst, _∙_}
+use mathlib.Core.Bool.{Bool, true, false}
+use mathlib.Core.List.{List, []}
+use lib.ListN.{length, set, length-set}
+use lib.Dec.{leb}
+use native.Mathlib.Omega.{arith}
+use borrow.Author.Tests.{leb-true, leb-false}
+use Rattle.model.specs.Lists.{put}
+use Rattle.model.specs.Refusals as said
+use Rattle.model.specs.Layout.Format.{numberAt}
+use Rattle.model.specs.Layout.Request as request
+use Rattle.model.specs.Map.Tables as tables
+use Rattle.model.specs.Map.Apply as model
+use Rattle.model.specs.Map.Apply.{nodeBelow, registerAnswer, deadAnswer, commit, setNodes, update, dead}
+use Rattle.model.specs.Map.Change.{accepts, rejects}
+use Rattle.model.specs.Map.Create.{isNode, nodeAt}
+use Rattle.model.specs.declared.DataNodeId.{DataNodeId}
+use Rattle.model.proofs.Map.WellFormed.{map-parts, commit-fits}
+use Rattle.state.specs.Names.{viewKey, viewAddress}
+use Rattle.state.specs.View.{answerOf, commandIn, viewCommand, viewMap, viewNode, viewNodes, viewPlacement}
+use Rattle.state.specs.declared.Command.{Command}
+use Rattle.state.specs.declared.Command.the-variants.{Register, MarkNodeDead}
+use Rattle.state.specs.declared.NodeRow.{NodeRow}
+use Rattle.state.specs.declared.Request.{Request}
+use Rattle.state.specs.declared.ShardMap.{ShardMap}
+use Rattle.state.specs.declared.Verdict.{Verdict}
+use Rattle.commands.specs.Decided.{Decided}
+use Rattle.maprows.specs.Rows as rows
+use Rattle.mapimage.specs.Image.{noNode, nodesAt, mapAt}
+use Rattle.mapput.specs.Few.{Few}
+use Rattle.mapput.specs.Rows.{readAs}
+use Rattle.mapput.proofs.OfWhole.{read-as, nodes-long}
+use Rattle.mapedits.specs.Becomes.{NodesBecome}
+use Rattle.mapedits.specs.Edits.{Edits}
+use Rattle.mapedits.proofs.OfFrames.{edits-nodes}
+use Rattle.applycalls.specs.Settles.{Fresh, NodeStands}
+use Rattle.applycalls.proofs.OfPlaces.{set-is, node-none}
+
+module _ (s : List ℕ) (q : Request) (fr : Fresh s q) (n : DataNodeId) (i : ℕ) (v : Verdict) where
+  abbrev m : ShardMap
+  m = mapAt s
+
+  abbrev few : Few s
+  few = fr .ready .few
+
+  abbrev nodes : List tables.NodeInfo
+  nodes = readAs s .nodes
+
+  -- ---- Register
+
+  module _ (asks : q .command ≡ Register n i) (answered : answerOf v ≡ registerAnswer (viewNodes (nodesAt s)) (n .0) i (nodeAt (viewNodes (nodesAt s)) (n .0))) where
+    register-command : (bs : List ℕ) → viewCommand q bs ≡ request.register (n .0) (viewAddress (q .address)) i
+    register-command bs = ap (λ (d : Command). commandIn d (viewKey (q .key)) (viewAddress (q .address)) (viewPlacement (q .placement)) bs) asks
+
+    pub register-decided : Decided m q v
+    unfolding mapAt model.decide
+    register-decided = record { answer = λ bs. answered ∙ sym (ap (model.decide (viewMap m)) (register-command bs)) }
+
+    abbrev new : NodeRow
+    new = record { node = n; address = q .address; incarnation = i; alive = true }
+
+    module _ (ok : answerOf v ≡ accepts) where
+      pub register-room : length (put nodeBelow (viewNode new) nodes) ≤ 32
+      unfolding commit
+      register-room =
+          subst (λ (x : tables.Map). length (put nodeBelow (viewNode new) (x .nodes)) ≤ 32) (read-as s few)
+          (subst (λ (c : request.Command). length (commit (viewMap m) c .nodes) ≤ 32) (register-command [])
+          (commit-fits (viewMap m) (map-parts (viewMap m) (fr .ready .settleable .formed)) (viewCommand q []) (fr .ready .settleable .within) (sym (register-decided .answer []) ∙ ok) .0 .0))
+
+      pub register-edits : (t : List ℕ) → NodesBecome s t (put nodeBelow (viewNode new) nodes) → Edits s t (setNodes (readAs s) (put nodeBelow (viewNode new) nodes))
+      register-edits t b = edits-nodes s t few (put nodeBelow (viewNode new) nodes) register-room b
+
+    pub register-is : (bs : List ℕ) → setNodes (readAs s) (put nodeBelow (viewNode new) nodes) ≡ commit (readAs s) (viewCommand q bs)
+    unfolding commit
+    register-is bs = sym (ap (commit (readAs s)) (register-command bs))
+
+  -- ---- MarkNodeDead
+
+  module _ (asks : q .command ≡ MarkNodeDead n i) (answered : answerOf v ≡ deadAnswer (n .0) i (nodeAt (viewNodes (nodesAt s)) (n .0))) where
+    dead-command : (bs : List ℕ) → viewCommand q bs ≡ request.markDead (n .0) i
+    dead-command bs = ap (λ (d : Command). commandIn d (viewKey (q .key)) (viewAddress (q .address)) (viewPlacement (q .placement)) bs) asks
+
+    pub dead-decided : Decided m q v
+    unfolding mapAt model.decide
+    dead-decided = record { answer = λ bs. answered ∙ sym (ap (model.decide (viewMap m)) (dead-command bs)) }
+
+    module _ (ok : answerOf v ≡ accepts) (count hit : ℕ) (z : NodeStands s count hit (n .0)) where
+      pub dead-inside : hit < numberAt 8 s 8
+      unfolding deadAnswer
+      dead-inside = go (leb count hit) refl
+        where
+          go : (b : Bool) → leb count hit ≡ b → hit < numberAt 8 s 8
+          go false f = let l = leb-false count hit f in let e = z .count in omega arith
+          go true f =
+              let none = node-none s count hit (n .0) z (leb-true count hit f) in
+              let w : rejects (said.notAtIncarnation (n .0) i) ≡ accepts = rw none at (sym answered ∙ ok) in
+              let y : _≡_ {A = ℕ} 0 1 = cc in absurd (omega arith)
+
+      module _ (row : NodeRow) (is : viewNode row ≡ dead (viewNode (rows.nodeAt s (40 + 96 * hit)))) where
+        abbrev marked : List tables.NodeInfo
+        marked = set nodes hit (viewNode row)
+
+        marked-is : marked ≡ update (isNode (n .0)) dead nodes
+        marked-is = set-is (numberAt 8 s 8) (rows.nodeAt s) 96 40 noNode 32 (few .nodes) viewNode (isNode (n .0)) hit (z .found) dead-inside dead (viewNode row) is
+
+        pub dead-edits : (t : List ℕ) → NodesBecome s t marked → Edits s t (setNodes (readAs s) marked)
+        dead-edits t b = edits-nodes s t few marked (let k = length-set nodes hit (viewNode row) in let l = nodes-long s few in let f = few .nodes in omega arith) b
+
+        pub dead-is : (bs : List ℕ) → setNodes (readAs s) marked ≡ commit (readAs s) (viewCommand q bs)
+        unfolding commit
+        dead-is bs = ap (setNodes (readAs s)) marked-is ∙ sym (ap (commit (readAs s)) (dead-command bs))
