@@ -37,10 +37,10 @@ use Rattle.mapput.specs.Few.{Few}
 use Rattle.mapput.specs.Rows.{readAs}
 use Rattle.mapput.proofs.OfWhole.{shards-long}
 use Rattle.mapedits.specs.Becomes.{ShardsBecome}
-use Rattle.mapedits.specs.Edits.{Edits}
 use Rattle.mapedits.proofs.OfFrames.{edits-shards}
 use Rattle.applycalls.specs.Settles.{Fresh, Stands}
 use Rattle.applycalls.proofs.OfPlaces.{set-is, shard-none, shard-some, shard-sized}
+use Rattle.applycalls.proofs.OfTaken.{Taken}
 
 pub stands : (s : List ℕ) (q : Request) → Fresh s q → (n hit : ℕ) → n ≡ numberAt 8 s 24
     → hit ≡ firstAt (isShard (viewKey (q .key))) (viewShards (shardsAt s)) → Stands s n hit (q .key)
@@ -109,11 +109,14 @@ module _ (s : List ℕ) (q : Request) (fr : Fresh s q) (c : Change) (e : Epoch) 
       room : length (set shards hit (viewShard new)) ≤ 64
       room = let k = length-set shards hit (viewShard new) in let l = shards-long s few in let f = few .shards in omega arith
 
-      pub change-edits : Edits s t (setShards (readAs s) (set shards hit (viewShard new)))
-      change-edits = edits-shards s t few (set shards hit (viewShard new)) room b
-
-      pub change-is : (bs : List ℕ) → setShards (readAs s) (set shards hit (viewShard new)) ≡ commit (readAs s) (viewCommand q bs)
+      pub change-taken : Taken s t q v
       unfolding changeShard
-      change-is bs =
-          ap (setShards (readAs s)) changed-is
-          ∙ sym (commit-of (readAs s) (viewKey (q .key)) (e .0) (changeOf c)) ∙ ap (commit (readAs s)) (sym (as-command bs))
+      change-taken = record {
+        decided = change-decided;
+        ok = ok;
+        map = setShards (readAs s) (set shards hit (viewShard new));
+        edits = edits-shards s t few (set shards hit (viewShard new)) room b;
+        is = λ bs.
+            ap (setShards (readAs s)) changed-is
+            ∙ sym (commit-of (readAs s) (viewKey (q .key)) (e .0) (changeOf c)) ∙ ap (commit (readAs s)) (sym (as-command bs));
+      }

@@ -33,10 +33,10 @@ use Rattle.mapput.specs.Few.{Few}
 use Rattle.mapput.specs.Rows.{readAs}
 use Rattle.mapput.proofs.OfWhole.{read-as, nodes-long}
 use Rattle.mapedits.specs.Becomes.{NodesBecome}
-use Rattle.mapedits.specs.Edits.{Edits}
 use Rattle.mapedits.proofs.OfFrames.{edits-nodes}
 use Rattle.applycalls.specs.Settles.{Fresh, NodeStands}
 use Rattle.applycalls.proofs.OfPlaces.{set-is, node-none}
+use Rattle.applycalls.proofs.OfTaken.{Taken}
 
 module _ (s : List ℕ) (q : Request) (fr : Fresh s q) (n : DataNodeId) (i : ℕ) (v : Verdict) where
   abbrev m : ShardMap
@@ -69,12 +69,15 @@ module _ (s : List ℕ) (q : Request) (fr : Fresh s q) (n : DataNodeId) (i : ℕ
           (subst (λ (c : request.Command). length (commit (viewMap m) c .nodes) ≤ 32) (register-command [])
           (commit-fits (viewMap m) (map-parts (viewMap m) (fr .ready .settleable .formed)) (viewCommand q []) (fr .ready .settleable .within) (sym (register-decided .answer []) ∙ ok) .0 .0))
 
-      pub register-edits : (t : List ℕ) → NodesBecome s t (put nodeBelow (viewNode new) nodes) → Edits s t (setNodes (readAs s) (put nodeBelow (viewNode new) nodes))
-      register-edits t b = edits-nodes s t few (put nodeBelow (viewNode new) nodes) register-room b
-
-    pub register-is : (bs : List ℕ) → setNodes (readAs s) (put nodeBelow (viewNode new) nodes) ≡ commit (readAs s) (viewCommand q bs)
-    unfolding commit
-    register-is bs = sym (ap (commit (readAs s)) (register-command bs))
+      pub register-taken : (t : List ℕ) → NodesBecome s t (put nodeBelow (viewNode new) nodes) → Taken s t q v
+      unfolding commit
+      register-taken t b = record {
+        decided = register-decided;
+        ok = ok;
+        map = setNodes (readAs s) (put nodeBelow (viewNode new) nodes);
+        edits = edits-nodes s t few (put nodeBelow (viewNode new) nodes) register-room b;
+        is = λ bs. sym (ap (commit (readAs s)) (register-command bs));
+      }
 
   -- ---- MarkNodeDead
 
@@ -105,9 +108,12 @@ module _ (s : List ℕ) (q : Request) (fr : Fresh s q) (n : DataNodeId) (i : ℕ
         marked-is : marked ≡ update (isNode (n .0)) dead nodes
         marked-is = set-is (numberAt 8 s 8) (rows.nodeAt s) 96 40 noNode 32 (few .nodes) viewNode (isNode (n .0)) hit (z .found) dead-inside dead (viewNode row) is
 
-        pub dead-edits : (t : List ℕ) → NodesBecome s t marked → Edits s t (setNodes (readAs s) marked)
-        dead-edits t b = edits-nodes s t few marked (let k = length-set nodes hit (viewNode row) in let l = nodes-long s few in let f = few .nodes in omega arith) b
-
-        pub dead-is : (bs : List ℕ) → setNodes (readAs s) marked ≡ commit (readAs s) (viewCommand q bs)
+        pub dead-taken : (t : List ℕ) → NodesBecome s t marked → Taken s t q v
         unfolding commit
-        dead-is bs = ap (setNodes (readAs s)) marked-is ∙ sym (ap (commit (readAs s)) (dead-command bs))
+        dead-taken t b = record {
+          decided = dead-decided;
+          ok = ok;
+          map = setNodes (readAs s) marked;
+          edits = edits-nodes s t few marked (let k = length-set nodes hit (viewNode row) in let l = nodes-long s few in let f = few .nodes in omega arith) b;
+          is = λ bs. ap (setNodes (readAs s)) marked-is ∙ sym (ap (commit (readAs s)) (dead-command bs));
+        }
