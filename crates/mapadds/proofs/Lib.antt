@@ -1,0 +1,2 @@
+pub mod OfCollections
+pub mod OfShards

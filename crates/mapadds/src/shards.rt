@@ -1,0 +1,66 @@
+// A shard put where it belongs.
+ghost use mathlib.Core.Path.{_≡_};
+ghost use mathlib.Core.Bool.{not};
+ghost use Prim.Native.Nat.{_+_, _*_, _≤_};
+ghost use lib.Dec.{ltb};
+ghost use lib.ListN.{length};
+ghost use Rattle.model.specs.Keys.{keyBelow};
+ghost use Rattle.model.specs.Lists.{_and_, put};
+ghost use Rattle.model.specs.Map.Create.{shardBelow};
+ghost use Rattle.state.specs.Counted.{Sized};
+ghost use Rattle.state.specs.Names.{viewKey};
+ghost use Rattle.state.specs.View.{viewShard};
+ghost use Rattle.maprows.specs.Rows.{shardAt};
+ghost use Rattle.mapbytes.specs.Places.{ShardsCount};
+ghost use Rattle.mapput.specs.Few.{Few};
+ghost use Rattle.mapput.specs.Rows.{readAs};
+ghost use Rattle.mapedits.specs.Becomes.{ShardsBecome};
+use image::keys::key_at;
+use mapbytes::layout::SHARD;
+use mapbytes::layout::SHARDS;
+use mapbytes::layout::SHARDS_USED;
+use mapbytes::room::shard_room;
+use mapedits::moves::move_up;
+use maprows::shards::put_shard;
+use state::ShardKey;
+use state::ShardRow;
+use state::names::key_below;
+
+const SHARD_WORDS: usize = 34;
+
+// Whether the place is in use, and not by a later key.
+fn is_level(s: &[u8], count: usize, place: usize, key: ShardKey) -> bool
+    requires { ⌜ ShardsCount (now s) count ⌝ }
+    ensures { λ r. ⌜ r ≡ (ltb place count and not (keyBelow (viewKey key) (viewShard (shardAt (now (s .entry)) (4008 + 272 * place)) .key))) ⌝ }
+{
+    if count <= place {
+        return false;
+    }
+    let own = key_at(s, SHARDS + SHARD * place);
+    if key_below(key, own) {
+        return false;
+    }
+    true
+}
+
+// Over the shard of its key, or before those of the keys above it.
+pub fn shard_put(out: &mut [u8], row: ShardRow)
+    requires { ⌜ Few (now out) × (length (put shardBelow (viewShard row) (readAs (now out) .shards)) ≤ 64) × Sized row ⌝ }
+    ensures { λ _. ⌜ ShardsBecome (now (out .entry)) (now (out .exit)) (put shardBelow (viewShard row) (readAs (now (out .entry)) .shards)) ⌝ }
+{
+    let count = num::get8(out, SHARDS_USED) as usize;
+    let place = shard_room(out, count, row.key);
+    let at = SHARDS + SHARD * place;
+    if is_level(out, count, place, row.key) {
+        put_shard(out, at, row);
+        return;
+    }
+    move_up(
+        out,
+        at,
+        SHARDS + SHARD * (place + 1),
+        SHARD_WORDS * (count - place),
+    );
+    put_shard(out, at, row);
+    num::put8(out, SHARDS_USED, (count + 1) as u64);
+}
