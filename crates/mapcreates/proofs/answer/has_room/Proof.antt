@@ -20,7 +20,7 @@ get8-requires-2 : tie.Need-get8-requires-2
 get8-requires-2 c κs = let l = (c .before .before .before .pre) .0 .long in omega arith
 
 absent-keys-requires : tie.Need-absent-keys-requires
-absent-keys-requires c κs = ((c .before .before .before .before .pre) .0, (c .before .before .before .before .pre) .2)
+absent-keys-requires c κs = let h = (c .before .before .before .before .pre) .2 in ((c .before .before .before .before .pre) .0, omega arith)
 
 add-result : tie.Need-add-result
 add-result c = let e = (c .before .get82) .ensures in let f = (c .before .before .before .before .before .pre) .0 .shards in let k = (c .absent-keys) .ensures .1 in omega arith
