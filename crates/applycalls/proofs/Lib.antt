@@ -5,4 +5,5 @@ pub mod OfTaken
 pub mod OfChanged
 pub mod OfNodes
 pub mod OfBench
+pub mod OfCollections
 pub mod OfCall

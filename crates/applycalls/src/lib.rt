@@ -9,6 +9,7 @@ use rpc::Message;
 mod answers;
 mod bench;
 mod changed;
+mod collections;
 mod nodes;
 mod remember;
 mod settled;
@@ -30,5 +31,5 @@ pub fn apply(map: &mut [u8], request: &[u8]) -> u32
         return 24;
     }
     let r = load(request, p);
-    settle(map, request, r)
+    settle(map, r)
 }

@@ -1,11 +1,12 @@
 // A request on a map that passed its test: the sessions around its command.
 ghost use Prim.Native.Nat.{_<_};
 ghost use Rattle.model.specs.Layout.Format.{numberAt};
-ghost use Rattle.mapcalls.specs.Calls.{AppliesTo};
 ghost use Rattle.mapput.specs.Few.{Few};
-ghost use Rattle.applycalls.specs.Settles.{Called, Fresh, Repeats};
+ghost use Rattle.applycalls.specs.Settles.{Fresh, Ready, Repeats, Settles};
 use crate::bench::bench;
 use crate::changed::change_shard;
+use crate::collections::create;
+use crate::collections::drop;
 use crate::nodes::mark_dead;
 use crate::nodes::register;
 use crate::turn::Turn;
@@ -36,15 +37,15 @@ fn repeated(map: &mut [u8], place: usize) -> u32
     code
 }
 
-// Each command in place; those that are not yet go by way of `mapcalls`, before anything is written.
-fn taken(map: &mut [u8], request: &[u8], r: Request) -> u32
-    requires { ⌜ Called (now map) (now request) r × Fresh (now map) r ⌝ }
-    ensures { λ n. ⌜ AppliesTo (now (map .entry)) (now (map .exit)) (now (request .entry)) n ⌝ }
+// Each command in its own tables.
+fn taken(map: &mut [u8], r: Request) -> u32
+    requires { ⌜ Fresh (now map) r ⌝ }
+    ensures { λ n. ⌜ Settles (now (map .entry)) (now (map .exit)) r n ⌝ }
 {
     let command = r.command;
     match command {
-        Command::Create(_) => mapcalls::apply(map, request),
-        Command::Drop => mapcalls::apply(map, request),
+        Command::Create(spec) => create(map, r, spec),
+        Command::Drop => drop(map, r),
         Command::Register(node, incarnation) => register(map, r, node, incarnation),
         Command::MarkNodeDead(node, incarnation) => mark_dead(map, r, node, incarnation),
         Command::OfShard(change, epoch) => change_shard(map, r, change, epoch),
@@ -53,14 +54,14 @@ fn taken(map: &mut [u8], request: &[u8], r: Request) -> u32
 }
 
 // Told at once, told again, or decided now.
-pub fn settle(map: &mut [u8], request: &[u8], r: Request) -> u32
-    requires { ⌜ Called (now map) (now request) r ⌝ }
-    ensures { λ n. ⌜ AppliesTo (now (map .entry)) (now (map .exit)) (now (request .entry)) n ⌝ }
+pub fn settle(map: &mut [u8], r: Request) -> u32
+    requires { ⌜ Ready (now map) r ⌝ }
+    ensures { λ n. ⌜ Settles (now (map .entry)) (now (map .exit)) r n ⌝ }
 {
     let turn = turn_of(map, r.client, r.seq);
     match turn {
         Turn::Told(number) => number,
         Turn::Again(place) => repeated(map, place),
-        Turn::Now => taken(map, request, r),
+        Turn::Now => taken(map, r),
     }
 }

@@ -9,7 +9,7 @@ use borrow.Author.Tests.{not-true, not-false}
 use types.Run.{miss}
 use Rattle.rpc.proofs.Decoded.{request-decoded}
 use Rattle.requests.proofs.Loads.{decoded-shows, missed-all, some-all}
-use Rattle.applycalls.proofs.OfCall.{room, undecoded-way, lent-not, malformed-way}
+use Rattle.applycalls.proofs.OfCall.{room, undecoded-way, lent-not, malformed-way, ready-for, settled-way}
 use Rattle.applycalls.proofs.apply.Statement.{statement}
 use Rattle.applycalls.proofs.apply.Tie as tie
 
@@ -44,13 +44,13 @@ load-requires : tie.Need-load-requires
 load-requires c κs = decoded-shows ((c .before .before .before .before .before .before .before .before .before .before .before .before .args) .request .now) _ (request-decoded ((c .before .before .before .before .before .before .before .before .before .before .before .before .args) .request .now) _ (sym ((c .before .before .before .before .before .before .before .before .before .decode) .ensures) ∙ (c .before .before .before .before .before .before .before .message) .given .1)) .held
 
 settle-requires : tie.Need-settle-requires
-settle-requires c κs = record { given = sym ((c .before .before .before .before .before .before .is-lent) .ensures) ∙ not-false _ ((c .before .before .before .before .before .if1) .left); formed = sym ((c .before .before .before .is-formed) .ensures) ∙ not-false _ ((c .before .before .if2) .left); loaded = some-all ((c .before .before .before .before .before .before .before .before .before .before .before .before .before .before .args) .request .now) _ (sym ((c .before .before .before .before .before .before .before .before .before .before .before .decode) .ensures) ∙ (c .before .before .before .before .before .before .before .before .before .message) .given .1) ((c .before .load) .result) ((c .before .load) .ensures) }
+settle-requires c κs = ready-for ((c .before .before .before .before .before .before .before .before .before .before .before .before .before .before .args) .map .now) ((c .before .before .before .before .before .before .before .before .before .before .before .before .before .before .args) .request .now) ((c .before .load) .result) (record { given = sym ((c .before .before .before .before .before .before .is-lent) .ensures) ∙ not-false _ ((c .before .before .before .before .before .if1) .left); formed = sym ((c .before .before .before .is-formed) .ensures) ∙ not-false _ ((c .before .before .if2) .left); loaded = some-all ((c .before .before .before .before .before .before .before .before .before .before .before .before .before .before .args) .request .now) _ (sym ((c .before .before .before .before .before .before .before .before .before .before .before .decode) .ensures) ∙ (c .before .before .before .before .before .before .before .before .before .message) .given .1) ((c .before .load) .result) ((c .before .load) .ensures) })
 
 same-length-3 : tie.Need-same-length-3
 same-length-3 c = search needs
 
 returns-4 : tie.Need-returns-4
-returns-4 c = (c .before .before .settle) .ensures
+returns-4 c = settled-way ((c .before .before .before .before .before .before .before .before .before .before .before .before .before .before .before .before .before .args) .map .now) ((c .before .before .before .before .before .before .before .before .before .before .before .before .before .before .before .before .before .args) .request .now) ((c .before .before .before .before .load) .result) (record { given = sym ((c .before .before .before .before .before .before .before .before .before .is-lent) .ensures) ∙ not-false _ ((c .before .before .before .before .before .before .before .before .if1) .left); formed = sym ((c .before .before .before .before .before .before .is-formed) .ensures) ∙ not-false _ ((c .before .before .before .before .before .if2) .left); loaded = some-all ((c .before .before .before .before .before .before .before .before .before .before .before .before .before .before .before .before .before .args) .request .now) _ (sym ((c .before .before .before .before .before .before .before .before .before .before .before .before .before .before .decode) .ensures) ∙ (c .before .before .before .before .before .before .before .before .before .before .before .before .message) .given .1) ((c .before .before .before .before .load) .result) ((c .before .before .before .before .load) .ensures) }) _ _ ((c .before .before .settle) .ensures)
 
 pub apply-spec : {M : Type 1} → statement M
 apply-spec = tie.close (tie.spec decode-requires enum-known-message returns is-lent-requires same-length returns-2 is-formed-requires same-length-2 returns-3 load-requires settle-requires same-length-3 returns-4)

@@ -8,12 +8,11 @@ use lib.ListN.{length, getD, take, drop, set}
 use mathlib.Core.Path.{subst}
 use Rattle.applycalls.specs.Settles.{Turned}
 use Rattle.applycalls.specs.declared.turn.Turn.{Turn}
-use Rattle.applycalls.proofs.OfCall.{ready-for, settled-way}
 use Rattle.applycalls.proofs.settled.settle.Statement.{statement}
 use Rattle.applycalls.proofs.settled.settle.Tie as tie
 
 turn-of-requires : tie.Need-turn-of-requires
-turn-of-requires c κs = ready-for ((c .before .before .before .args) .map .now) ((c .before .before .before .args) .request .now) ((c .before .before .before .args) .r) ((c .before .before .before .pre)) .few
+turn-of-requires c κs = (c .before .before .pre) .few
 
 enum-known-turn : tie.Need-enum-known-turn
 enum-known-turn c = search needs
@@ -22,25 +21,25 @@ enum-known-turn-2 : tie.Need-enum-known-turn-2
 enum-known-turn-2 c = search needs
 
 repeated-requires : tie.Need-repeated-requires
-repeated-requires c κs = let k = subst (Turned ((c .before .before .before .before .before .before .before .before .args) .map .now) ((c .before .before .before .before .before .before .before .before .args) .r)) ((c .before .before .turn2) .given .1) ((c .before .before .before .before .turn-of) .ensures ((c .before .before .before .before .before .before .before .before .args) .r) (ready-for ((c .before .before .before .before .before .before .before .before .args) .map .now) ((c .before .before .before .before .before .before .before .before .args) .request .now) ((c .before .before .before .before .before .before .before .before .args) .r) ((c .before .before .before .before .before .before .before .before .pre))) refl refl) in (k .ready .few, k .inside)
+repeated-requires c κs = let k = (subst (Turned ((c .before .before .before .before .before .before .before .args) .map .now) ((c .before .before .before .before .before .before .before .args) .r)) ((c .before .before .turn2) .given .1) ((c .before .before .before .before .turn-of) .ensures ((c .before .before .before .before .before .before .before .args) .r) (c .before .before .before .before .before .before .before .pre) refl refl)) in (k .ready .few, k .inside)
 
 enum-told : tie.Need-enum-told
 enum-told c = search needs
 
 taken-requires : tie.Need-taken-requires
-taken-requires c κs = ((c .before .before .before .before .before .before .before .pre), subst (Turned ((c .before .before .before .before .before .before .before .args) .map .now) ((c .before .before .before .before .before .before .before .args) .r)) ((c .before .enum-told) .given .1) ((c .before .before .before .turn-of) .ensures ((c .before .before .before .before .before .before .before .args) .r) (ready-for ((c .before .before .before .before .before .before .before .args) .map .now) ((c .before .before .before .before .before .before .before .args) .request .now) ((c .before .before .before .before .before .before .before .args) .r) ((c .before .before .before .before .before .before .before .pre))) refl refl))
+taken-requires c κs = (subst (Turned ((c .before .before .before .before .before .before .args) .map .now) ((c .before .before .before .before .before .before .args) .r)) ((c .before .enum-told) .given .1) ((c .before .before .before .turn-of) .ensures ((c .before .before .before .before .before .before .args) .r) (c .before .before .before .before .before .before .pre) refl refl))
 
 same-length : tie.Need-same-length
 same-length c = search needs
 
 returns : tie.Need-returns
-returns c = settled-way ((c .before .before .before .before .before .before .before .args) .map .now) ((c .before .before .before .before .before .before .before .args) .request .now) ((c .before .before .before .before .before .before .before .args) .r) ((c .before .before .before .before .before .before .before .pre)) _ _ (subst (Turned ((c .before .before .before .before .before .before .before .args) .map .now) ((c .before .before .before .before .before .before .before .args) .r)) ((c .before .turn) .given .1) ((c .before .before .before .turn-of) .ensures ((c .before .before .before .before .before .before .before .args) .r) (ready-for ((c .before .before .before .before .before .before .before .args) .map .now) ((c .before .before .before .before .before .before .before .args) .request .now) ((c .before .before .before .before .before .before .before .args) .r) ((c .before .before .before .before .before .before .before .pre))) refl refl))
+returns c = (subst (Turned ((c .before .before .before .before .before .before .args) .map .now) ((c .before .before .before .before .before .before .args) .r)) ((c .before .turn) .given .1) ((c .before .before .before .turn-of) .ensures ((c .before .before .before .before .before .before .args) .r) (c .before .before .before .before .before .before .pre) refl refl))
 
 same-length-2 : tie.Need-same-length-2
 same-length-2 c = search needs
 
 returns-2 : tie.Need-returns-2
-returns-2 c = settled-way ((c .before .before .before .before .before .before .before .before .before .before .before .args) .map .now) ((c .before .before .before .before .before .before .before .before .before .before .before .args) .request .now) ((c .before .before .before .before .before .before .before .before .before .before .before .args) .r) ((c .before .before .before .before .before .before .before .before .before .before .before .pre)) _ _ ((c .before .before .repeated) .ensures ((c .before .before .before .before .before .before .before .before .before .before .before .args) .r) (subst (Turned ((c .before .before .before .before .before .before .before .before .before .before .before .args) .map .now) ((c .before .before .before .before .before .before .before .before .before .before .before .args) .r)) ((c .before .before .before .before .before .turn2) .given .1) ((c .before .before .before .before .before .before .before .turn-of) .ensures ((c .before .before .before .before .before .before .before .before .before .before .before .args) .r) (ready-for ((c .before .before .before .before .before .before .before .before .before .before .before .args) .map .now) ((c .before .before .before .before .before .before .before .before .before .before .before .args) .request .now) ((c .before .before .before .before .before .before .before .before .before .before .before .args) .r) ((c .before .before .before .before .before .before .before .before .before .before .before .pre))) refl refl)))
+returns-2 c = (c .before .before .repeated) .ensures ((c .before .before .before .before .before .before .before .before .before .before .args) .r) (subst (Turned ((c .before .before .before .before .before .before .before .before .before .before .args) .map .now) ((c .before .before .before .before .before .before .before .before .before .before .args) .r)) ((c .before .before .before .before .before .turn2) .given .1) ((c .before .before .before .before .before .before .before .turn-of) .ensures ((c .before .before .before .before .before .before .before .before .before .before .args) .r) (c .before .before .before .before .before .before .before .before .before .before .pre) refl refl))
 
 same-length-3 : tie.Need-same-length-3
 same-length-3 c = search needs

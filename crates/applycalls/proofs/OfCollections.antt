@@ -1,0 +1,72 @@
+-- Create and Drop, over the rows of the collection and of its shards. Assumes nothing.
+use Prim.Native.Nat.{ℕ, _≤_}
+use mathlib.Core.Path.{_≡_, refl, sym, ap, subst, _∙_}
+use mathlib.Core.Bool.{true, cond, not}
+use mathlib.Core.List.{List}
+use Rattle.model.specs.Keys as keys
+use Rattle.model.specs.Keys.{sameName}
+use Rattle.model.specs.Lists.{filter, rising}
+use Rattle.model.specs.Refusals.{noCollection}
+use Rattle.model.specs.Layout.Request as request
+use Rattle.model.specs.Map.Tables as tables
+use Rattle.model.specs.Map.Apply as model
+use Rattle.model.specs.Map.Apply.{commit, setCollections}
+use Rattle.model.specs.Map.Change.{accepts, rejects}
+use Rattle.model.specs.Map.Create.{shardBelow, hasCollection, createAnswer, createdCollections, createdShards}
+use Rattle.model.proofs.Map.WellFormed.{map-parts}
+use Rattle.state.specs.Names.{viewKey, viewAddress, viewName}
+use Rattle.state.specs.View.{answerOf, commandIn, viewCommand, viewMap, viewPlacement, viewSpec}
+use Rattle.state.specs.declared.Command.{Command}
+use Rattle.state.specs.declared.Command.the-variants.{Create, Drop}
+use Rattle.state.specs.declared.Request.{Request}
+use Rattle.state.specs.declared.Spec.{Spec}
+use Rattle.state.specs.declared.Verdict.{Verdict}
+use Rattle.commands.specs.Decided.{Decided}
+use Rattle.mapimage.specs.Image.{mapAt}
+use Rattle.mapput.specs.Rows.{readAs}
+use Rattle.mapput.proofs.OfWhole.{read-as}
+use Rattle.applycalls.specs.Settles.{Fresh}
+
+module _ (s : List ℕ) (q : Request) (fr : Fresh s q) where
+  abbrev name : keys.Name
+  name = viewName (q .key .collection)
+
+  -- what the code's tables hold is what the bytes are read as
+  decided-as : (c : request.Command) → model.decide (readAs s) c ≡ model.decide (viewMap (mapAt s)) c
+  decided-as c = ap (λ (x : tables.Map). model.decide x c) (sym (read-as s (fr .ready .few)))
+
+  as-command : (c : Command) → q .command ≡ c → (bs : List ℕ) → viewCommand q bs ≡ commandIn c (viewKey (q .key)) (viewAddress (q .address)) (viewPlacement (q .placement)) bs
+  as-command c asks bs = ap (λ (d : Command). commandIn d (viewKey (q .key)) (viewAddress (q .address)) (viewPlacement (q .placement)) bs) asks
+
+  -- ---- Create
+
+  pub shards-rise : rising shardBelow (readAs s .shards) ≡ true
+  shards-rise =
+      subst (λ (x : tables.Map). rising shardBelow (x .shards) ≡ true) (read-as s (fr .ready .few)) (map-parts (viewMap (mapAt s)) (fr .ready .settleable .formed) .2 .1)
+
+  module _ (spec : Spec) (asks : q .command ≡ Create spec) where
+    pub create-decided : (v : Verdict) → answerOf v ≡ createAnswer (readAs s) name (viewSpec spec) (viewPlacement (q .placement)) → Decided (mapAt s) q v
+    unfolding model.decide
+    create-decided v answered = record {
+      answer = λ bs. answered ∙ decided-as (request.create name (viewSpec spec) (viewPlacement (q .placement))) ∙ sym (ap (model.decide (viewMap (mapAt s))) (as-command (Create spec) asks bs));
+    }
+
+    pub create-is : (bs : List ℕ)
+        → setCollections (readAs s) (createdCollections (readAs s) name (viewSpec spec)) (createdShards (readAs s) name (viewPlacement (q .placement))) ≡ commit (readAs s) (viewCommand q bs)
+    unfolding commit
+    create-is bs = sym (ap (commit (readAs s)) (as-command (Create spec) asks bs))
+
+  -- ---- Drop
+
+  module _ (asks : q .command ≡ Drop) where
+    pub drop-decided : (v : Verdict) → answerOf v ≡ cond (hasCollection name (readAs s .collections)) accepts (rejects (noCollection name)) → Decided (mapAt s) q v
+    unfolding model.decide
+    drop-decided v answered = record {
+      answer = λ bs. answered ∙ decided-as (request.dropCollection name) ∙ sym (ap (model.decide (viewMap (mapAt s))) (as-command Drop asks bs));
+    }
+
+    pub drop-is : (bs : List ℕ)
+        → setCollections (readAs s) (filter (λ c. not (sameName (c .name) name)) (readAs s .collections)) (filter (λ x. not (sameName (x .key .collection) name)) (readAs s .shards))
+        ≡ commit (readAs s) (viewCommand q bs)
+    unfolding commit
+    drop-is bs = sym (ap (commit (readAs s)) (as-command Drop asks bs))

@@ -1,0 +1,47 @@
+-- `collections::drop` meets its contract. Assumes nothing.
+use borrow.Author.Needs.{needs}
+use native.Mathlib.Omega.{arith}
+use mathlib.Core.Path.{_≡_, refl, sym, _∙_, ap}
+use mathlib.Core.List.{List, [], _∷_, _++_}
+use Prim.Native.Nat.{ℕ, _+_, _-_, _*_, _≤_, _<_}
+use lib.ListN.{length, getD, take, drop, set}
+use Rattle.state.specs.View.{answerOf}
+use Rattle.state.specs.declared.Command.the-variants.{Create, Drop}
+use borrow.Author.Tests.{not-true, not-false}
+use Rattle.applycalls.proofs.OfSettled.{sets-index, effect-taken, told-room, told-way, applied-room, applied-way}
+use Rattle.applycalls.proofs.OfCollections.{shards-rise, drop-decided, drop-is}
+use Rattle.applycalls.proofs.collections.drop.Statement.{statement}
+use Rattle.applycalls.proofs.collections.drop.Tie as tie
+
+drop-answer-requires : tie.Need-drop-answer-requires
+drop-answer-requires c κs = (c .before .before .pre) .0 .ready .few
+
+takes-effect-requires : tie.Need-takes-effect-requires
+takes-effect-requires c κs = search needs
+
+get8-requires : tie.Need-get8-requires
+get8-requires c κs = let l = (c .before .before .before .before .before .before .pre) .0 .ready .few .long in omega arith
+
+tell-requires : tie.Need-tell-requires
+tell-requires c κs = ((c .before .before .before .before .before .before .before .before .pre) .0 .ready .few, told-room ((c .before .before .before .before .before .before .before .before .args) .map .now) ((c .before .before .before .before .before .before .before .before .args) .r) ((c .before .before .before .before .before .before .before .before .pre) .0) ((c .before .before .before .before .before .drop-answer) .result) (drop-decided ((c .before .before .before .before .before .before .before .before .args) .map .now) ((c .before .before .before .before .before .before .before .before .args) .r) ((c .before .before .before .before .before .before .before .before .pre) .0) ((c .before .before .before .before .before .before .before .before .pre) .1) ((c .before .before .before .before .before .drop-answer) .result) ((c .before .before .before .before .before .drop-answer) .ensures)) (sym ((c .before .before .before .before .takes-effect) .ensures) ∙ not-true _ ((c .before .before .before .if1) .taken)))
+
+same-length : tie.Need-same-length
+same-length c = search needs
+
+returns : tie.Need-returns
+returns c = told-way ((c .before .before .before .before .before .before .before .before .before .before .before .args) .map .now) ((c .before .before .before .before .before .before .before .before .before .before .before .args) .r) ((c .before .before .before .before .before .before .before .before .before .before .before .pre) .0) ((c .before .before .before .before .before .before .before .before .drop-answer) .result) (drop-decided ((c .before .before .before .before .before .before .before .before .before .before .before .args) .map .now) ((c .before .before .before .before .before .before .before .before .before .before .before .args) .r) ((c .before .before .before .before .before .before .before .before .before .before .before .pre) .0) ((c .before .before .before .before .before .before .before .before .before .before .before .pre) .1) ((c .before .before .before .before .before .before .before .before .drop-answer) .result) ((c .before .before .before .before .before .before .before .before .drop-answer) .ensures)) (sym ((c .before .before .before .before .before .before .before .takes-effect) .ensures) ∙ not-true _ ((c .before .before .before .before .before .before .if1) .taken)) _ ((c .before .before .before .before .get8) .ensures) _ _ ((c .before .before .tell) .ensures)
+
+drop-collection-requires : tie.Need-drop-collection-requires
+drop-collection-requires c κs = (c .before .before .before .before .before .before .pre) .0 .ready .few
+
+tell-requires-2 : tie.Need-tell-requires-2
+tell-requires-2 c κs = ((c .before .before .before .drop-collection) .ensures .after .few, applied-room ((c .before .before .before .before .before .before .before .before .before .before .args) .map .now) ((c .before .before .before .before .before .before .before .before .before .before .args) .r) ((c .before .before .before .before .before .before .before .before .before .before .pre) .0) ((c .before .before .before .before .before .before .before .drop-answer) .result) (drop-decided ((c .before .before .before .before .before .before .before .before .before .before .args) .map .now) ((c .before .before .before .before .before .before .before .before .before .before .args) .r) ((c .before .before .before .before .before .before .before .before .before .before .pre) .0) ((c .before .before .before .before .before .before .before .before .before .before .pre) .1) ((c .before .before .before .before .before .before .before .drop-answer) .result) ((c .before .before .before .before .before .before .before .drop-answer) .ensures)) (effect-taken (answerOf ((c .before .before .before .before .before .before .before .drop-answer) .result)) (sym ((c .before .before .before .before .before .before .takes-effect) .ensures) ∙ not-false _ ((c .before .before .before .before .before .if1) .left))) _ _ ((c .before .before .before .drop-collection) .ensures) (drop-is ((c .before .before .before .before .before .before .before .before .before .before .args) .map .now) ((c .before .before .before .before .before .before .before .before .before .before .args) .r) ((c .before .before .before .before .before .before .before .before .before .before .pre) .0) ((c .before .before .before .before .before .before .before .before .before .before .pre) .1)))
+
+same-length-2 : tie.Need-same-length-2
+same-length-2 c = search needs
+
+returns-2 : tie.Need-returns-2
+returns-2 c = applied-way ((c .before .before .before .before .before .before .before .before .before .before .before .before .before .args) .map .now) ((c .before .before .before .before .before .before .before .before .before .before .before .before .before .args) .r) ((c .before .before .before .before .before .before .before .before .before .before .before .before .before .pre) .0) ((c .before .before .before .before .before .before .before .before .before .before .drop-answer) .result) (drop-decided ((c .before .before .before .before .before .before .before .before .before .before .before .before .before .args) .map .now) ((c .before .before .before .before .before .before .before .before .before .before .before .before .before .args) .r) ((c .before .before .before .before .before .before .before .before .before .before .before .before .before .pre) .0) ((c .before .before .before .before .before .before .before .before .before .before .before .before .before .pre) .1) ((c .before .before .before .before .before .before .before .before .before .before .drop-answer) .result) ((c .before .before .before .before .before .before .before .before .before .before .drop-answer) .ensures)) (effect-taken (answerOf ((c .before .before .before .before .before .before .before .before .before .before .drop-answer) .result)) (sym ((c .before .before .before .before .before .before .before .before .before .takes-effect) .ensures) ∙ not-false _ ((c .before .before .before .before .before .before .before .before .if1) .left))) _ _ ((c .before .before .before .before .before .before .drop-collection) .ensures) (drop-is ((c .before .before .before .before .before .before .before .before .before .before .before .before .before .args) .map .now) ((c .before .before .before .before .before .before .before .before .before .before .before .before .before .args) .r) ((c .before .before .before .before .before .before .before .before .before .before .before .before .before .pre) .0) ((c .before .before .before .before .before .before .before .before .before .before .before .before .before .pre) .1)) _ (sets-index ((c .before .before .before .before .before .before .before .before .before .before .before .before .before .args) .r) Drop _ ((c .before .before .before .before .before .before .before .before .before .before .before .before .before .pre) .1) refl) _ _ ((c .before .before .tell2) .ensures)
+
+pub drop-spec : {M : Type 1} → statement M
+drop-spec = tie.close (tie.spec drop-answer-requires takes-effect-requires get8-requires tell-requires same-length returns drop-collection-requires tell-requires-2 same-length-2 returns-2)
