@@ -25,7 +25,9 @@ use Rattle.commands.specs.Decided.{Decided}
 use Rattle.mapimage.specs.Image.{mapAt}
 use Rattle.mapput.specs.Rows.{readAs}
 use Rattle.mapput.proofs.OfWhole.{read-as}
+use Rattle.mapedits.specs.Edits.{Edits}
 use Rattle.applycalls.specs.Settles.{Fresh}
+use Rattle.applycalls.proofs.OfTaken.{Taken}
 
 module _ (s : List ℕ) (q : Request) (fr : Fresh s q) where
   abbrev name : keys.Name
@@ -51,10 +53,18 @@ module _ (s : List ℕ) (q : Request) (fr : Fresh s q) where
       answer = λ bs. answered ∙ decided-as (request.create name (viewSpec spec) (viewPlacement (q .placement))) ∙ sym (ap (model.decide (viewMap (mapAt s))) (as-command (Create spec) asks bs));
     }
 
-    pub create-is : (bs : List ℕ)
-        → setCollections (readAs s) (createdCollections (readAs s) name (viewSpec spec)) (createdShards (readAs s) name (viewPlacement (q .placement))) ≡ commit (readAs s) (viewCommand q bs)
+    abbrev created : tables.Map
+    created = setCollections (readAs s) (createdCollections (readAs s) name (viewSpec spec)) (createdShards (readAs s) name (viewPlacement (q .placement)))
+
+    pub create-taken : (v : Verdict) → answerOf v ≡ createAnswer (readAs s) name (viewSpec spec) (viewPlacement (q .placement)) → answerOf v ≡ accepts → (t : List ℕ) → Edits s t created → Taken s t q v
     unfolding commit
-    create-is bs = sym (ap (commit (readAs s)) (as-command (Create spec) asks bs))
+    create-taken v answered ok t edits = record {
+      decided = create-decided v answered;
+      ok = ok;
+      map = created;
+      edits = edits;
+      is = λ bs. sym (ap (commit (readAs s)) (as-command (Create spec) asks bs));
+    }
 
   -- ---- Drop
 
@@ -65,8 +75,16 @@ module _ (s : List ℕ) (q : Request) (fr : Fresh s q) where
       answer = λ bs. answered ∙ decided-as (request.dropCollection name) ∙ sym (ap (model.decide (viewMap (mapAt s))) (as-command Drop asks bs));
     }
 
-    pub drop-is : (bs : List ℕ)
-        → setCollections (readAs s) (filter (λ c. not (sameName (c .name) name)) (readAs s .collections)) (filter (λ x. not (sameName (x .key .collection) name)) (readAs s .shards))
-        ≡ commit (readAs s) (viewCommand q bs)
+    abbrev dropped : tables.Map
+    dropped =
+        setCollections (readAs s) (filter (λ c. not (sameName (c .name) name)) (readAs s .collections)) (filter (λ x. not (sameName (x .key .collection) name)) (readAs s .shards))
+
+    pub drop-taken : (v : Verdict) → answerOf v ≡ cond (hasCollection name (readAs s .collections)) accepts (rejects (noCollection name)) → answerOf v ≡ accepts → (t : List ℕ) → Edits s t dropped → Taken s t q v
     unfolding commit
-    drop-is bs = sym (ap (commit (readAs s)) (as-command Drop asks bs))
+    drop-taken v answered ok t edits = record {
+      decided = drop-decided v answered;
+      ok = ok;
+      map = dropped;
+      edits = edits;
+      is = λ bs. sym (ap (commit (readAs s)) (as-command Drop asks bs));
+    }

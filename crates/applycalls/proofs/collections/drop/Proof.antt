@@ -6,10 +6,11 @@ use mathlib.Core.List.{List, [], _∷_, _++_}
 use Prim.Native.Nat.{ℕ, _+_, _-_, _*_, _≤_, _<_}
 use lib.ListN.{length, getD, take, drop, set}
 use Rattle.state.specs.View.{answerOf}
-use Rattle.state.specs.declared.Command.the-variants.{Create, Drop}
+use Rattle.state.specs.declared.Command.the-variants.{Drop}
 use borrow.Author.Tests.{not-true, not-false}
-use Rattle.applycalls.proofs.OfSettled.{sets-index, effect-taken, told-room, told-way, applied-room, applied-way}
-use Rattle.applycalls.proofs.OfCollections.{shards-rise, drop-decided, drop-is}
+use Rattle.applycalls.proofs.OfSettled.{sets-index, effect-taken, told-room, told-way}
+use Rattle.applycalls.proofs.OfTaken.{taken-room, taken-way}
+use Rattle.applycalls.proofs.OfCollections.{drop-decided, drop-taken}
 use Rattle.applycalls.proofs.collections.drop.Statement.{statement}
 use Rattle.applycalls.proofs.collections.drop.Tie as tie
 
@@ -35,13 +36,13 @@ drop-collection-requires : tie.Need-drop-collection-requires
 drop-collection-requires c κs = (c .before .before .before .before .before .before .pre) .0 .ready .few
 
 tell-requires-2 : tie.Need-tell-requires-2
-tell-requires-2 c κs = ((c .before .before .before .drop-collection) .ensures .after .few, applied-room ((c .before .before .before .before .before .before .before .before .before .before .args) .map .now) ((c .before .before .before .before .before .before .before .before .before .before .args) .r) ((c .before .before .before .before .before .before .before .before .before .before .pre) .0) ((c .before .before .before .before .before .before .before .drop-answer) .result) (drop-decided ((c .before .before .before .before .before .before .before .before .before .before .args) .map .now) ((c .before .before .before .before .before .before .before .before .before .before .args) .r) ((c .before .before .before .before .before .before .before .before .before .before .pre) .0) ((c .before .before .before .before .before .before .before .before .before .before .pre) .1) ((c .before .before .before .before .before .before .before .drop-answer) .result) ((c .before .before .before .before .before .before .before .drop-answer) .ensures)) (effect-taken (answerOf ((c .before .before .before .before .before .before .before .drop-answer) .result)) (sym ((c .before .before .before .before .before .before .takes-effect) .ensures) ∙ not-false _ ((c .before .before .before .before .before .if1) .left))) _ _ ((c .before .before .before .drop-collection) .ensures) (drop-is ((c .before .before .before .before .before .before .before .before .before .before .args) .map .now) ((c .before .before .before .before .before .before .before .before .before .before .args) .r) ((c .before .before .before .before .before .before .before .before .before .before .pre) .0) ((c .before .before .before .before .before .before .before .before .before .before .pre) .1)))
+tell-requires-2 c κs = taken-room ((c .before .before .before .before .before .before .before .before .before .before .args) .map .now) _ ((c .before .before .before .before .before .before .before .before .before .before .args) .r) ((c .before .before .before .before .before .before .before .drop-answer) .result) ((c .before .before .before .before .before .before .before .before .before .before .pre) .0) (drop-taken ((c .before .before .before .before .before .before .before .before .before .before .args) .map .now) ((c .before .before .before .before .before .before .before .before .before .before .args) .r) ((c .before .before .before .before .before .before .before .before .before .before .pre) .0) ((c .before .before .before .before .before .before .before .before .before .before .pre) .1) ((c .before .before .before .before .before .before .before .drop-answer) .result) ((c .before .before .before .before .before .before .before .drop-answer) .ensures) (effect-taken (answerOf ((c .before .before .before .before .before .before .before .drop-answer) .result)) (sym ((c .before .before .before .before .before .before .takes-effect) .ensures) ∙ not-false _ ((c .before .before .before .before .before .if1) .left))) _ ((c .before .before .before .drop-collection) .ensures))
 
 same-length-2 : tie.Need-same-length-2
 same-length-2 c = search needs
 
 returns-2 : tie.Need-returns-2
-returns-2 c = applied-way ((c .before .before .before .before .before .before .before .before .before .before .before .before .before .args) .map .now) ((c .before .before .before .before .before .before .before .before .before .before .before .before .before .args) .r) ((c .before .before .before .before .before .before .before .before .before .before .before .before .before .pre) .0) ((c .before .before .before .before .before .before .before .before .before .before .drop-answer) .result) (drop-decided ((c .before .before .before .before .before .before .before .before .before .before .before .before .before .args) .map .now) ((c .before .before .before .before .before .before .before .before .before .before .before .before .before .args) .r) ((c .before .before .before .before .before .before .before .before .before .before .before .before .before .pre) .0) ((c .before .before .before .before .before .before .before .before .before .before .before .before .before .pre) .1) ((c .before .before .before .before .before .before .before .before .before .before .drop-answer) .result) ((c .before .before .before .before .before .before .before .before .before .before .drop-answer) .ensures)) (effect-taken (answerOf ((c .before .before .before .before .before .before .before .before .before .before .drop-answer) .result)) (sym ((c .before .before .before .before .before .before .before .before .before .takes-effect) .ensures) ∙ not-false _ ((c .before .before .before .before .before .before .before .before .if1) .left))) _ _ ((c .before .before .before .before .before .before .drop-collection) .ensures) (drop-is ((c .before .before .before .before .before .before .before .before .before .before .before .before .before .args) .map .now) ((c .before .before .before .before .before .before .before .before .before .before .before .before .before .args) .r) ((c .before .before .before .before .before .before .before .before .before .before .before .before .before .pre) .0) ((c .before .before .before .before .before .before .before .before .before .before .before .before .before .pre) .1)) _ (sets-index ((c .before .before .before .before .before .before .before .before .before .before .before .before .before .args) .r) Drop _ ((c .before .before .before .before .before .before .before .before .before .before .before .before .before .pre) .1) refl) _ _ ((c .before .before .tell2) .ensures)
+returns-2 c = taken-way ((c .before .before .before .before .before .before .before .before .before .before .before .before .before .args) .map .now) _ ((c .before .before .before .before .before .before .before .before .before .before .before .before .before .args) .r) ((c .before .before .before .before .before .before .before .before .before .before .drop-answer) .result) ((c .before .before .before .before .before .before .before .before .before .before .before .before .before .pre) .0) (drop-taken ((c .before .before .before .before .before .before .before .before .before .before .before .before .before .args) .map .now) ((c .before .before .before .before .before .before .before .before .before .before .before .before .before .args) .r) ((c .before .before .before .before .before .before .before .before .before .before .before .before .before .pre) .0) ((c .before .before .before .before .before .before .before .before .before .before .before .before .before .pre) .1) ((c .before .before .before .before .before .before .before .before .before .before .drop-answer) .result) ((c .before .before .before .before .before .before .before .before .before .before .drop-answer) .ensures) (effect-taken (answerOf ((c .before .before .before .before .before .before .before .before .before .before .drop-answer) .result)) (sym ((c .before .before .before .before .before .before .before .before .before .takes-effect) .ensures) ∙ not-false _ ((c .before .before .before .before .before .before .before .before .if1) .left))) _ ((c .before .before .before .before .before .before .drop-collection) .ensures)) _ (sets-index ((c .before .before .before .before .before .before .before .before .before .before .before .before .before .args) .r) Drop _ ((c .before .before .before .before .before .before .before .before .before .before .before .before .before .pre) .1) refl) _ _ ((c .before .before .tell2) .ensures)
 
 pub drop-spec : {M : Type 1} → statement M
 drop-spec = tie.close (tie.spec drop-answer-requires takes-effect-requires get8-requires tell-requires same-length returns drop-collection-requires tell-requires-2 same-length-2 returns-2)
