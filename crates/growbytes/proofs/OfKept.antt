@@ -65,7 +65,7 @@ module _ (s : List ℕ) (x : Kept) (bytes : Bytes s) (well : keptImage s x ≡ t
   column-back : (at : ℕ) → wordsPut s at (take (x .stored) (words 8 1024 s at)) ≡ s
   column-back at = ap (wordsPut s at) (words-take 8 (x .stored) 1024 s at most) ∙ words-back (x .stored) s at bytes
 
-  rows-back : rowsPut s base (rowsAt s base (x .stored)) ≡ s
+  pub rows-back : rowsPut s base (rowsAt s base (x .stored)) ≡ s
   unfolding rowsPut
   rows-back =
       let m = most in
