@@ -1,0 +1,2 @@
+pub mod OfBatch
+pub mod OfCopy
