@@ -11,7 +11,7 @@ ghost use Rattle.storeimage.specs.Image.{wellFormedImage};
 ghost use Rattle.storebytes.specs.Test.{Stands};
 ghost use Rattle.batchbytes.specs.Batch.{HoldsAll, Steps, Appends};
 use crate::Stock;
-use lentbytes::row::STORE;
+use layout::stores::STORE;
 use rpc::EntryPart;
 use rpc::Part;
 use rpc::parts::entry_at;

@@ -11,7 +11,7 @@ ghost use Rattle.inmessage.specs.Parts.{entriesIn, EntriesThere};
 ghost use Rattle.storeimage.specs.Image.{wellFormedImage};
 ghost use Rattle.batchbytes.specs.Batch.{HoldsAll, BatchStored};
 use crate::append::append_all;
-use lentbytes::row::STORE;
+use layout::stores::STORE;
 use rpc::Part;
 use rpcput::put::put_bytes;
 use storebytes::columns::KEYS;

@@ -15,12 +15,12 @@ ghost use Rattle.batchbytes.specs.Batch.{HoldsAll};
 ghost use Rattle.copycalls.specs.Asked.{GrowsAll};
 use batchbytes::store_batch;
 use headercounts::put_counts;
-use lentbytes::row::LAST;
-use lentbytes::row::ROW;
-use lentbytes::row::ROWS;
-use lentbytes::row::SHARDS;
-use lentbytes::row::SLOT;
-use lentbytes::row::STORED;
+use layout::header::LAST;
+use layout::header::ROW;
+use layout::header::ROWS;
+use layout::header::SHARDS;
+use layout::header::SLOT;
+use layout::header::STORED;
 use rpc::Part;
 
 // The batch, for which there is room, at the shard at place `at`. Answers how many entries its log has then.
