@@ -16,6 +16,7 @@ use Rattle.state.specs.declared.Refusal.the-variants.{Undecodable, Malformed}
 use Rattle.state.specs.declared.Request.{Request}
 use Rattle.state.specs.declared.ShardKey.{ShardKey}
 use Rattle.state.specs.declared.Verdict.{Verdict}
+use Rattle.requests.specs.Read.{LoadedAll}
 use Rattle.mapcheck.specs.Lent.{wellFormedLent}
 use Rattle.mapcheck.proofs.Formed.{lent-tables}
 use Rattle.apply.specs.Calls.{AppliesBytes}
@@ -24,10 +25,16 @@ use Rattle.mapimage.specs.Image.{mapAt, mapLent, codesListed}
 use Rattle.mapcalls.specs.Calls.{noted, AppliesTo}
 use Rattle.mapcalls.proofs.OfApply.{unlent-way, unlent-21, unlent-24, kept-way, written-way}
 use Rattle.mapput.specs.Few.{Few}
-use Rattle.applycalls.specs.Settles.{Called, Ready, Settles}
+use Rattle.applycalls.specs.Settles.{Ready, Settles}
 
 abbrev noKey : ShardKey
 noKey = record { collection = record { bytes = []; len = 0 }; shard = 0 }
+
+-- a map that passed its test (24), and a request that was read
+pub record Called (s bytes : List ℕ) (q : Request) : Type 0 where
+  pub given : mapLent s ≡ true
+  pub formed : wellFormedLent (mapAt s) ≡ true
+  pub loaded : LoadedAll bytes (record { found = true; request = q; next = length bytes })
 
 pub room : (s : List ℕ) → mapLent s ≡ true → 26536 ≤ length s
 unfolding mapLent

@@ -16,12 +16,10 @@ use Rattle.state.specs.Counted.{rowCounted, ShardsCounted}
 use Rattle.state.specs.View.{answerOf, viewNodes, viewSessions, viewShards}
 use Rattle.state.specs.declared.Request.{Request}
 use Rattle.state.specs.declared.ShardKey.{ShardKey}
-use Rattle.requests.specs.Read.{LoadedAll}
-use Rattle.mapcheck.specs.Lent.{wellFormedLent}
 use Rattle.settle.specs.Applied.{Settleable, DecidedNow, Unseen, SettledAs}
 use Rattle.settle.specs.declared.Settled.{Settled}
 use Rattle.maprows.specs.Rows.{sessionAt}
-use Rattle.mapimage.specs.Image.{mapAt, mapLent, nodesAt, shardsAt, sessionsAt, MapWrites}
+use Rattle.mapimage.specs.Image.{mapAt, nodesAt, shardsAt, sessionsAt, MapWrites}
 use Rattle.mapcalls.specs.Calls.{noted}
 use Rattle.mapput.specs.Few.{Few}
 use Rattle.mapput.specs.Rows.{shardRows, readAs}
@@ -31,13 +29,7 @@ use Rattle.applycalls.specs.declared.turn.Turn.the-variants.{Now, Again,
 
 -- ---- what is asked for
 
--- a map that passed its test (24), and a request that was read
-pub record Called (s bytes : List ℕ) (q : Request) : Type 0 where
-  pub given : mapLent s ≡ true
-  pub formed : wellFormedLent (mapAt s) ≡ true
-  pub loaded : LoadedAll bytes (record { found = true; request = q; next = length bytes })
-
--- a map that passed the test, and a request within its limits
+-- a map that passed the test (24), and a request within its limits
 pub record Ready (s : List ℕ) (q : Request) : Type 0 where
   pub few : Few s
   pub settleable : Settleable (mapAt s) q
