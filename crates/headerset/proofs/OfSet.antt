@@ -44,7 +44,7 @@ use Rattle.headerbytes.proofs.OfRows.{held-long, counted, row-at}
 use Rattle.rowbytes.proofs.OfBytes.{drop-after}
 use Rattle.headerput.specs.Back.{withEnd, EndOf}
 use Rattle.headerput.proofs.OfBack.{rows, rows-long, used-rows, in-use, items-all, kept-good, good, kept-past, weigh-most}
-use Rattle.headerset.specs.Row.{Outside, RowBecomes, peerSet, ownSet, roleSet, countSet, steppedDown}
+use Rattle.headerset.specs.Row.{Outside, RowBecomes, peerSet, ownSet, roleSet, countSet, steppedDown, alignedSet, storedSet, epochSet, lastSet}
 use Rattle.headerset.proofs.OfParts.{Part, whole, first, second, each, offset, replace, part-set, alter, alter-to, map-set, take-before, take-short, value-before, drop-past, items-alter}
 
 -- ---- all but a stretch is as it was
@@ -90,7 +90,7 @@ bits true true false true = (refl, refl, refl, refl)
 bits true true true false = (refl, refl, refl, refl)
 bits true true true true = (refl, refl, refl, refl)
 
-peer-back : (p : Peer) → peerOf (peerValue p) ≡ p
+pub peer-back : (p : Peer) → peerOf (peerValue p) ≡ p
 peer-back p = let b = bits (p .aligned) (p .behind) (p .proposing) (p .member) in rw (b .0, b .1, b .2, b .3)
 
 module _ (s t : List ℕ) (p : ℕ) (room : p + 1280 ≤ length s) where
@@ -147,6 +147,51 @@ stepped-down s m u t p room role count own =
     let n = a .outside .long in
     let b = count-set m u p (omega arith) 0 (omega arith) count in
     row-as (ap (λ (x : Kept). ownSet x false) (b .row ∙ ap (λ (x : Kept). countSet x 0) (a .row))) (row-then a (row-then b own))
+
+-- ---- the log aligned
+
+module _ (s t : List ℕ) (p : ℕ) (room : p + 1280 ≤ length s) (n : ℕ) (small : n < 256 ^ 8) where
+  stored-set : Stored s t (p + 56) (bytesOf 8 n) 8 → RowBecomes s t p (storedSet (keptAt s p) n)
+  unfolding keptAt
+  stored-set k =
+      let at : Part keptF u64 = first (second whole) in
+      record {
+        outside = stored-outside k p 1280 (omega arith) (omega arith) room;
+        row = ap keptOf (part-set at s t p n small room k);
+      }
+
+  epoch-set : Stored s t (p + 64) (bytesOf 8 n) 8 → RowBecomes s t p (epochSet (keptAt s p) n)
+  unfolding keptAt
+  epoch-set k =
+      let at : Part keptF u64 = second (first (first (first (first (first (first (first (first (first whole))))))))) in
+      record {
+        outside = stored-outside k p 1280 (omega arith) (omega arith) room;
+        row = ap keptOf (part-set at s t p n small room k);
+      }
+
+  last-set : Stored s t (p + 72) (bytesOf 8 n) 8 → RowBecomes s t p (lastSet (keptAt s p) n)
+  unfolding keptAt
+  last-set k =
+      let at : Part keptF u64 = second (first (first (first (first (first (first (first (first (second whole))))))))) in
+      record {
+        outside = stored-outside k p 1280 (omega arith) (omega arith) room;
+        row = ap keptOf (part-set at s t p n small room k);
+      }
+
+-- how many rows, the epoch, how many entries, and the role left
+pub aligned-set : (s a b d t : List ℕ) (p epoch last stored : ℕ) → p + 1280 ≤ length s → epoch < 256 ^ 8 → last < 256 ^ 8 → stored < 256 ^ 8
+    → Stored s a (p + 56) (bytesOf 8 stored) 8 → Stored a b (p + 64) (bytesOf 8 epoch) 8 → Stored b d (p + 72) (bytesOf 8 last) 8
+    → RowBecomes d t p (keptAs (keptAt d p) (steppedDown (keptAt d p .held))) → RowBecomes s t p (alignedSet (keptAt s p) epoch last stored)
+aligned-set s a b d t p epoch last stored room he hl hs ks ke kl down =
+    let x = stored-set s a p room stored hs ks in
+    let la = x .outside .long in
+    let y = epoch-set a b p (omega arith) epoch he ke in
+    let lb = y .outside .long in
+    let z = last-set b d p (omega arith) last hl kl in
+    row-as
+    (ap (λ (w : Kept). keptAs w (steppedDown (w .held)))
+    (z .row ∙ ap (λ (w : Kept). lastSet w last) (y .row ∙ ap (λ (w : Kept). epochSet w epoch) (x .row))))
+    (row-then x (row-then y (row-then z down)))
 
 -- a peer that a function is handed fits
 pub peer-typed : (p : Peer) (vs : List Val) → Is (row ofPeer.the-type) p vs → Good peerF (peerValue p)
@@ -258,24 +303,30 @@ put-over s m n e room d =
     ∙ sets-eq b m 0 (omega arith) ∙ ap (λ (l : List ℕ). b ++ l) past ∙ sym (sets-eq b s 0 (omega arith))
     ∙ sets-append s 0 (headBytes n) (shardsBytes n)
 
-module _ (s m t : List ℕ) (count : ℕ) (counts : Counts s count) (at : ℕ) (lt : at < count) (h : Held) where
+-- the bytes that were changed all lie where the header is written then
+pub back-over : (s m t : List ℕ) (count : ℕ) → Counts m count → Bytes m → 10288 ≤ length s → length m ≡ length s
+    → drop (48 + 1280 * count) m ≡ drop (48 + 1280 * count) s → HeaderWrites m t (nodeAt m) → HeaderWrites s t (nodeAt m)
+back-over s m t count counts bytes room long past w =
+    let few = counts .1 in
+    let size = rows-written m bytes count counts in
+    let z : 48 + 1280 * count ≡ 48 + length (shardsBytes (nodeAt m)) = omega arith in
+    writes-long s (nodeAt m) t room (node-fits m bytes count counts)
+    (w .image ∙ sym (written-long m (nodeAt m) (omega arith)) ∙ put-over s m (nodeAt m) long (omega arith) (rw z at past))
+
+module _ (s m t : List ℕ) (count : ℕ) (counts : Counts s count) (at : ℕ) (lt : at < count) where
   -- one row changed, then all in the canonical form
-  pub row-back : RowBecomes s m (48 + 1280 * at) (keptAs (keptAt s (48 + 1280 * at)) h) → Bytes m → HeaderWrites m t (nodeAt m)
-      → HeaderWrites s t (withShard (nodeAt s) at h)
-  row-back r bytes w =
+  pub row-put : (x : Kept) → RowBecomes s m (48 + 1280 * at) x → Bytes m → HeaderWrites m t (nodeAt m)
+      → HeaderWrites s t (withKepts (nodeAt s) (set (nodeAt s .held) at x))
+  row-put x r bytes w =
       let o = r .outside in
-      let still = counts-still s m count counts at lt o in
-      let room = counts .0 in
       let few = counts .1 in
-      let l = o .long in
-      let fits = node-fits m bytes count still in
-      let long = rows-written m bytes count still in
-      let z : 48 + 1280 * at + 1280 ≤ 48 + length (shardsBytes (nodeAt m)) = omega arith in
-      let put : t ≡ headerPut s (nodeAt m) =
-      w .image ∙ sym (written-long m (nodeAt m) (omega arith))
-      ∙ put-over s m (nodeAt m) l (omega arith) (drop-past m s (48 + 1280 * at + 1280) (48 + length (shardsBytes (nodeAt m))) z (o .back)) in
-      let is : nodeAt m ≡ withShard (nodeAt s) at h =
-      node-set s m count counts at lt o
-      ∙ ap (λ (x : Kept). withKepts (nodeAt s) (set (nodeAt s .held) at x))
-      (r .row ∙ ap (λ (x : Kept). keptAs x h) (sym (row-at s count counts at view.noKept lt))) in
-      writes-same is (writes-long s (nodeAt m) t room fits put)
+      writes-same (node-set s m count counts at lt o ∙ ap (λ (y : Kept). withKepts (nodeAt s) (set (nodeAt s .held) at y)) (r .row))
+      (back-over s m t count (counts-still s m count counts at lt o) bytes (counts .0) (o .long)
+      (drop-past m s (48 + 1280 * at + 1280) (48 + 1280 * count) (omega arith) (o .back)) w)
+
+  -- .. of which its key, its slot and its numbers of entries and rows stay
+  pub row-back : (h : Held) → RowBecomes s m (48 + 1280 * at) (keptAs (keptAt s (48 + 1280 * at)) h) → Bytes m → HeaderWrites m t (nodeAt m)
+      → HeaderWrites s t (withShard (nodeAt s) at h)
+  row-back h r bytes w =
+      row-put (keptAs (getD (nodeAt s .held) at view.noKept) h)
+      (row-as (ap (λ (x : Kept). keptAs x h) (sym (row-at s count counts at view.noKept lt))) r) bytes w

@@ -10,7 +10,7 @@ use Rattle.model.specs.declared.Role.the-variants.{Backup}
 use Rattle.node.specs.declared.Held.{Held}
 use Rattle.node.specs.View.{withRows}
 use Rattle.header.specs.declared.Kept.{Kept}
-use Rattle.header.specs.View.{keptAs}
+use Rattle.header.specs.View.{keptAs, relogged}
 use Rattle.headerrows.specs.Rows.{keptAt}
 
 -- all but `width` bytes from a position on are as they were
@@ -57,3 +57,46 @@ countSet x count = keptAs x (heldWith (x .held) (x .held .role) (x .held .own) c
 -- node.rs, step_down: the primary role left, with all that the record tracked
 abbrev pub steppedDown : Held → Held
 steppedDown h = heldWith h Backup false 0
+
+-- ---- a shard whose log was aligned with a new epoch's primary (serve, `Realigns`)
+
+abbrev pub alignedHeld : Held → (epoch last : ℕ) → Held
+alignedHeld h epoch last = record {
+  epoch = record { 0 = epoch };
+  metric = h .metric;
+  last = last;
+  role = Backup;
+  own = false;
+  replicas = h .replicas;
+  holders = h .holders;
+  peers = h .peers;
+  count = 0;
+}
+
+-- .. with as many rows of its table
+abbrev pub alignedSet : Kept → (epoch last stored : ℕ) → Kept
+alignedSet x epoch last stored = record { key = x .key; slot = x .slot; stored = stored; held = alignedHeld (x .held) epoch last }
+
+abbrev pub storedSet : Kept → ℕ → Kept
+storedSet x stored = record { key = x .key; slot = x .slot; stored = stored; held = x .held }
+
+abbrev pub epochSet : Kept → ℕ → Kept
+epochSet x epoch = record {
+  key = x .key;
+  slot = x .slot;
+  stored = x .stored;
+  held = record {
+    epoch = record { 0 = epoch };
+    metric = x .held .metric;
+    last = x .held .last;
+    role = x .held .role;
+    own = x .held .own;
+    replicas = x .held .replicas;
+    holders = x .held .holders;
+    peers = x .held .peers;
+    count = x .held .count;
+  };
+}
+
+abbrev pub lastSet : Kept → ℕ → Kept
+lastSet x last = record { key = x .key; slot = x .slot; stored = x .stored; held = relogged (x .held) last }

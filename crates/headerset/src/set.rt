@@ -3,7 +3,7 @@ ghost use Prim.Native.Nat.{_+_, _≤_, _<_};
 ghost use lib.ListN.{length};
 ghost use Rattle.header.specs.View.{keptAs};
 ghost use Rattle.headerrows.specs.Rows.{keptAt};
-ghost use Rattle.headerset.specs.Row.{RowBecomes, peerSet, ownSet, steppedDown};
+ghost use Rattle.headerset.specs.Row.{RowBecomes, peerSet, ownSet, steppedDown, alignedSet};
 use headerrows::held::put_role;
 use headerrows::peers::put_peer;
 use image::codes::flag_code;
@@ -11,6 +11,12 @@ use model::Peer;
 use model::Role;
 
 // Where a row has them.
+const STORED: usize = 56;
+
+const EPOCH: usize = 64;
+
+const LAST: usize = 72;
+
 const COUNT: usize = 88;
 
 const OWN: usize = 100;
@@ -43,4 +49,15 @@ pub fn step_down(out: &mut [u8], row: usize)
     put_role(out, row + ROLE, Role::Backup);
     num::put8(out, row + COUNT, 0);
     set_own(out, row, false);
+}
+
+// The log aligned with a new epoch's primary: the epoch, how many entries and rows are left, and the role left.
+pub fn set_aligned(out: &mut [u8], row: usize, epoch: u64, last: u64, stored: u64)
+    requires { ⌜ row + 1280 ≤ length (now out) ⌝ }
+    ensures { λ _. ⌜ RowBecomes (now (out .entry)) (now (out .exit)) row (alignedSet (keptAt (now (out .entry)) row) epoch last stored) ⌝ }
+{
+    num::put8(out, row + STORED, stored);
+    num::put8(out, row + EPOCH, epoch);
+    num::put8(out, row + LAST, last);
+    step_down(out, row);
 }
