@@ -1,0 +1,220 @@
+-- Rows moved up one by one, and the row of a shard that begins. Assumes nothing.
+use Prim.Native.Nat.{ℕ, zero, suc, _+_, _-_, _*_, _^_, _≤_, _<_}
+use mathlib.Core.Path.{_≡_, refl, sym, ap, subst, _∙_}
+use mathlib.Core.Bool.{Bool, true, false}
+use mathlib.Core.List.{List, [], _∷_, _++_, map}
+use lib.Dec.{eqb}
+use borrow.Author.Tests.{eqb-true, eqb-false}
+use lib.ListN.{length, take, drop}
+use lib.Seq.{length-sets}
+use native.Mathlib.Omega.{arith}
+use native.Mathlib.Nat.{mul-suc}
+use Rattle.model.specs.Keys.{Key, keyBelow}
+use Rattle.model.specs.Layout.Format.{Bytes, bytesOf, numberAt}
+use Rattle.model.specs.Layout.Parts.{metricCode}
+use Rattle.model.specs.declared.Metric.{Metric}
+use Rattle.model.specs.declared.Peer.{Peer}
+use Rattle.model.specs.declared.Role.{Role}
+use Rattle.model.specs.declared.Role.the-variants.{Backup, Primary}
+use Rattle.model.proofs.LayoutLaws.Data.{metric-of, metric-below}
+use Rattle.state.specs.declared.ShardKey.{ShardKey}
+use Rattle.state.specs.Names.{viewKey}
+use Rattle.header.specs.declared.Kept.{Kept}
+use Rattle.header.specs.Grow.{belowKey}
+use Rattle.header.proofs.OfLists.{by-case}
+use Rattle.image.specs.Shape.{Value, u32, u64, word, value, items, Good, Stored}
+use Rattle.image.specs.Parts.{keyF, keyValue, keyAt, keyBytes}
+use Rattle.image.proofs.OfCodes.{flag-back, replicas-back}
+use Rattle.headerrows.specs.Rows.{peerOf, peerValue, roleOf, roleValue, keptF, keptOf, keptValue, keptAt, keptBytes}
+use Rattle.headerimage.proofs.OfTidy.{KeptFits}
+use Rattle.rowbytes.proofs.OfBytes.{drop-after, value-past}
+use Rattle.headerput.proofs.OfBack.{kept-good, good, kept-past}
+use Rattle.headerset.specs.Row.{Outside, RowBecomes, alignedSet}
+use Rattle.headerset.proofs.OfParts.{Part, whole, first, second, part-set, take-before, take-short, value-before, drop-past}
+use Rattle.headerset.proofs.OfSet.{peer-back, stored-outside, row-then, row-as}
+use Rattle.headergrow.specs.Begun.{rowAt, MovedUp, Opened, begunHeld, begunSet}
+
+-- ---- a row that is written is read again
+
+peers-back : (l : List Peer) → map peerOf (map peerValue l) ≡ l
+peers-back [] = refl
+peers-back (x ∷ l) = rw (peer-back x, peers-back l)
+
+role-back : (r : Role) → roleOf (roleValue r) ≡ r
+role-back Backup = refl
+role-back (Primary e o) = refl
+
+row-read : (s t : List ℕ) (p : ℕ) (x : Kept) → KeptFits x → p + 1280 ≤ length s → Stored s t p (keptBytes x) 1280 → keptAt t p ≡ x
+unfolding keptAt keptBytes
+row-read s t p x g room k =
+    let at : Part keptF keptF = whole in
+    let e : p ≡ p + 0 = omega arith in
+    ap keptOf (part-set at s t p (keptValue x) g room (rw e at k))
+    ∙ (rw (metric-of (x .held .metric), flag-back (x .held .own), role-back (x .held .role), replicas-back (x .held .replicas), peers-back (x .held .peers)))
+
+row-fits : (s : List ℕ) (p : ℕ) → Bytes s → KeptFits (keptAt s p)
+unfolding keptAt
+row-fits s p b = kept-good (value keptF s p) (good s b keptF p)
+
+pub row-before : (s t : List ℕ) (q : ℕ) → take q t ≡ take q s → (p : ℕ) → p + 1280 ≤ q → keptAt t p ≡ keptAt s p
+unfolding keptAt
+row-before s t q e p h = ap keptOf (value-before t s q e keptF p h)
+
+pub below-key : (s : List ℕ) (p : ℕ) (k : Key) → belowKey k (keptAt s p) ≡ keyBelow (viewKey (keyAt s p)) k
+unfolding keptAt keyAt
+below-key s p k = refl
+
+-- ---- moved up
+
+pub moved-none : (s : List ℕ) (count : ℕ) → MovedUp s s count count
+moved-none s count = record { long = refl; front = refl; above = λ j le lt. absurd (omega arith); past = refl }
+
+pub moved-step : (s out m : List ℕ) (count k j : ℕ) → 10288 ≤ length s → count < 8 → k ≤ count → j + 1 ≡ k → Bytes out → MovedUp s out count k
+    → (x : Kept) → x ≡ keptAt out (48 + 1280 * j) → Stored out m (48 + 1280 * (j + 1)) (keptBytes x) 1280 → MovedUp s m count j
+moved-step s out m count k j room few most e bytes d x is put =
+    let n = d .long in
+    let z : 48 + 1280 * (k + 1) ≡ 48 + 1280 * (j + 1) + 1280 = omega arith in
+    let here : keptAt m (48 + 1280 * (j + 1)) ≡ keptAt s (48 + 1280 * j) =
+    row-read out m (48 + 1280 * (j + 1)) x (subst KeptFits (sym is) (row-fits out (48 + 1280 * j) bytes)) (omega arith) put
+    ∙ is ∙ row-before s out (48 + 1280 * (k + 1)) (d .front) (48 + 1280 * j) (omega arith) in
+    let back : drop (48 + 1280 * (j + 1) + 1280) m ≡ drop (48 + 1280 * (j + 1) + 1280) out = drop-after put (omega arith) in
+    record {
+      long = ap length (put .image) ∙ length-sets out (48 + 1280 * (j + 1)) (keptBytes x) ∙ d .long;
+      front = take-before put ∙ take-short s out (48 + 1280 * (k + 1)) (48 + 1280 * (j + 1)) (omega arith) (d .front);
+      above = λ i le lt.
+          by-case (eqb i j)
+          (λ q. let w = eqb-true i j q in subst (λ (y : ℕ). rowAt m (y + 1) ≡ rowAt s y) (sym w) here)
+          (λ q.
+          let w = eqb-false i j q in
+          let up : k ≤ i = omega (arith, w) in
+          kept-past m out (48 + 1280 * (i + 1)) (drop-past m out (48 + 1280 * (j + 1) + 1280) (48 + 1280 * (i + 1)) (omega arith) back)
+          ∙ d .above i up lt);
+      past = drop-past m out (48 + 1280 * (j + 1) + 1280) (48 + 1280 * (count + 1)) (omega arith) back ∙ d .past;
+    }
+
+-- the count first, then the rows
+pub opened : (s a t : List ℕ) (at count : ℕ) → 10288 ≤ length s → at ≤ count → count < 8 → Stored s a 24 (bytesOf 8 (count + 1)) 8 → MovedUp a t count at
+    → Opened s t at count
+opened s a t at count room le few k d =
+    let na : length a ≡ length s = ap length (k .image) ∙ length-sets s 24 (bytesOf 8 (count + 1)) in
+    let front : take 24 a ≡ take 24 s = take-before k in
+    let back : drop 32 a ≡ drop 32 s = drop-after k (omega arith) in
+    let head : (w p : ℕ) → p + w ≤ 48 → numberAt w t p ≡ numberAt w a p =
+    λ w p h. value-before t a (48 + 1280 * (at + 1)) (d .front) (word w) p (omega arith) in
+    let low : (w p : ℕ) → p + w ≤ 24 → numberAt w a p ≡ numberAt w s p = λ w p h. value-before a s 24 front (word w) p h in
+    let high : (w p : ℕ) → 32 ≤ p → numberAt w a p ≡ numberAt w s p = λ w p h. value-past (word w) a s p (drop-past a s 32 p h back) in
+    let rows : (p : ℕ) → 32 ≤ p → keptAt a p ≡ keptAt s p = λ p h. kept-past a s p (drop-past a s 32 p h back) in
+    let count-is : value u64 a 24 ≡ count + 1 =
+    (let whole-word : Part u64 u64 = whole in part-set whole-word s a 24 (count + 1) (omega arith) (omega arith) k) in
+    record {
+      long = d .long ∙ na;
+      id = head 8 0 (omega arith) ∙ low 8 0 (omega arith);
+      incarnation = head 8 8 (omega arith) ∙ low 8 8 (omega arith);
+      version = head 8 16 (omega arith) ∙ low 8 16 (omega arith);
+      shards = head 8 24 (omega arith) ∙ count-is;
+      code = head 4 36 (omega arith) ∙ high 4 36 (omega arith);
+      end = head 8 40 (omega arith) ∙ high 8 40 (omega arith);
+      below = λ j lt. row-before a t (48 + 1280 * (at + 1)) (d .front) (48 + 1280 * j) (omega arith) ∙ rows (48 + 1280 * j) (omega arith);
+      above = λ j ge lt. d .above j ge lt ∙ rows (48 + 1280 * j) (omega arith);
+      past = d .past ∙ drop-past a s 32 (48 + 1280 * (count + 1)) (omega arith) back;
+    }
+
+-- ---- the row of a shard that begins
+
+abbrev keySet : Kept → ShardKey → Kept
+keySet x key = record { key = key; slot = x .slot; stored = x .stored; held = x .held }
+
+abbrev slotSet : Kept → ℕ → Kept
+slotSet x slot = record { key = x .key; slot = slot; stored = x .stored; held = x .held }
+
+abbrev holdersSet : Kept → ℕ → Kept
+holdersSet x n = record {
+  key = x .key;
+  slot = x .slot;
+  stored = x .stored;
+  held = record {
+    epoch = x .held .epoch;
+    metric = x .held .metric;
+    last = x .held .last;
+    role = x .held .role;
+    own = x .held .own;
+    replicas = x .held .replicas;
+    holders = n;
+    peers = x .held .peers;
+    count = x .held .count;
+  };
+}
+
+abbrev metricSet : Kept → Metric → Kept
+metricSet x m = record {
+  key = x .key;
+  slot = x .slot;
+  stored = x .stored;
+  held = record {
+    epoch = x .held .epoch;
+    metric = m;
+    last = x .held .last;
+    role = x .held .role;
+    own = x .held .own;
+    replicas = x .held .replicas;
+    holders = x .held .holders;
+    peers = x .held .peers;
+    count = x .held .count;
+  };
+}
+
+module _ (s t : List ℕ) (p : ℕ) (room : p + 1280 ≤ length s) where
+  key-set : (key : ShardKey) → Good keyF (keyValue key) → Stored s t p (keyBytes key) 44 → RowBecomes s t p (keySet (keptAt s p) key)
+  unfolding keptAt keyBytes
+  key-set key g k =
+      let at : Part keptF keyF = first (first (first (first whole))) in
+      let e : p ≡ p + 0 = omega arith in
+      record {
+        outside = stored-outside k p 1280 (omega arith) (omega arith) room;
+        row = ap keptOf (part-set at s t p (keyValue key) g room (rw e at k));
+      }
+
+  slot-set : (n : ℕ) → n < 256 ^ 8 → Stored s t (p + 48) (bytesOf 8 n) 8 → RowBecomes s t p (slotSet (keptAt s p) n)
+  unfolding keptAt
+  slot-set n small k =
+      let at : Part keptF u64 = first (first (second whole)) in
+      record {
+        outside = stored-outside k p 1280 (omega arith) (omega arith) room;
+        row = ap keptOf (part-set at s t p n small room k);
+      }
+
+  holders-set : (n : ℕ) → n < 256 ^ 8 → Stored s t (p + 80) (bytesOf 8 n) 8 → RowBecomes s t p (holdersSet (keptAt s p) n)
+  unfolding keptAt
+  holders-set n small k =
+      let at : Part keptF u64 = second (first (first (first (first (first (first (first (second whole)))))))) in
+      record {
+        outside = stored-outside k p 1280 (omega arith) (omega arith) room;
+        row = ap keptOf (part-set at s t p n small room k);
+      }
+
+  metric-set : (m : Metric) → Stored s t (p + 96) (bytesOf 4 (metricCode m)) 4 → RowBecomes s t p (metricSet (keptAt s p) m)
+  unfolding keptAt
+  metric-set m k =
+      let at : Part keptF u32 = second (first (first (first (first (first (second whole)))))) in
+      let c = metric-below m in
+      record {
+        outside = stored-outside k p 1280 (omega arith) (omega arith) room;
+        row = ap keptOf (part-set at s t p (metricCode m) (omega arith) room k) ∙ ap (λ (y : Metric). metricSet (keptOf (value keptF s p)) y) (metric-of m);
+      }
+
+pub begun-set : (s a b d e t : List ℕ) (p : ℕ) (key : ShardKey) (slot epoch : ℕ) (metric : Metric) → p + 1280 ≤ length s → Good keyF (keyValue key)
+    → slot < 256 ^ 8 → Stored s a p (keyBytes key) 44 → Stored a b (p + 48) (bytesOf 8 slot) 8 → Stored b d (p + 80) (bytesOf 8 0) 8
+    → Stored d e (p + 96) (bytesOf 4 (metricCode metric)) 4 → RowBecomes e t p (alignedSet (keptAt e p) epoch 0 0)
+    → RowBecomes s t p (begunSet (keptAt s p) key slot epoch metric)
+begun-set s a b d e t p key slot epoch metric room g hs ka kb kd ke down =
+    let w = key-set s a p room key g ka in
+    let la = w .outside .long in
+    let x = slot-set a b p (omega arith) slot hs kb in
+    let lb = x .outside .long in
+    let y = holders-set b d p (omega arith) 0 (omega arith) kd in
+    let ld = y .outside .long in
+    let z = metric-set d e p (omega arith) metric ke in
+    row-as
+    (ap (λ (v : Kept). alignedSet v epoch 0 0)
+    (z .row ∙ ap (λ (v : Kept). metricSet v metric) (y .row ∙ ap (λ (v : Kept). holdersSet v 0) (x .row ∙ ap (λ (v : Kept). slotSet v slot) (w .row)))))
+    (row-then w (row-then x (row-then y (row-then z down))))

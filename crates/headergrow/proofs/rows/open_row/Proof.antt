@@ -1,0 +1,29 @@
+-- `rows::open_row` meets its contract. Assumes nothing.
+use borrow.Author.Needs.{needs}
+use native.Mathlib.Omega.{arith}
+use mathlib.Core.Path.{_≡_, refl, sym, _∙_, ap}
+use mathlib.Core.List.{List, [], _∷_, _++_}
+use Prim.Native.Nat.{ℕ, _+_, _-_, _*_, _≤_, _<_}
+use lib.ListN.{length, getD, take, drop, set}
+use Rattle.image.proofs.Images.{stored-word}
+use Rattle.headergrow.proofs.OfRows.{opened}
+use Rattle.headergrow.proofs.rows.open_row.Statement.{statement}
+use Rattle.headergrow.proofs.rows.open_row.Tie as tie
+
+add-put8 : tie.Need-add-put8
+add-put8 c = search needs
+
+put8-requires : tie.Need-put8-requires
+put8-requires c κs = let r = (c .before .before .pre) .0 in omega arith
+
+move-up-requires : tie.Need-move-up-requires
+move-up-requires c κs = let r = (c .before .before .before .before .before .before .pre) .0 in let l = (c .before .before .before .put8) .kept .0 in (omega arith, (c .before .before .before .before .before .before .pre) .1, (c .before .before .before .before .before .before .pre) .2)
+
+same-length : tie.Need-same-length
+same-length c = search needs
+
+returns : tie.Need-returns
+returns c = let a = (c .before .before .before .before .before .before .before .before .before .args) in opened (a .out .now) _ _ (a .at) (a .count) ((c .before .before .before .before .before .before .before .before .before .pre) .0) ((c .before .before .before .before .before .before .before .before .before .pre) .1) ((c .before .before .before .before .before .before .before .before .before .pre) .2) (stored-word 8 (a .count + 1) ((c .before .before .before .before .before .before .put8) .ensures)) ((c .before .before .move-up) .ensures)
+
+pub open-row-spec : {M : Type 1} → statement M
+open-row-spec = tie.close (tie.spec add-put8 put8-requires move-up-requires same-length returns)
