@@ -56,7 +56,7 @@ past front ks n top e h =
     let r : n + (top - n) ≡ top = omega arith in
     ap (λ (k : ℕ). drop k (front ++ drop n ks)) q ∙ drop-append-add front (drop n ks) (top - n) ∙ drop-drop (top - n) n ks ∙ ap (λ (k : ℕ). drop k ks) r
 
-tabled-any : (top : ℕ) (ks ps : List ℕ) (rs : List Row) → length rs ≤ top → length rs ≤ length ks → length rs ≤ length ps
+pub tabled-any : (top : ℕ) (ks ps : List ℕ) (rs : List Row) → length rs ≤ top → length rs ≤ length ks → length rs ≤ length ps
     → Tabled top ks ps (ids rs ++ drop (length rs) ks) (offsets rs ++ drop (length rs) ps) (length rs) rs
 unfolding rowsOf
 tabled-any top ks ps rs ht hk hp = record {
