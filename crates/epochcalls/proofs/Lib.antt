@@ -1,0 +1,3 @@
+pub mod OfAligned
+pub mod OfNewEpoch
+pub mod OfBegin
