@@ -1,3 +1,4 @@
 pub mod OfParts
 pub mod OfSet
 pub mod OfPlace
+pub mod OfVersion

@@ -283,14 +283,14 @@ module _ (s : List ℕ) (bytes : Bytes s) (count : ℕ) (counts : Counts s count
     rows = subst (λ (l : List Kept). All KeptFits l) (sym rows-are) (items-all KeptFits count (keptAt s) 1280 48 (λ p. kept-good (value keptF s p) (good s bytes keptF p)));
   }
 
-  rows-written : length (shardsBytes (nodeAt s)) ≡ 1280 * count
+  pub rows-written : length (shardsBytes (nodeAt s)) ≡ 1280 * count
   rows-written =
       let l = rows-long s count in
       shards-long (map tidyKept (used (nodeAt s))) (all-fit (used (nodeAt s)) (node-fits .rows))
       ∙ ap (λ (k : ℕ). 1280 * k) (length-map (used (nodeAt s)) tidyKept ∙ ap (λ (r : List Kept). length r) rows-are ∙ l)
 
 -- bytes that are written over do not count
-put-over : (s m : List ℕ) (n : Node) → length m ≡ length s → 48 + length (shardsBytes n) ≤ length s
+pub put-over : (s m : List ℕ) (n : Node) → length m ≡ length s → 48 + length (shardsBytes n) ≤ length s
     → drop (48 + length (shardsBytes n)) m ≡ drop (48 + length (shardsBytes n)) s → headerPut m n ≡ headerPut s n
 unfolding headerPut
 put-over s m n e room d =

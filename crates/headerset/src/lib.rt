@@ -3,3 +3,4 @@
 pub mod back;
 pub mod peers;
 pub mod set;
+pub mod version;
