@@ -1,0 +1,2 @@
+pub mod OfRow
+pub mod OfQuiet
