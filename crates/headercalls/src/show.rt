@@ -39,7 +39,7 @@ fn put_all(
 }
 
 // Internal: what a map shown brings about, put where the host looks for it.
-fn put_shown(header: &mut [u8], a: NodeShown, starts: &mut [u8], answer: &mut [u8]) -> u32
+pub fn put_shown(header: &mut [u8], a: NodeShown, starts: &mut [u8], answer: &mut [u8]) -> u32
     ensures { λ r. ⌜ ShowPut (now (header .entry)) (now (header .exit)) (now (starts .entry)) (now (starts .exit))
         (now (answer .entry)) (now (answer .exit)) a r ⌝ }
 {

@@ -10,7 +10,7 @@ ghost use Rattle.headercalls.specs.Waits.{Waits};
 pub extern "C" fn catalogue_fresh_node(header: &mut [u8], id: u64, incarnation: u64) -> u32
     ensures { λ r. ⌜ Freshens (now (header .entry)) (now (header .exit)) id incarnation r ⌝ }
 {
-    headercalls::fresh::fresh_node(header, id, incarnation)
+    showcalls::fresh::fresh_node(header, id, incarnation)
 }
 
 #[no_mangle]
@@ -24,7 +24,7 @@ pub extern "C" fn catalogue_show_map(
     ensures { λ r. ⌜ Shows (now (header .entry)) (now (header .exit)) (now (map .entry)) (now (starts .entry)) (now (starts .exit))
         (now (answer .entry)) (now (answer .exit)) fresh r ⌝ }
 {
-    headercalls::show::show_map(header, map, fresh, starts, answer)
+    showcalls::show::show_map(header, map, fresh, starts, answer)
 }
 
 #[no_mangle]

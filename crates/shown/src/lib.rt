@@ -7,7 +7,7 @@ use model::Metric;
 use node::Nodes;
 use state::ShardKey;
 
-mod dead;
+pub mod dead;
 pub mod listed;
 mod parts;
 pub mod starting;

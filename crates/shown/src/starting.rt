@@ -40,7 +40,7 @@ pub fn started_over(n: Node, fresh: u64) -> Node
 }
 
 // Internal: a map that is taken: 23 if a ninth shard would be held after removals, or a 33rd worker; nothing is changed then.
-fn take_map(n: Node, map: &[u8]) -> NodeShown
+pub fn take_map(n: Node, map: &[u8]) -> NodeShown
     requires { ⌜ (formedNode n ≡ true) × (26536 ≤ length (now map)) × TablesCounted (mapAt (now map)) × (wellFormedMap (viewMap (mapAt (now map))) ≡ true) ⌝ }
     ensures { λ r. ⌜ TakesMap n (mapAt (now (map .entry))) r ⌝ }
 {

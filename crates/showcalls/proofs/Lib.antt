@@ -1,0 +1,3 @@
+pub mod OfFresh
+pub mod OfShow
+pub mod OfQuiet

@@ -1,0 +1,142 @@
+// A map shown to a node, over the images of its header and of the map (paper 01, 'Map shown', 'Who is turned down'; node.rs, on_map).
+ghost use mathlib.Core.Path.{_≡_};
+ghost use mathlib.Core.Bool.{true};
+ghost use Prim.Native.Nat.{_≤_};
+ghost use lib.ListN.{length};
+ghost use Rattle.model.specs.Layout.Format.{numberAt};
+ghost use Rattle.header.specs.Formed.{formedNode};
+ghost use Rattle.headerimage.specs.Image.{headerLent, nodeAt};
+ghost use Rattle.headerbytes.specs.Rows.{Counts};
+ghost use Rattle.headerset.specs.Version.{versionSet};
+ghost use Rattle.headercalls.specs.Fresh.{freshNode};
+ghost use Rattle.headercalls.specs.Shows.{Shows};
+ghost use Rattle.showcalls.specs.Shown.{MapFormed, Quietly, TakesAt, ShowsAt};
+use crate::fresh::put_fresh;
+use asked::answer::put_number;
+use headercalls::show::put_shown;
+use headerimage::is_lent;
+use headerimage::read_header;
+use headerset::back::put_back;
+use headerset::version::put_version;
+use mapbytes::layout::NODES_USED;
+use mapbytes::layout::VERSION;
+use shown::dead::dead_in;
+use shown::starting::take_map;
+use shownbytes::quiet::is_quiet;
+
+// Where a header has them.
+const ID: usize = 0;
+
+const INCARNATION: usize = 8;
+
+const KNOWN: usize = 16;
+
+const COUNT: usize = 24;
+
+// Internal: an older map is ignored: the rows in use are in their one form, and no worker starts; 23 without room to say so.
+fn ignore(header: &mut [u8], count: usize, answer: &mut [u8]) -> u32
+    requires { ⌜ Counts (now header) count ⌝ }
+    ensures { λ r. ⌜ Quietly (now (header .entry)) (now (header .exit)) (now (answer .entry)) (now (answer .exit)) (nodeAt (now (header .entry))) r ⌝ }
+{
+    if !put_number(answer, 0) {
+        return 23;
+    }
+    put_back(header, count);
+    0
+}
+
+// Internal: a node listed dead starts over; 23 without room to say so.
+fn start_over(header: &mut [u8], fresh: u64, answer: &mut [u8]) -> u32
+    requires { ⌜ 10288 ≤ length (now header) ⌝ }
+    ensures { λ r. ⌜ Quietly (now (header .entry)) (now (header .exit)) (now (answer .entry)) (now (answer .exit))
+        (freshNode (numberAt 8 (now (header .entry)) 0) fresh) r ⌝ }
+{
+    let id = num::get8(header, ID);
+    if !put_number(answer, 0) {
+        return 23;
+    }
+    put_fresh(header, id, fresh);
+    0
+}
+
+// Internal: a map that changes nothing but the version that the node knows; 23 without room to say that no worker starts.
+fn note(header: &mut [u8], count: usize, version: u64, answer: &mut [u8]) -> u32
+    requires { ⌜ Counts (now header) count ⌝ }
+    ensures { λ r. ⌜ Quietly (now (header .entry)) (now (header .exit)) (now (answer .entry)) (now (answer .exit)) (versionSet (nodeAt (now (header .entry))) version) r ⌝ }
+{
+    if !put_number(answer, 0) {
+        return 23;
+    }
+    put_version(header, count, version);
+    0
+}
+
+// Internal: a map that changes what is held.
+fn change(header: &mut [u8], map: &[u8], starts: &mut [u8], answer: &mut [u8]) -> u32
+    requires { ⌜ (headerLent (now header) ≡ true) × (formedNode (nodeAt (now header)) ≡ true) × MapFormed (now map) ⌝ }
+    ensures { λ r. ⌜ TakesAt (now (header .entry)) (now (header .exit)) (now (map .entry)) (now (starts .entry)) (now (starts .exit))
+        (now (answer .entry)) (now (answer .exit)) r ⌝ }
+{
+    let lent = read_header(header);
+    let n = lent.node;
+    let a = take_map(n, map);
+    put_shown(header, a, starts, answer)
+}
+
+// Internal: a map that is taken.
+fn take(header: &mut [u8], count: usize, map: &[u8], starts: &mut [u8], answer: &mut [u8]) -> u32
+    requires { ⌜ (headerLent (now header) ≡ true) × Counts (now header) count × (formedNode (nodeAt (now header)) ≡ true) × MapFormed (now map) ⌝ }
+    ensures { λ r. ⌜ TakesAt (now (header .entry)) (now (header .exit)) (now (map .entry)) (now (starts .entry)) (now (starts .exit))
+        (now (answer .entry)) (now (answer .exit)) r ⌝ }
+{
+    let version = num::get8(map, VERSION);
+    if is_quiet(header, count, map) {
+        return note(header, count, version, answer);
+    }
+    change(header, map, starts, answer)
+}
+
+// Internal: an older version is ignored; a node listed dead starts over; any other map is taken.
+fn hear(header: &mut [u8], map: &[u8], fresh: u64, starts: &mut [u8], answer: &mut [u8]) -> u32
+    requires { ⌜ (headerLent (now header) ≡ true) × (formedNode (nodeAt (now header)) ≡ true) × MapFormed (now map) ⌝ }
+    ensures { λ r. ⌜ ShowsAt (now (header .entry)) (now (header .exit)) (now (map .entry)) (now (starts .entry)) (now (starts .exit))
+        (now (answer .entry)) (now (answer .exit)) fresh r ⌝ }
+{
+    let count = num::get8(header, COUNT) as usize;
+    if num::get8(map, VERSION) < num::get8(header, KNOWN) {
+        return ignore(header, count, answer);
+    }
+    let id = num::get8(header, ID);
+    let own = num::get8(header, INCARNATION);
+    let nodes = num::get8(map, NODES_USED) as usize;
+    if dead_in(map, nodes, id, own) {
+        return start_over(header, fresh, answer);
+    }
+    take(header, count, map, starts, answer)
+}
+
+// 24; then the map is shown.
+pub fn show_map(
+    header: &mut [u8],
+    map: &[u8],
+    fresh: u64,
+    starts: &mut [u8],
+    answer: &mut [u8],
+) -> u32
+    ensures { λ r. ⌜ Shows (now (header .entry)) (now (header .exit)) (now (map .entry)) (now (starts .entry)) (now (starts .exit))
+        (now (answer .entry)) (now (answer .exit)) fresh r ⌝ }
+{
+    if !is_lent(header) {
+        return 24;
+    }
+    if !mapbytes::lent::is_lent(map) {
+        return 24;
+    }
+    if !mapbytes::formed::is_formed(map) {
+        return 24;
+    }
+    if !headerbytes::formed::is_formed(header) {
+        return 24;
+    }
+    hear(header, map, fresh, starts, answer)
+}
