@@ -1,15 +1,13 @@
-// A map shown to a node, over the images of its header and of the map (paper 01, 'Map shown', 'Who is turned down').
+// What a map shown to a node leaves in a host's buffers (paper 01, 'Map shown', 'Who is turned down').
 ghost use lib.ListN.{take};
 ghost use Rattle.shown.specs.Shows.{viewStarts};
 ghost use Rattle.headercalls.specs.Waits.{RowsPut};
-ghost use Rattle.headercalls.specs.Shows.{workerBytes, ShowPut, Shows};
+ghost use Rattle.headercalls.specs.Shows.{workerBytes, ShowPut};
 use crate::starts::put_starts;
 use crate::starts::rows_in;
 use asked::answer::put_number;
 use header::Node;
-use headerimage::read_header;
 use headerimage::write_header;
-use mapbytes::lent::is_lent;
 use shown::NodeShown;
 use shown::ShownAnswer;
 use shown::Start;
@@ -52,27 +50,4 @@ pub fn put_shown(header: &mut [u8], a: NodeShown, starts: &mut [u8], answer: &mu
             put_all(header, n, rows, a.count, starts, answer)
         }
     }
-}
-
-// 24; then the map is shown.
-pub fn show_map(
-    header: &mut [u8],
-    map: &[u8],
-    fresh: u64,
-    starts: &mut [u8],
-    answer: &mut [u8],
-) -> u32
-    ensures { λ r. ⌜ Shows (now (header .entry)) (now (header .exit)) (now (map .entry)) (now (starts .entry)) (now (starts .exit))
-        (now (answer .entry)) (now (answer .exit)) fresh r ⌝ }
-{
-    let lent = read_header(header);
-    if !lent.found {
-        return 24;
-    }
-    if !is_lent(map) {
-        return 24;
-    }
-    let n = lent.node;
-    let a = hears::show::show(n, map, fresh);
-    put_shown(header, a, starts, answer)
 }

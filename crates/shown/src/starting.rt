@@ -8,36 +8,15 @@ ghost use Rattle.header.specs.Formed.{formedNode};
 ghost use Rattle.state.specs.View.{viewMap};
 ghost use Rattle.state.specs.Counted.{TablesCounted};
 ghost use Rattle.mapimage.specs.Image.{mapAt};
-ghost use Rattle.shown.specs.Shows.{StartsOver, TakesMap, ShowsMap};
+ghost use Rattle.shown.specs.Shows.{TakesMap};
 use crate::NodeShown;
 use crate::ShownAnswer;
-use crate::dead::dead_in;
 use crate::parts::kepts_of;
 use crate::parts::starts_of;
-use crate::walk::no_taken;
 use crate::walk::walk;
 use header::Node;
-use header::formed::formed_node;
-use mapbytes::layout::NODES_USED;
 use mapbytes::layout::VERSION;
-use serve::Expiry;
 use shownslots::slots::assigned;
-
-// Internal: the node under a fresh incarnation, with nothing held and no map known.
-pub fn started_over(n: Node, fresh: u64) -> Node
-    ensures { λ r. ⌜ StartsOver n fresh r ⌝ }
-{
-    let id = n.id;
-    let held = n.held;
-    Node {
-        id: id,
-        incarnation: fresh,
-        expiry: Expiry::Never,
-        version: 0,
-        held: held,
-        count: 0,
-    }
-}
 
 // Internal: a map that is taken: 23 if a ninth shard would be held after removals, or a 33rd worker; nothing is changed then.
 pub fn take_map(n: Node, map: &[u8]) -> NodeShown
@@ -74,45 +53,5 @@ pub fn take_map(n: Node, map: &[u8]) -> NodeShown
         starts: starts,
         count: count,
         node: out,
-    }
-}
-
-// Internal: paper 01, 'Map shown', of a map that has been tested: 24 a malformed header; an older version is ignored; a node listed dead starts over;
-// 23; otherwise the node after, and the workers to start.
-pub fn show_map(n: Node, map: &[u8], fresh: u64) -> NodeShown
-    requires { ⌜ (26536 ≤ length (now map)) × TablesCounted (mapAt (now map)) × (wellFormedMap (viewMap (mapAt (now map))) ≡ true) ⌝ }
-    ensures { λ r. ⌜ ShowsMap n (mapAt (now (map .entry))) fresh r ⌝ }
-{
-    let version = num::get8(map, VERSION);
-    let nodes = num::get8(map, NODES_USED) as usize;
-    let x = no_taken();
-    let fill = x.start;
-    let none = [fill; 8];
-    if formed_node(n) {
-        if version < n.version {
-            return NodeShown {
-                answer: ShownAnswer::Shown,
-                starts: none,
-                count: 0,
-                node: n,
-            };
-        }
-        let me = n.id;
-        if dead_in(map, nodes, me.0, n.incarnation) {
-            let out = started_over(n, fresh);
-            return NodeShown {
-                answer: ShownAnswer::Shown,
-                starts: none,
-                count: 0,
-                node: out,
-            };
-        }
-        return take_map(n, map);
-    }
-    NodeShown {
-        answer: ShownAnswer::Refused(24),
-        starts: none,
-        count: 0,
-        node: n,
     }
 }
