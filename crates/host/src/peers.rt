@@ -26,7 +26,7 @@ pub extern "C" fn catalogue_new_epoch(
         (buffers (now (header .entry)) (now (stores .entry)) (now (reply .entry)))
         (buffers (now (header .exit)) (now (stores .exit)) (now (reply .exit))) r ⌝ }
 {
-    peercalls::new_epoch::new_epoch(header, stores, message, reply)
+    epochcalls::new_epoch(header, stores, message, reply)
 }
 
 #[no_mangle]
@@ -40,5 +40,5 @@ pub extern "C" fn catalogue_copy(
         (buffers (now (header .entry)) (now (stores .entry)) (now (reply .entry)))
         (buffers (now (header .exit)) (now (stores .exit)) (now (reply .exit))) r ⌝ }
 {
-    peercalls::copy::copy(header, stores, message, reply)
+    copycalls::copy(header, stores, message, reply)
 }
