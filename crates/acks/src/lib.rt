@@ -1,4 +1,5 @@
-// A peer's reply on one held shard (paper 01, 'Who is turned down', Ack; node.rs: record_ack, unalign, step_down).
+// What a peer's reply makes of one row (paper 01, 'Who is turned down', Ack; node.rs: record_ack, unalign, step_down), and laws of the reply at a
+// held shard.
 ghost use mathlib.Core.Path.{_≡_};
 ghost use mathlib.Core.Bool.{false};
 ghost use Rattle.model.specs.Node.Ack.{badReply, ackedThrough, joins, ackRow};

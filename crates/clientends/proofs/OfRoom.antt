@@ -1,7 +1,7 @@
 -- A search finds no more neighbours than its output has room for. Assumes nothing.
 use Prim.Native.Nat.{ℕ, _≤_}
-use mathlib.Core.Path.{_≡_, refl, sym, ap, subst, _∙_}
-use mathlib.Core.Bool.{Bool, true, false, not}
+use mathlib.Core.Path.{_≡_, sym, ap, subst, _∙_}
+use mathlib.Core.Bool.{Bool, not}
 use mathlib.Core.List.{List}
 use mathlib.Core.Option.{Option, none, some}
 use native.Mathlib.Omega.{arith}
@@ -22,7 +22,7 @@ use Rattle.model.specs.Node.Calls as calls
 use Rattle.model.proofs.Lists.{by-test, none-some, some-same}
 use Rattle.model.proofs.Node.Shards.{at-cases}
 use Rattle.header.specs.declared.Node.{Node}
-use Rattle.header.specs.View.{Stores, viewNode}
+use Rattle.header.specs.View.{viewNode}
 use Rattle.header.proofs.OfShards.{some-stores}
 use Rattle.lend.specs.Lend.{Lot, lentFor, slotOf}
 use Rattle.lend.proofs.OfLend.{holding, holding-changes}
@@ -96,6 +96,3 @@ module _ (n : Node) (a : Lot) (m : List ℕ) (clock : ℕ) (o p : Output) (befor
   by-read : (q : Option message.Query) → message.decodeSearch m ≡ q → foundOf (r .answer) ≤ room o
   by-read none e = by-slot 0 (λ v f. none-some (sym e ∙ f))
   by-read (some w) e = by-slot (slotOf n (w .key)) (λ v f. ap (λ (z : message.Query). slotOf n (z .key)) (some-same (sym e ∙ f)))
-
-  pub found-room : (k : ℕ) → r .answer ≡ S.Found k → k ≤ room o
-  found-room k e = subst (λ (x : SearchAnswer). foundOf x ≤ room o) e (by-read (message.decodeSearch m) refl)

@@ -1,6 +1,6 @@
-// Search as a host calls it on a node (paper 01, 'Who is turned down', Search; node.rs, search): a header by value, the message in bytes, the
-// store of the shard that the message names, the lent output, and the count of refused calls. A search changes nothing of the node: neither
-// the header nor the store comes back, and every column is lent for reading.
+// What Search does at a node (paper 01, 'Who is turned down', Search; node.rs, search), said of a header and the columns of the store of the shard
+// that the message names, the lent output, and the count of refused calls. A search changes nothing of the node. Definitions and laws, and the
+// query as it stands in a message: no code has the rest by value.
 use model::Epoch;
 
 pub mod query;

@@ -1,5 +1,5 @@
 -- Laws of a Write at a node, one for each way out. Assumes nothing.
-use Prim.Native.Nat.{ℕ, _<_, _≤_}
+use Prim.Native.Nat.{ℕ, _<_}
 use mathlib.Core.Path.{_≡_, refl, sym, ap, subst, _∙_}
 use mathlib.Core.Bool.{Bool, true, false, cond, not}
 use mathlib.Core.List.{List}
@@ -20,7 +20,6 @@ use Rattle.model.specs.Node.Refused.{counted}
 use Rattle.model.specs.Node.Calls as calls
 use Rattle.model.proofs.Lists.{not-both}
 use Rattle.node.specs.declared.Held.{Held}
-use Rattle.node.proofs.OfFormed.{formed-few}
 use Rattle.serve.specs.View.{viewExpiry}
 use Rattle.serve.specs.declared.Admit.{Admit}
 use Rattle.serve.specs.declared.Admit.the-variants as A
@@ -38,7 +37,7 @@ use Rattle.header.specs.declared.Node.{Node}
 use Rattle.header.specs.View.{Stores, viewNode, noKept}
 use Rattle.header.specs.Seats.{SameSlots}
 use Rattle.header.specs.Answers.{told}
-use Rattle.header.proofs.OfFormed.{header-apart, shard-formed}
+use Rattle.header.proofs.OfFormed.{header-apart}
 use Rattle.header.proofs.OfShards.{call-absent}
 use Rattle.lend.specs.declared.Lent.the-variants as L
 use Rattle.lend.specs.declared.Lent as found
@@ -189,10 +188,6 @@ module _ (n : Node) (a : Lot) (clock least : ℕ) (m : List ℕ) where
 
           pub found-at : Found n k a at
           found-at = subst (Finds n k a) e finds
-
-          -- as many rows as a shard may have
-          pub found-rows : getD (n .held) at noKept .held .count ≤ 32
-          found-rows = let g = found-at in formed-few _ (shard-formed n (g .formed) (g .inside) at (g .under) noKept)
 
           pub served : (b : Lot) (lease : Bool) → lease ≡ leasedNow → (r : Written)
               → WritesMessage m lease least (getD (n .held) at noKept .held) (storeOf a (getD (n .held) at noKept)) (storeIn b (r .held .last) (r .stored)) r

@@ -1,6 +1,6 @@
-// A client's Write at a node, as a host makes the call (paper 01, 'Who is turned down', Write; node.rs, write): a header by value, the
-// message in bytes, the one store that the call is lent, that of the shard which the message names, a clock reading, min_in_sync, and the
-// count of refused calls, which is lent apart from the header, so that a call refused for a malformed state counts too.
+// What a client's Write does at a node (paper 01, 'Who is turned down', Write; node.rs, write), said of a header and the columns of the one store
+// that it is lent, that of the shard which the message names, a clock reading, min_in_sync, and the count of refused calls. Definitions and laws:
+// no code has them by value.
 use header::Node;
 use model::Epoch;
 use model::Offset;

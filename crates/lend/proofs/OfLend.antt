@@ -7,7 +7,7 @@ use native.Mathlib.Omega.{arith}
 use lib.Dec.{eqb, leb}
 use lib.ListN.{length, getD, take, set}
 use lib.Seq.{take-set-lt, length-take-le, getD-take}
-use borrow.Author.Tests.{eqb-true, eqb-false, eq-eqb, lt-ltb, le-ltb, le-leb, lt-leb, not-true}
+use borrow.Author.Tests.{eqb-true, eqb-false, eq-eqb, lt-ltb, le-ltb, le-leb, not-true}
 use Rattle.model.specs.Lists.{_and_, any, lead}
 use Rattle.model.specs.Keys.{Key}
 use Rattle.model.specs.Log.{Log, Vectors}
@@ -62,9 +62,6 @@ module _ (n : Node) (k : Key) (a : Lot) where
         unfolding lentAt
         absent-at b e = rw (← is) (rw (le-ltb _ _ gone) e)
 
-        pub absent-short : length (a .columns .floats) < 32768 → (s : Stores) → lentFor s n a k ≡ false
-        absent-short h = lent-at false (absent-at false (lt-leb _ _ h))
-
         pub absent-found : 32768 ≤ length (a .columns .floats) → Absents n k a
         absent-found h = record {
           lent = lent-at true (absent-at true (le-leb _ _ h));
@@ -77,9 +74,6 @@ module _ (n : Node) (k : Key) (a : Lot) where
         held-at : (b : Bool) → keptStore a (getD (n .held) at noKept) ≡ b → lentAt n a (placeOf n k) ≡ b
         unfolding lentAt
         held-at b e = rw (← is) (rw (lt-ltb _ _ under) e)
-
-        pub held-malformed : keptStore a (getD (n .held) at noKept) ≡ false → (s : Stores) → lentFor s n a k ≡ false
-        held-malformed e = lent-at false (held-at false e)
 
         pub held-found : keptStore a (getD (n .held) at noKept) ≡ true → Found n k a at
         held-found e = record {

@@ -6,7 +6,7 @@ use mathlib.Core.List.{List}
 use native.Mathlib.Omega.{arith}
 use lib.Dec.{leb, ltb}
 use lib.Ieee.{Float}
-use lib.ListN.{length, getD, length-replicate}
+use lib.ListN.{length, length-replicate}
 use borrow.Author.Tests.{lt-ltb, le-ltb, le-leb, lt-leb, eq-eqb}
 use Rattle.model.specs.Lists.{_and_}
 use Rattle.model.specs.Keys.{Key}
@@ -14,17 +14,15 @@ use Rattle.model.specs.Layout.Format.{Bytes}
 use Rattle.model.specs.Node.Wire.{floatOf}
 use Rattle.model.proofs.Lists.{and-true, and-left, not-both}
 use Rattle.storecheck.proofs.Answers.{true-if}
-use Rattle.image.proofs.Tests.{none-of-first, none-of-second, none-of-third, all-of}
+use Rattle.image.proofs.Tests.{none-of-third, all-of}
 use Rattle.header.specs.declared.Kept.{Kept}
 use Rattle.header.specs.declared.Node.{Node}
-use Rattle.header.specs.View.{noKept}
 use Rattle.lend.specs.Lend.{Lot, placeOf}
 use Rattle.headerimage.specs.declared.Lent.{Lent}
 use Rattle.headerimage.specs.Image.{headerLent, nodeAt, noNode, lentHeader}
 use Rattle.storeimage.specs.Read.{sizesFit, roomFor, allReadable, Reads}
 use Rattle.storeimage.proofs.Sizes.{on, off, known}
-use Rattle.lentimage.specs.declared.Picked.{Picked}
-use Rattle.lentimage.specs.Lent.{noLot, beginOf, keptReadable, lotAt, holdsKey, keptOf, readable, lotIn, lendsState, notLent, Picks, KeptRead}
+use Rattle.lentimage.specs.Lent.{noLot, beginOf, keptReadable, lotAt, holdsKey, readable, lotIn, lendsState, Picks, KeptRead}
 
 -- ---- one store
 
@@ -96,29 +94,9 @@ read-node h l e t =
     (q, ap (λ (x : Lent). x .node) e ∙ ap (λ (b : Bool). cond b (nodeAt h) noNode) q)
 
 module _ (h s : List ℕ) (k : Key) where
-  -- no state is lent
-  pub picks-none : (b : Lot) (n : Node) (r : Picked) → r ≡ notLent n → lendsState h s k ≡ false → Picks h s k b r
-  picks-none b n r is e = record {
-    found = ap (λ (x : Picked). x .found) is ∙ sym e;
-    read = λ t. not-both _ t e;
-    at = λ t. not-both _ t e;
-    lot = λ t. not-both _ t e;
-    bytes = λ t. not-both _ t e;
-  }
-
-  pub lends-unread : (l : Lent) → l ≡ lentHeader h → l .found ≡ false → lendsState h s k ≡ false
-  unfolding lendsState
-  lends-unread l is e = sym (none-of-first (headerLent h) _ _ _ (sym (ap (λ (x : Lent). x .found) is) ∙ e))
-
   module _ (lent : headerLent h ≡ true) (n : Node) (is : n ≡ nodeAt h) where
     same-count : n .count ≡ nodeAt h .count
     same-count = ap (λ (x : Node). x .count) is
-
-    pub lends-many : 8 < n .count → lendsState h s k ≡ false
-    unfolding lendsState
-    lends-many e =
-        let m = same-count in
-        sym (none-of-second (headerLent h) (leb (nodeAt h .count) 8) _ _ lent (lt-leb (nodeAt h .count) 8 (omega arith)))
 
     few-too : n .count ≤ 8 → leb (nodeAt h .count) 8 ≡ true
     few-too few = let m = same-count in le-leb (nodeAt h .count) 8 (omega arith)
@@ -147,22 +125,3 @@ module _ (h s : List ℕ) (k : Key) where
             lot = λ t. read (f ∙ t) ∙ ap (λ (m : Node). lotIn s m k) is;
             bytes = λ t q. bytes (f ∙ t) (ap (λ (m : Node). holdsKey m k) is ∙ q);
           }
-
-      -- the shard is not held: the columns stay fresh
-      pub picks-absent : (b : Lot) (at : ℕ) → b ≡ noLot → at ≡ placeOf n k → n .count ≤ at
-          → Picks h s k b (record { found = true; at = at; node = n })
-      picks-absent b at fresh e gone =
-          let t : holdsKey n k ≡ false = le-ltb (placeOf n k) (n .count) (omega arith) in
-          picks-held b at true (sym (ap (λ (c : Bool). cond c (keptReadable s (keptOf n k)) true) t)) e
-          (λ q. fresh ∙ sym (ap (λ (c : Bool). cond c (lotAt s (keptOf n k)) noLot) t))
-          (λ q z. not-both (holdsKey n k) z t)
-
-      -- it is held, and its own store was read
-      pub picks-kept : (b : Lot) (at : ℕ) (r : Bool) → at ≡ placeOf n k → at < n .count → KeptRead s (getD (n .held) at noKept) b r
-          → Picks h s k b (record { found = r; at = at; node = n })
-      picks-kept b at r e under q =
-          let t : holdsKey n k ≡ true = lt-ltb (placeOf n k) (n .count) (omega arith) in
-          let p = subst (λ (i : ℕ). KeptRead s (getD (n .held) i noKept) b r) e q in
-          picks-held b at r (p .answer ∙ sym (ap (λ (c : Bool). cond c (keptReadable s (keptOf n k)) true) t)) e
-          (λ z. p .lot z ∙ sym (ap (λ (c : Bool). cond c (lotAt s (keptOf n k)) noLot) t))
-          (λ z q. p .bytes z)

@@ -1,6 +1,6 @@
 -- Laws of writing back. Assumes nothing.
-use Prim.Native.Nat.{ℕ, _≤_, _<_, min}
-use mathlib.Core.Path.{_≡_, refl, sym, ap, _∙_}
+use Prim.Native.Nat.{ℕ, _≤_, _<_}
+use mathlib.Core.Path.{_≡_, sym, ap, _∙_}
 use mathlib.Core.Bool.{Bool, true, cond}
 use mathlib.Core.List.{List}
 use native.Mathlib.Omega.{arith}
@@ -9,8 +9,6 @@ use lib.ListN.{length, getD}
 use borrow.Author.Tests.{ltb-true, lt-ltb, le-ltb, leb-true}
 use Rattle.model.specs.Keys.{Key}
 use Rattle.model.proofs.Lists.{and-left, and-right, not-both}
-use Rattle.shard.specs.Table.{rowsOf}
-use Rattle.shard.specs.View.{logOf}
 use Rattle.shard.specs.Store.{Sized, wellFormedStore}
 use Rattle.shard.proofs.Facts.{facts}
 use Rattle.outgoing.specs.Sent.{Sendable}
@@ -21,8 +19,7 @@ use Rattle.header.specs.View.{noKept}
 use Rattle.lend.specs.Lend.{Lot, storeOf, placeOf}
 use Rattle.headerimage.specs.Image.{headerLent, nodeAt}
 use Rattle.headerimage.specs.Becomes.{HeaderWrites}
-use Rattle.storeimage.specs.Write.{EntriesWritten, RowsWritten}
-use Rattle.lentimage.specs.Lent.{beginOf, keptReadable, keptOf, readable, lendsState, storePut, Writable, Puttable, StorePuts, Puts}
+use Rattle.lentimage.specs.Lent.{keptReadable, keptOf, readable, lendsState, storePut, Writable, Puttable, StorePuts, Puts}
 
 -- ---- one store
 
@@ -34,13 +31,6 @@ module _ (x y : Kept) (b : Lot) (w : Writable x y b) where
   writable-rows =
       let m = facts (storeOf b y) (w .well) .stored in
       (m, omega (arith, w .sized .keys), omega (arith, w .sized .places))
-
--- the entries, then the rows
-pub store-put : (s t u : List ℕ) (x y : Kept) (b : Lot) (from : ℕ) → from ≡ min (x .held .last) (y .held .last)
-    → EntriesWritten s t (beginOf x) from (logOf (b .columns) (y .held .last))
-    → RowsWritten t u (beginOf x) (rowsOf (b .keys) (b .places) (y .stored)) → StorePuts s u x y b
-unfolding storePut
-store-put s t u x y b from q e r = record { image = rw (r .image, e .image, q) refl; fits = record { log = e .fits; rows = r .fits } }
 
 -- ---- the whole
 

@@ -2,7 +2,7 @@
 -- is picked by the key, what its bytes are read as, and what is written back of it. Definitions only.
 use Prim.Native.Nat.{ℕ, _*_, _≤_, _<_, min}
 use mathlib.Core.Path.{_≡_}
-use mathlib.Core.Bool.{Bool, true, false, cond}
+use mathlib.Core.Bool.{Bool, true, cond}
 use mathlib.Core.List.{List}
 use lib.Dec.{leb, ltb}
 use lib.ListN.{length, getD, replicate}
@@ -75,9 +75,6 @@ lotIn s n k = cond (holdsKey n k) (lotAt s (keptOf n k)) noLot
 -- 24 of the two buffers, before `lend`'s test of what they are read as
 unfoldable pub lendsState : (header stores : List ℕ) → Key → Bool
 lendsState h s k = headerLent h and (leb (nodeAt h .count) maxHeld and (leb storesSize (length s) and readable s (nodeAt h) k))
-
-abbrev pub notLent : Node → Picked
-notLent n = record { found = false; at = 0; node = n }
 
 -- ---- what picking promises: h and s the images of the header and of the stores, b the columns after
 

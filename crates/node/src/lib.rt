@@ -8,7 +8,6 @@ use model::Peer;
 use model::Replica;
 use model::Role;
 
-pub mod formed;
 pub mod role;
 pub mod rows;
 

@@ -1,4 +1,3 @@
 pub mod OfServes
 pub mod OfStates
-mod OfKinds
 pub mod OfMessages

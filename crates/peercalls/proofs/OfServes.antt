@@ -11,11 +11,10 @@ use Rattle.model.proofs.Lists.{not-both, none-some, some-same}
 use Rattle.header.specs.declared.Node.{Node}
 use Rattle.header.specs.Seats.{slotsOf}
 use Rattle.headerimage.specs.Image.{nodeAt}
-use Rattle.lend.specs.Lend.{Lot, placeOf, Whole}
+use Rattle.lend.specs.Lend.{Lot, placeOf}
 use Rattle.lentimage.specs.declared.Picked.{Picked}
-use Rattle.lentimage.specs.Lent.{lendsState, holdsKey, lotIn, Picks, Puttable, Puts}
+use Rattle.lentimage.specs.Lent.{lendsState, holdsKey, lotIn, Picks, Puts}
 use Rattle.lentimage.specs.State.{StateAfter}
-use Rattle.lentimage.proofs.OfPut.{puttable}
 use Rattle.peers.specs.declared.PeerAnswer.{PeerAnswer}
 use Rattle.peers.specs.Peers.{turnedDown}
 use Rattle.peerends.specs.Ends.{Buffers, buffers, endedWith, Finished}
@@ -38,13 +37,6 @@ module _ (Call : Node → (a b : Lot) → List ℕ → PeerAnswer → Type 0) (d
     called-at =
         subst (λ (n : Node). Call n (lotIn s (nodeAt h) k) y m a) (d .read lends)
         (subst (λ (z : Lot). Call (l .node) z y m a) (d .lot lends) called)
-
-    -- what the call left may be written back
-    pub may-put : ((n : Node) (z : Lot) → Call n z y m a → Whole n (a .node) y k) → Puttable s (l .node) (a .node) y (l .at)
-    may-put whole =
-        subst (λ (n : Node). Puttable s n (a .node) y (l .at)) (sym (d .read lends))
-        (subst (λ (i : ℕ). Puttable s (nodeAt h) (a .node) y i) (sym (d .at lends))
-        (puttable h s k (a .node) y lends (whole (nodeAt h) (lotIn s (nodeAt h) k) called-at)))
 
     -- what the call's own promises say of the images that it left
     abbrev pub StateLaw : Buffers → Type 0

@@ -1,2 +1,1 @@
 pub mod PeerCalls
-pub mod Kinds

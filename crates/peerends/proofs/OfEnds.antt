@@ -9,7 +9,6 @@ use lib.ListN.{length}
 use lib.Seq.{sets}
 use borrow.Author.Tests.{le-leb, lt-leb}
 use Rattle.model.specs.Layout.Message.{encodeReply}
-use Rattle.model.proofs.Lists.{not-both}
 use Rattle.rpcw.specs.declared.Reply.{Reply}
 use Rattle.rpcw.specs.declared.Wrote.{Wrote}
 use Rattle.rpcw.specs.Written.{replyGiven, Written}
@@ -91,10 +90,6 @@ unsent b h s w t r d e =
 
 pub made : (a : PeerReply) (o : Outcome) → o ≡ outcome a → (w : Reply) → o ≡ O.Changed w → turnedDown a ≡ false
 made a o e w q = outcome-turned a ∙ ap turned (sym e ∙ q)
-
--- a call that left the state as it was was turned down
-pub unmade : (a : PeerReply) (o : Outcome) → o ≡ outcome a → (x : Outcome) → o ≡ x → turned x ≡ true → {P : Type 0} → turnedDown a ≡ false → P
-unmade a o e x q t f = not-both (turnedDown a) (outcome-turned a ∙ ap turned (sym e ∙ q) ∙ t) f
 
 -- ---- the ways out
 

@@ -44,7 +44,7 @@ use Rattle.lend.specs.declared.Lent.the-variants as L
 use Rattle.lend.specs.declared.Lent as found
 use Rattle.texts.specs.Texts.{keyIn}
 use Rattle.lend.specs.Lend.{Lot, storeIn, storeOf, placeOf, lentFor, slotOf, Finds, Found, withStore, Whole}
-use Rattle.peers.specs.Peers.{word, turnedDown, Serves, Seated, ReplicateNames, ReplicateSlot, ReplicatesAt, CopyNames, CopySlot, CopiesAt}
+use Rattle.peers.specs.Peers.{word, turnedDown, Serves, Seated, ReplicateNames, ReplicateSlot, CopyNames, CopySlot}
 use Rattle.peers.proofs.OfNamed.{replicate-key, copy-key}
 use Rattle.lend.proofs.OfLend.{few-held, slot-held, call-store, node-view}
 use Rattle.lend.proofs.OfPut.{lotOf, put-same, whole-put, whole-gone}
@@ -173,10 +173,6 @@ module _ (call : (Key → Bool) → held.Node → Result BackupAnswer held.Node)
 -- ---- Replicate
 
 module _ (n : Node) (m : List ℕ) where
-  pub replicate-undecoded : (a : Lot) → message.decodeReplicate m ≡ none → ReplicatesAt n a a m (record { answer = P.Refused 21; node = n })
-  unfolding calls.replicateWith
-  replicate-undecoded a d = unchanged (λ lent v. calls.replicateWith lent v m) (ReplicateSlot n m) (ReplicateNames m) (Seated n) n a (P.Refused 21) refl refl (λ s. rw d)
-
   module _ (p : ReplicatePart) (i : messageOf m ≡ Replicate p) where
     abbrev r : message.Replicated
     r = replicate-decoded m p i .read
@@ -206,10 +202,6 @@ module _ (n : Node) (m : List ℕ) where
 -- ---- CopyShard
 
 module _ (n : Node) (m : List ℕ) where
-  pub copy-undecoded : (a : Lot) → message.decodeCopyShard m ≡ none → CopiesAt n a a m (record { answer = P.Refused 21; node = n })
-  unfolding calls.copyWith
-  copy-undecoded a d = unchanged (λ lent v. calls.copyWith lent v m) (CopySlot n m) (CopyNames m) (Seated n) n a (P.Refused 21) refl refl (λ s. rw d)
-
   module _ (p : CopyPart) (i : messageOf m ≡ CopyShard p) where
     abbrev copied : message.Copied
     copied = copy-decoded m p i .read

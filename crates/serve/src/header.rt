@@ -1,6 +1,6 @@
 // A held shard's header where its log begins, grows or is aligned (node.rs: or_insert_with, write, on_new_epoch); the log itself is the
 // store's.
-ghost use Rattle.serve.specs.Headers.{Begins, Realigns};
+ghost use Rattle.serve.specs.Headers.{Begins};
 use model::DataNodeId;
 use model::Epoch;
 use model::Metric;
@@ -37,26 +37,6 @@ pub fn begun(metric: Metric) -> Held
         replicas: [replica; 8],
         holders: 0,
         peers: [peer; 32],
-        count: 0,
-    }
-}
-
-// Internal: the shard after its log was aligned with a new epoch's primary and `kept` entries stayed; the role is left.
-pub fn realigned(h: Held, epoch: Epoch, kept: u64) -> Held
-    ensures { λ r. ⌜ Realigns h (epoch .0) kept r ⌝ }
-{
-    let metric = h.metric;
-    let replicas = h.replicas;
-    let peers = h.peers;
-    Held {
-        epoch: epoch,
-        metric: metric,
-        last: kept,
-        role: Role::Backup,
-        own: false,
-        replicas: replicas,
-        holders: h.holders,
-        peers: peers,
         count: 0,
     }
 }

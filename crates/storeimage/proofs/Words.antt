@@ -1,13 +1,12 @@
 -- Laws of numbers that stand one after the other in bytes, and of columns filled place by place. Assumes nothing.
 use Prim.Native.Nat.{ℕ, zero, suc, _+_, _-_, _*_, _≤_, _<_}
 use mathlib.Core.Path.{_≡_, refl, sym, ap, _∙_}
-use mathlib.Core.Bool.{Bool, true, false, cond}
+use mathlib.Core.Bool.{Bool, true, cond}
 use mathlib.Core.List.{List, map}
 use native.Mathlib.Omega.{arith}
 use native.Mathlib.Numerals.{add-one}
 use native.Mathlib.Nat.{add-zero, mul-zero, mul-suc}
-use lib.Ieee.{ofBits}
-use lib.ListN.{length, getD, take, set, length-map, List·getD-map}
+use lib.ListN.{length, getD, take, set, length-map}
 use lib.Seq.{take-suc, take-suc-set, take-all}
 use Rattle.model.specs.Layout.Format.{numberAt}
 use Rattle.model.specs.Nearest.Order.{bitsInDomain}
@@ -43,18 +42,6 @@ pub floats-length : (bits : List ℕ) → length (floatsOf (map tamed bits)) ≡
 unfolding floatsOf
 floats-length bits = length-map (map tamed bits) floatOf ∙ length-map bits tamed
 
-pub floats-at : (bits : List ℕ) (i : ℕ) → getD (floatsOf (map tamed bits)) i (floatOf (tamed 0)) ≡ floatOf (tamed (getD bits i 0))
-unfolding floatsOf
-floats-at bits i = List·getD-map floatOf (map tamed bits) i (tamed 0) ∙ ap floatOf (List·getD-map tamed bits i 0)
-
-pub zero-inside : bitsInDomain 0 ≡ true
-unfolding bitsInDomain ofBits
-zero-inside = refl
-
 pub tamed-in : (b : ℕ) → bitsInDomain b ≡ true → tamed b ≡ b
 unfolding tamed
 tamed-in b e = ap (λ (t : Bool). cond t b 0) e
-
-pub tamed-out : (b : ℕ) → bitsInDomain b ≡ false → tamed b ≡ 0
-unfolding tamed
-tamed-out b e = ap (λ (t : Bool). cond t b 0) e

@@ -5,36 +5,17 @@ use mathlib.Core.Bool.{Bool, true, false, cond}
 use mathlib.Core.List.{List, [], _∷_, _++_, map}
 use native.Mathlib.Omega.{arith}
 use native.Mathlib.Numerals.{add-one}
-use borrow.Author.Tests.{eqb-true, eqb-false}
 use lib.Dec.{eqb}
-use lib.ListN.{length, set, getD, take, drop, length-take, drop-of-length-le}
+use lib.ListN.{length, set, getD, take, drop, drop-of-length-le}
 use lib.Seq.{sets, drop-cons}
-use Rattle.model.specs.Lists.{every}
 use Rattle.model.specs.Log.{Entry, upsert, delete, components}
 use Rattle.model.specs.Layout.Format.{bytesOf, concatMap, All}
-use Rattle.model.specs.Node.WellFormed.{component}
 use Rattle.shard.specs.View.{Columns, firsts, stretch, opOf, entryOf, logOf}
 use Rattle.shard.specs.Table.{rowsOf, zipped}
-use Rattle.shard.proofs.Columns.{look-at, op-deleted, op-set, log-length}
+use Rattle.shard.proofs.Columns.{log-length}
 use Rattle.shard.proofs.Firsts.{firsts-at}
 use Rattle.outgoing.specs.Sent.{Sendable}
-use Rattle.outgoing.proofs.OfEntry.{op-domain}
 use Rattle.storeimage.specs.Write.{Fits, RowFits, codeOf, idOf, numbersPut, vectorPut, entryPut, entriesPut, rowsPut}
-
-module _ (c : Columns) (n : ℕ) (s : Sendable c n) (i : ℕ) (h : i < n) where
-  pub parts-domain : every component (components (opOf c i)) ≡ true
-  parts-domain = ap (every component) (sym (look-at c n (i + 1) i refl h)) ∙ op-domain c n s i h
-
-  pub parts-short : length (components (opOf c i)) ≤ 32
-  unfolding stretch
-  parts-short = go (eqb (getD (c .codes) i 0) 1) refl
-    where
-      go : (b : Bool) → eqb (getD (c .codes) i 0) 1 ≡ b → length (components (opOf c i)) ≤ 32
-      go true e =
-          let q = eqb-true (getD (c .codes) i 0) 1 e in
-          let k : getD (c .lengths) i 0 ≤ 32 = s .room .short i h q in
-          rw (op-set c i q) (omega (arith, length-take (getD (c .lengths) i 0) (drop (i * 32) (c .floats))))
-      go false e = rw (op-deleted c i (eqb-false (getD (c .codes) i 0) 1 e)) (omega arith)
 
 pub numbers-put : (s : List ℕ) (base i e o d k m : ℕ)
     → set

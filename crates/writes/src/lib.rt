@@ -1,5 +1,5 @@
 // Write on one held shard with its lent store (paper 01, 'Who is turned down', Write; node.rs, write), past the checks of the message and of
-// the lent state: the header's decision, then the log and its vectors.
+// the lent state: the header's decision, then the log and its vectors. Definitions and laws.
 use node::Held;
 use serve::Admit;
 
