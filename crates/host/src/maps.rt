@@ -25,7 +25,7 @@ pub extern "C" fn catalogue_place(
 ) -> u32
     ensures { λ r. ⌜ Places (now (map .entry)) shards replication (now (lists .entry)) (now (lists .exit)) r ⌝ }
 {
-    mapcalls::place(map, shards, replication, lists)
+    placecalls::place(map, shards, replication, lists)
 }
 
 #[no_mangle]
@@ -37,5 +37,5 @@ pub extern "C" fn catalogue_replacement(
 ) -> u32
     ensures { λ r. ⌜ Replaces (now (map .entry)) (now (name .entry)) shard (now (answer .entry)) (now (answer .exit)) r ⌝ }
 {
-    mapcalls::replacement(map, name, shard, answer)
+    placecalls::replacement(map, name, shard, answer)
 }

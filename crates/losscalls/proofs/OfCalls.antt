@@ -1,17 +1,16 @@
 -- The answers of place_losses, case by case. Assumes nothing.
-use Prim.Native.Nat.{ℕ, _+_, _≤_, _<_}
+use Prim.Native.Nat.{ℕ, _+_, _*_, _≤_, _<_}
 use mathlib.Core.Path.{_≡_, refl, sym, ap, subst, _∙_}
 use mathlib.Core.Bool.{Bool, true, false, cond}
 use mathlib.Core.List.{List, [], _++_}
 use mathlib.Core.Option.{Option, none, some}
 use lib.ListN.{length, take, drop}
 use lib.Seq.{sets, sets-eq, take-append-seam}
-use lib.Dec.{leb}
 use borrow.Author.Tests.{lt-leb, le-leb}
 use native.Mathlib.Omega.{arith}
 use Rattle.model.specs.Lists.{_and_, find}
 use Rattle.model.specs.Keys.{Name}
-use Rattle.model.specs.Layout.Format.{bytesOf}
+use Rattle.model.specs.Layout.Format.{bytesOf, numberAt}
 use Rattle.model.specs.Refusals.{malformed}
 use Rattle.model.specs.Map.Tables.{Collection}
 use Rattle.model.specs.Map.Create.{isNamed}
@@ -19,22 +18,29 @@ use Rattle.model.specs.Map.WellFormed.{wellFormedMap}
 use Rattle.model.proofs.Lists.{not-both}
 use Rattle.losses.specs.Losses.{Loss, Losses, lost, notLost, losses, lossesIn, lossesOf, lossesCall}
 use Rattle.rpcw.specs.Written.{textFits}
-use Rattle.state.specs.View.{viewMap, viewSpec, viewCollections}
+use Rattle.state.specs.Find.{firstAt}
+use Rattle.state.specs.Names.{viewName}
+use Rattle.state.specs.View.{viewMap, viewSpec, viewCollection, viewCollections}
+use Rattle.state.specs.declared.Name as declared-name
+use Rattle.state.specs.declared.CollectionRow.{CollectionRow}
 use Rattle.state.specs.declared.ShardMap.{ShardMap}
 use Rattle.mapcheck.specs.Lent.{counted, wellFormedLent}
 use Rattle.placement.proofs.Answered.{refused-first, taken-first}
-use Rattle.mapimage.specs.Image.{mapAt, mapLent}
+use Rattle.mapimage.specs.Image.{noCollection, collectionsAt, mapAt, mapLent}
 use Rattle.asked.specs.Answer.{answerLent, numberPut}
 use Rattle.placement.specs.Read.{viewLoads}
 use Rattle.placement.specs.declared.Loads.{Loads}
 use Rattle.state.specs.declared.Spec as declared
 use Rattle.model.proofs.Map.WellFormed.{map-parts}
-use Rattle.mapcheck.proofs.Formed.{lent-formed}
-use Rattle.lossrows.specs.Left.{LiveLoads, lossesOn}
+use Rattle.mapcheck.proofs.Formed.{lent-formed, lent-tables}
+use Rattle.lossrows.specs.Left.{lossesOn}
 use Rattle.lossrows.proofs.OnLoads.{losses-on}
+use Rattle.maprows.specs.Rows.{collectionAt}
+use Rattle.placebytes.specs.Loads.{Live}
+use Rattle.placebytes.proofs.OfRows.{row-found, row-missed}
 use Rattle.losscalls.specs.declared.Put.{Put}
 use Rattle.losscalls.specs.Rows.{lossesBytes, PutsLosses}
-use Rattle.losscalls.specs.Calls.{roomFor, AnswersRows, AnswersLosses, Refuses, lossesLent, Loses}
+use Rattle.losscalls.specs.Calls.{roomFor, AnswersRows, AnswersLosses, lossesLent, Loses}
 
 -- ---- the two buffers
 
@@ -73,15 +79,15 @@ begins l t rows k e q h =
     ∙ take-append-seam rows (drop (0 + length rows) l)
 
 -- the rows by the loads are those of the definition
-pub losses-told : (m : ShardMap) (spec : declared.Spec) (loads : Loads) (put : Put) (l t : List ℕ) {s u a b : List ℕ} {r : ℕ} → wellFormedLent m ≡ true
-    → LiveLoads m loads → PutsLosses loads spec l t put → 33280 ≤ length l → AnswersRows (take (put .size) t) (put .rows) s u a b r
-    → AnswersRows (lossesBytes (lossesOf (viewMap m) (viewSpec spec))) (length (lossesOf (viewMap m) (viewSpec spec))) s u a b r
-losses-told m spec loads put l t {s} {u} {a} {b} {r} w live p long k =
-    let all : lossesOn (viewSpec spec) (viewLoads loads) ≡ lossesOf (viewMap m) (viewSpec spec) =
-    ap (lossesOn (viewSpec spec)) (live .loads) ∙ losses-on (viewMap m) (viewSpec spec) (map-parts (viewMap m) (lent-formed m w) .0 .1) in
-    let rows : take (put .size) t ≡ lossesBytes (lossesOf (viewMap m) (viewSpec spec)) =
+pub losses-told : (map : List ℕ) (spec : declared.Spec) (loads : Loads) (put : Put) (l t : List ℕ) {s u a b : List ℕ} {r : ℕ} → wellFormedLent (mapAt map) ≡ true
+    → Live map loads → PutsLosses loads spec l t put → 33280 ≤ length l → AnswersRows (take (put .size) t) (put .rows) s u a b r
+    → AnswersRows (lossesBytes (lossesOf (viewMap (mapAt map)) (viewSpec spec))) (length (lossesOf (viewMap (mapAt map)) (viewSpec spec))) s u a b r
+losses-told map spec loads put l t {s} {u} {a} {b} {r} w live p long k =
+    let all : lossesOn (viewSpec spec) (viewLoads loads) ≡ lossesOf (viewMap (mapAt map)) (viewSpec spec) =
+    ap (lossesOn (viewSpec spec)) (live .loads) ∙ losses-on (viewMap (mapAt map)) (viewSpec spec) (map-parts (viewMap (mapAt map)) (lent-formed (mapAt map) w) .0 .1) in
+    let rows : take (put .size) t ≡ lossesBytes (lossesOf (viewMap (mapAt map)) (viewSpec spec)) =
     begins l t _ (put .size) (p .bytes) (p .size) (omega (arith, p .most, long)) ∙ ap lossesBytes all in
-    subst (λ (n : ℕ). AnswersRows (lossesBytes (lossesOf (viewMap m) (viewSpec spec))) n s u a b r) (p .rows ∙ ap (λ (x : List Loss). length x) all)
+    subst (λ (n : ℕ). AnswersRows (lossesBytes (lossesOf (viewMap (mapAt map)) (viewSpec spec))) n s u a b r) (p .rows ∙ ap (λ (x : List Loss). length x) all)
     (subst (λ (x : List ℕ). AnswersRows x (put .rows) s u a b r) rows k)
 
 -- ---- the call
@@ -123,10 +129,35 @@ module _ (m name s a : List ℕ) where
       lent = λ _ e. not-both (mapLent m) e f;
     }
 
-    pub loses-lent : (x : ShardMap) (v : Losses) (t b : List ℕ) (r : ℕ) → mapLent m ≡ true → x ≡ mapAt m → lossesLent x name ≡ v
-        → AnswersLosses v s t a b r → Loses m name s t a b r
-    loses-lent x v t b r e q p k = record {
+    pub loses-lent : (v : Losses) (t b : List ℕ) (r : ℕ) → mapLent m ≡ true → lossesLent (mapAt m) name ≡ v → AnswersLosses v s t a b r
+        → Loses m name s t a b r
+    loses-lent v t b r e p k = record {
       unnamed = λ g. not-both (textFits 32 name) fits g;
       unlent = λ _ f. not-both (mapLent m) e f;
-      lent = λ _ _. subst (λ (y : Losses). AnswersLosses y s t a b r) (sym p ∙ ap (λ (z : ShardMap). lossesLent z name) q) k;
+      lent = λ _ _. subst (λ (y : Losses). AnswersLosses y s t a b r) (sym p) k;
     }
+
+    pub loses-malformed : mapLent m ≡ true → wellFormedLent (mapAt m) ≡ false → Loses m name s s a a 24
+    loses-malformed e w = loses-lent (notLost malformed) s a 24 e (lent-24 (mapAt m) name w) (record { number = refl; list = refl; answer = refl })
+
+-- ---- the collection of a name
+
+module _ (s : List ℕ) (e : wellFormedLent (mapAt s) ≡ true) where
+  pub few : numberAt 8 s 16 ≤ 16
+  unfolding mapAt
+  few = lent-tables (mapAt s) e .collections
+
+  module _ (name : Name) (k : declared-name.Name) (same : viewName k ≡ name) (at : ℕ) (is : at ≡ firstAt (isNamed (viewName k)) (viewCollections (collectionsAt s))) where
+    pub no-collection : numberAt 8 s 16 ≤ at → lossesLent (mapAt s) name ≡ lost []
+    unfolding mapAt
+    no-collection h =
+        lent-none (mapAt s) name e (viewName k) same
+        (row-missed 16 56 3112 (collectionAt s) noCollection (numberAt 8 s 16) viewCollection few (isNamed (viewName k)) at is h)
+
+    pub its-collection : (row : CollectionRow) → at < numberAt 8 s 16 → row ≡ collectionAt s (3112 + 56 * at)
+        → lossesLent (mapAt s) name ≡ lost (lossesOf (viewMap (mapAt s)) (viewSpec (row .spec)))
+    unfolding mapAt
+    its-collection row h q =
+        lent-some (mapAt s) name e (viewName k) same (viewCollection row)
+        (row-found 16 56 3112 (collectionAt s) noCollection (numberAt 8 s 16) viewCollection few (isNamed (viewName k)) at is h
+        ∙ ap (λ (r : CollectionRow). some (viewCollection r)) (sym q))

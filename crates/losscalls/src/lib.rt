@@ -6,6 +6,8 @@ ghost use mathlib.Core.List.{[]};
 ghost use Prim.Native.Nat.{_≤_};
 ghost use lib.ListN.{length, take};
 ghost use Rattle.mapcheck.specs.Lent.{wellFormedLent};
+ghost use Rattle.mapimage.specs.Image.{mapAt};
+ghost use Rattle.placebytes.specs.Loads.{Used};
 ghost use Rattle.state.specs.View.{viewMap, viewSpec};
 ghost use Rattle.losses.specs.Losses.{lossesOf};
 ghost use Rattle.losscalls.specs.Rows.{lossesBytes};
@@ -13,14 +15,17 @@ ghost use Rattle.losscalls.specs.Calls.{AnswersRows, Loses};
 use crate::rows::put_losses;
 use asked::answer::put_number;
 use asked::named::key_named;
-use lossrows::left::live_loads;
-use mapcheck::well_formed;
-use mapimage::read_map;
+use mapbytes::formed::is_formed;
+use mapbytes::layout::COLLECTION;
+use mapbytes::layout::COLLECTIONS;
+use mapbytes::layout::COLLECTIONS_USED;
+use mapbytes::lent::is_lent;
+use mapbytes::place::collection_place;
+use maprows::collections::collection_at;
+use placebytes::live::live_loads;
 use rpcput::put::put_bytes;
 use rpcw::fit::text_fits;
-use state::ShardMap;
 use state::Spec;
-use state::collection_table::collection_at;
 
 mod rows;
 
@@ -53,11 +58,11 @@ fn answer_none(list: &[u8], answer: &mut [u8]) -> u32
 }
 
 // Rows are made in a buffer of their own first: until all are there nobody knows whether the list has room for them.
-fn answer_losses(list: &mut [u8], answer: &mut [u8], m: ShardMap, spec: Spec) -> u32
-    requires { ⌜ wellFormedLent m ≡ true ⌝ }
-    ensures { λ r. ⌜ AnswersRows (lossesBytes (lossesOf (viewMap m) (viewSpec spec))) (length (lossesOf (viewMap m) (viewSpec spec))) (now (list .entry)) (now (list .exit)) (now (answer .entry)) (now (answer .exit)) r ⌝ }
+fn answer_losses(list: &mut [u8], answer: &mut [u8], map: &[u8], spec: Spec) -> u32
+    requires { ⌜ (Used (now map)) × (wellFormedLent (mapAt (now map)) ≡ true) ⌝ }
+    ensures { λ r. ⌜ AnswersRows (lossesBytes (lossesOf (viewMap (mapAt (now (map .entry)))) (viewSpec spec))) (length (lossesOf (viewMap (mapAt (now (map .entry)))) (viewSpec spec))) (now (list .entry)) (now (list .exit)) (now (answer .entry)) (now (answer .exit)) r ⌝ }
 {
-    let loads = live_loads(m);
+    let loads = live_loads(map);
     let mut rows = [0u8; 33280];
     let put = put_losses(&mut rows, loads, spec);
     answer_rows(list, answer, &rows, put)
@@ -71,22 +76,19 @@ pub fn place_losses(map: &[u8], name: &[u8], list: &mut [u8], answer: &mut [u8])
     if !text_fits(name, 32) {
         return 21;
     }
-    let lent = read_map(map);
-    if !lent.found {
+    if !is_lent(map) {
         return 24;
     }
-    let m = lent.map;
-    if !well_formed(m) {
+    if !is_formed(map) {
         return 24;
     }
     let key = key_named(name, 0);
-    let table = m.collections;
-    let at = collection_at(table, key.collection);
-    let count = table.count;
+    let count = num::get8(map, COLLECTIONS_USED) as usize;
+    let at = collection_place(map, count, key.collection);
     if count <= at {
         return answer_none(list, answer);
     }
-    let row = table.items[at];
+    let row = collection_at(map, COLLECTIONS + COLLECTION * at);
     let spec = row.spec;
-    answer_losses(list, answer, m, spec)
+    answer_losses(list, answer, map, spec)
 }

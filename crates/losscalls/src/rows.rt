@@ -43,8 +43,7 @@ pub fn put_losses(out: &mut [u8], loads: Loads, spec: Spec) -> Put
     let mut rows: u64 = 0;
     let mut i: usize = 0;
     while i < count {
-        let x = loads.items[i];
-        let id = x.node;
+        let id = DataNodeId(loads.ids[i]);
         let left = loads_without(loads, id);
         let then = place_on(left, spec);
         if same_answer(then, base) {

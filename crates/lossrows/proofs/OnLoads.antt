@@ -1,15 +1,22 @@
--- The list by the loads is the list of the definition, of a map whose node table rises. Assumes nothing.
-use Prim.Native.Nat.{ℕ}
+-- The list by the loads is the list of the definition, of a map whose node table rises; and the loads left without a node. Assumes nothing.
+use Prim.Native.Nat.{ℕ, _+_, _<_}
 use mathlib.Core.Path.{_≡_, refl, sym, ap, _∙_}
 use mathlib.Core.Bool.{Bool, true, false, cond, not}
 use mathlib.Core.List.{List, [], _∷_, map}
+use lib.ListN.{length, take, getD, set}
+use borrow.Author.Tests.{eq-eqb, ne-eqb}
+use native.Mathlib.Omega.{arith}
 use Rattle.model.specs.Lists.{_and_, collect, filter, rising}
 use Rattle.model.specs.Map.Tables.{NodeInfo, Spec, Map}
 use Rattle.model.specs.Map.Apply.{nodeBelow}
 use Rattle.model.specs.Map.Place.{Load, isLoad, replicasOf, loadsOf, placeOn, place}
-use Rattle.losses.specs.Losses.{Loss, markedDead, samePlaced, lossOf, matters, lossesOf}
+use Rattle.losses.specs.Losses.{Loss, samePlaced, lossOf, matters, lossesOf}
 use Rattle.losses.specs.Loads.{liveLoads}
 use Rattle.losses.proofs.Loads.{dead-loads}
+use Rattle.placement.specs.Read.{viewLoad, loadOf, pairs, loadsIn, Columns}
+use Rattle.placement.specs.declared.Load as code
+use Rattle.placement.proofs.Collecting.{collect-on, collect-past}
+use Rattle.placement.proofs.Pairs.{noLoad, in-pairs, row-is, pairs-long, pairs-set}
 use Rattle.lossrows.specs.Left.{lossOn, mattersOn, lossesOn}
 
 -- the loads of the other nodes
@@ -56,3 +63,23 @@ module _ (m : Map) (spec : Spec) (formed : rising nodeBelow (m .nodes) ≡ true)
   losses-on =
       collect-twice (λ (i : NodeInfo). i .alive) loaded (mattersOn spec (liveLoads m)) (lossOn spec (liveLoads m)) (m .nodes)
       ∙ collect-alike _ _ _ _ matters-on then-on (m .nodes)
+
+-- ---- the loads left so far, of two arrays
+
+module _ (xs ys ids counts : List ℕ) (m n i node : ℕ) (k : Columns xs ys m) (c : Columns ids counts n) (h : i < m)
+    (inv : loadsIn ids counts n ≡ collect (others node) (λ (x : Load). x) (loadsIn xs ys i)) where
+  fits : i < length (pairs xs ys)
+  fits = let q = in-pairs xs ys m k in omega arith
+
+  pub left-past : getD xs i 0 ≡ node → loadsIn ids counts n ≡ collect (others node) (λ (x : Load). x) (loadsIn xs ys (i + 1))
+  left-past e =
+      collect-past viewLoad viewLoad (others node) (λ (x : Load). x) (pairs xs ys) (pairs ids counts) n i noLoad fits inv
+      (ap (others node) (row-is xs ys m k i h) ∙ ap not (eq-eqb (getD xs i 0) node e))
+
+  pub left-take : n < 32 → (getD xs i 0 ≡ node → ⊥)
+      → loadsIn (set ids n (getD xs i 0)) (set counts n (getD ys i 0)) (n + 1) ≡ collect (others node) (λ (x : Load). x) (loadsIn xs ys (i + 1))
+  left-take room ne =
+      ap (λ (l : List code.Load). map viewLoad (take (n + 1) l)) (pairs-set ids counts n (getD xs i 0) (getD ys i 0))
+      ∙ collect-on viewLoad viewLoad (others node) (λ (x : Load). x) (pairs xs ys) (pairs ids counts) n i noLoad fits inv (loadOf (getD xs i 0) (getD ys i 0))
+      (let q = pairs-long ids counts (c .named ∙ sym (c .counted)) in omega (arith, c .named))
+      (ap (others node) (row-is xs ys m k i h) ∙ ap not (ne-eqb (getD xs i 0) node ne)) (sym (row-is xs ys m k i h))

@@ -10,10 +10,8 @@ use Rattle.model.specs.Map.Tables.{Spec}
 use Rattle.model.specs.Map.Place as place
 use Rattle.model.specs.Map.Place.{placeOn}
 use Rattle.losses.specs.Losses.{Loss, samePlaced}
-use Rattle.losses.specs.Loads.{liveLoads, withoutLoad}
-use Rattle.state.specs.View.{viewMap}
-use Rattle.state.specs.declared.ShardMap.{ShardMap}
-use Rattle.placement.specs.Read.{viewLoads, Light}
+use Rattle.losses.specs.Loads.{withoutLoad}
+use Rattle.placement.specs.Read.{viewLoads}
 use Rattle.placement.specs.declared.Loads.{Loads}
 
 -- the answer without a node
@@ -27,14 +25,7 @@ mattersOn spec l x = not (samePlaced (lossOn spec l x .then) (placeOn spec l))
 unfoldable pub lossesOn : Spec → List place.Load → List Loss
 lossesOn spec l = collect (mattersOn spec l) (lossOn spec l) l
 
--- the loads of a map's live nodes
-pub record LiveLoads (m : ShardMap) (r : Loads) : Type 0 where
-  pub loads : viewLoads r ≡ liveLoads (viewMap m)
-  pub size : length (viewLoads r) ≡ r .count
-  pub count : r .count ≤ 32
-  pub light : Light 512 (viewLoads r)
-
--- those without a node
+-- the loads without a node
 pub record Left (l : Loads) (n : ℕ) (r : Loads) : Type 0 where
   pub loads : viewLoads r ≡ withoutLoad n (viewLoads l)
   pub size : length (viewLoads r) ≡ r .count

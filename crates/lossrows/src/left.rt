@@ -1,23 +1,8 @@
-// Internal: the loads of the live nodes, and those that are left without one of them.
-ghost use mathlib.Core.Path.{_≡_};
-ghost use mathlib.Core.Bool.{true};
+// Internal: the loads that are left without one of the nodes.
 ghost use Prim.Native.Nat.{_≤_};
-ghost use Rattle.mapcheck.specs.Lent.{wellFormedLent};
-ghost use Rattle.lossrows.specs.Left.{LiveLoads, Left};
+ghost use Rattle.lossrows.specs.Left.{Left};
 use model::DataNodeId;
-use placement::Load;
 use placement::Loads;
-use placement::counting::loads_of;
-use placement::counting::no_holders;
-use state::ShardMap;
-
-// Internal: of a well-formed map.
-pub fn live_loads(m: ShardMap) -> Loads
-    requires { ⌜ wellFormedLent m ≡ true ⌝ }
-    ensures { λ r. ⌜ LiveLoads m r ⌝ }
-{
-    loads_of(m.nodes, no_holders(), m.shards)
-}
 
 // Internal: without the node.
 pub fn loads_without(l: Loads, node: DataNodeId) -> Loads
@@ -25,21 +10,25 @@ pub fn loads_without(l: Loads, node: DataNodeId) -> Loads
     ensures { λ r. ⌜ Left l (node .0) r ⌝ }
 {
     let count = l.count;
-    let mut items = l.items;
+    let mut ids = l.ids;
+    let mut counts = l.counts;
     let mut n: usize = 0;
     let mut i: usize = 0;
     while i < count {
-        let x = l.items[i];
-        if x.node.0 == node.0 {
+        let id = l.ids[i];
+        let load = l.counts[i];
+        if id == node.0 {
             i += 1;
         } else {
-            items[n] = x;
+            ids[n] = id;
+            counts[n] = load;
             n += 1;
             i += 1;
         }
     }
     Loads {
-        items: items,
+        ids: ids,
+        counts: counts,
         count: n,
     }
 }

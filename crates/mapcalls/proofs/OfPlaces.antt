@@ -7,7 +7,7 @@ use lib.ListN.{length}
 use lib.Dec.{ltb}
 use lib.Seq.{sets}
 use borrow.Author.Tests.{lt-ltb, le-ltb, lt-leb, le-leb}
-use Rattle.model.specs.Refusals.{Refusal, numberOf}
+use Rattle.model.specs.Refusals.{Refusal, malformed, numberOf}
 use Rattle.model.specs.Map.Place as place
 use Rattle.model.specs.Map.Place.{nobody, replacedBy, notReplaced, Placed, placedOn, notPlaced}
 use Rattle.model.proofs.Lists.{not-both}
@@ -15,11 +15,11 @@ use Rattle.rpcw.specs.Written.{textFits, keyGiven}
 use Rattle.state.specs.Names.{viewKey}
 use Rattle.state.specs.declared.Placement.{Placement}
 use Rattle.state.specs.declared.ShardKey.{ShardKey}
-use Rattle.state.specs.declared.ShardMap.{ShardMap}
-use Rattle.placement.specs.Answers.{placedAs, placedOf, placeLent, replacedOf, replacementLent}
-use Rattle.placement.specs.declared.PlaceAnswer.{PlaceAnswer}
+use Rattle.mapcheck.specs.Lent.{wellFormedLent}
+use Rattle.placement.specs.Answers.{placedAs, placeLent, replacedOf, replacementLent}
 use Rattle.placement.specs.declared.Placing.{Placing}
 use Rattle.placement.specs.declared.Replaced.{Replaced}
+use Rattle.placement.proofs.Answered.{place-24, replace-24}
 use Rattle.mapimage.specs.Image.{mapAt, mapLent}
 use Rattle.asked.specs.Answer.{answerLent, numberPut}
 use Rattle.mapcalls.specs.Places.{listsBytes, AnswersLists, AnswersNode, specGiven, Places, Replaces}
@@ -82,13 +82,16 @@ module _ (m : List ℕ) (shards replication : ℕ) (s : List ℕ) where
     laid = placed-laid (mapAt m) (specGiven shards replication);
   }
 
-  pub place-lent : (x : ShardMap) (a : PlaceAnswer) (t : List ℕ) (r : ℕ) → mapLent m ≡ true → x ≡ mapAt m
-      → placedOf a ≡ placeLent x (specGiven shards replication) → AnswersLists (placedOf a) s t r → Places m shards replication s t r
-  place-lent x a t r e q p k = record {
+  pub place-lent : (x : Placed) (t : List ℕ) (r : ℕ) → mapLent m ≡ true → x ≡ placeLent (mapAt m) (specGiven shards replication) → AnswersLists x s t r
+      → Places m shards replication s t r
+  place-lent x t r e p k = record {
     unlent = λ f. not-both (mapLent m) e f;
-    lent = λ _. subst (λ (y : Placed). AnswersLists y s t r) (p ∙ ap (λ (z : ShardMap). placeLent z (specGiven shards replication)) q) k;
+    lent = λ _. subst (λ (y : Placed). AnswersLists y s t r) p k;
     laid = placed-laid (mapAt m) (specGiven shards replication);
   }
+
+  pub place-malformed : mapLent m ≡ true → wellFormedLent (mapAt m) ≡ false → Places m shards replication s s 24
+  place-malformed e w = place-lent (notPlaced malformed) s 24 e (sym (place-24 (mapAt m) (specGiven shards replication) w)) (lists-refused s malformed 24 refl)
 
 module _ (m name : List ℕ) (shard : ℕ) (s : List ℕ) where
   pub replace-unnamed : textFits 32 name ≡ false → Replaces m name shard s s 21
@@ -106,14 +109,14 @@ module _ (m name : List ℕ) (shard : ℕ) (s : List ℕ) where
       lent = λ _ e. not-both (mapLent m) e f;
     }
 
-    pub replace-lent : (x : ShardMap) (k : ShardKey) (a : Replaced) (t : List ℕ) (r : ℕ) → mapLent m ≡ true → x ≡ mapAt m
-        → viewKey k ≡ keyGiven name shard → replacedOf a ≡ replacementLent x k → AnswersNode (replacedOf a) s t r → Replaces m name shard s t r
-    replace-lent x k a t r e q v p n = record {
+    pub replace-lent : (k : ShardKey) (x : place.Replaced) (t : List ℕ) (r : ℕ) → mapLent m ≡ true → viewKey k ≡ keyGiven name shard
+        → x ≡ replacementLent (mapAt m) k → AnswersNode x s t r → Replaces m name shard s t r
+    replace-lent k x t r e v p n = record {
       unnamed = λ g. not-both (textFits 32 name) fits g;
       unlent = λ _ f. not-both (mapLent m) e f;
-      lent = λ _ _. record {
-        key = k;
-        named = v;
-        answer = subst (λ (y : place.Replaced). AnswersNode y s t r) (p ∙ ap (λ (z : ShardMap). replacementLent z k) q) n;
-      };
+      lent = λ _ _. record { key = k; named = v; answer = subst (λ (y : place.Replaced). AnswersNode y s t r) p n };
     }
+
+    pub replace-malformed : (k : ShardKey) → mapLent m ≡ true → viewKey k ≡ keyGiven name shard → wellFormedLent (mapAt m) ≡ false
+        → Replaces m name shard s s 24
+    replace-malformed k e v w = replace-lent k (notReplaced malformed) s 24 e v (sym (replace-24 (mapAt m) k w)) (node-refused s malformed 24 refl)

@@ -1,26 +1,20 @@
 // The calls on a shard map as a host makes them: the map is a byte image that the host owns (docs/IMAGES.md), a request is bytes. A call
-// answers a number; a refused one leaves every byte as it was. What an answer says stands in specs/Calls.antt and specs/Places.antt.
+// answers a number; a refused one leaves every byte as it was. What an answer says stands in specs/Calls.antt. place and replacement are crate
+// `placecalls`: their answers as bytes, and what these say, are here (specs/Places.antt).
 ghost use mathlib.Core.Path.{_≡_};
 ghost use Prim.Native.Nat.{_≤_};
 ghost use lib.ListN.{length};
 ghost use Rattle.model.specs.Map.Tables.{emptyMap};
 ghost use Rattle.mapimage.specs.Image.{mapStored};
 ghost use Rattle.mapcalls.specs.Calls.{AppliesTo, Empties, unlentNumber};
-ghost use Rattle.mapcalls.specs.Places.{Places, Replaces};
-use crate::lists::answer_lists;
 use crate::numbers::verdict_number;
-use crate::replaced::answer_node;
-use asked::named::key_named;
 use mapimage::read_map;
 use mapimage::write_map;
-use model::Metric;
 use rpc::Message;
-use rpcw::fit::text_fits;
-use state::Spec;
 
 pub mod lists;
 pub mod numbers;
-mod replaced;
+pub mod replaced;
 
 // Version and counts of a map without rows.
 fn put_empty(map: &mut [u8])
@@ -75,39 +69,4 @@ pub fn apply(map: &mut [u8], request: &[u8]) -> u32
     }
     write_map(map, settled.map);
     number
-}
-
-// Where the replicas of new shards go. 0: `shards` lists of `replication` nodes stand in `lists`, 8 bytes for each node, a list behind the
-// other; 1 none; 23, 24.
-pub fn place(map: &[u8], shards: u32, replication: u32, lists: &mut [u8]) -> u32
-    ensures { λ r. ⌜ Places (now (map .entry)) shards replication (now (lists .entry)) (now (lists .exit)) r ⌝ }
-{
-    let lent = read_map(map);
-    if !lent.found {
-        return 24;
-    }
-    let spec = Spec {
-        dimension: 0,
-        metric: Metric::Euclidean,
-        shards: shards,
-        replication: replication,
-    };
-    let placed = placement::place(lent.map, spec);
-    answer_lists(lists, placed)
-}
-
-// Which node takes a replica of a shard next. 0: its id stands in the first 8 bytes of `answer`; 1 none; 21 the name, 23, 24.
-pub fn replacement(map: &[u8], name: &[u8], shard: u32, answer: &mut [u8]) -> u32
-    ensures { λ r. ⌜ Replaces (now (map .entry)) (now (name .entry)) shard (now (answer .entry)) (now (answer .exit)) r ⌝ }
-{
-    if !text_fits(name, 32) {
-        return 21;
-    }
-    let lent = read_map(map);
-    if !lent.found {
-        return 24;
-    }
-    let key = key_named(name, shard);
-    let found = placement::replacement(lent.map, key);
-    answer_node(answer, found)
 }

@@ -1,33 +1,30 @@
 -- Laws of the answers: 24 first, then the order in which place decides. Assumes nothing.
 use mathlib.Core.Path.{_≡_, refl, sym, ap, _∙_}
-use mathlib.Core.Bool.{Bool, true, false, cond, not}
+use mathlib.Core.Bool.{Bool, true, false, cond}
 use mathlib.Core.List.{List, []}
-use mathlib.Core.Option.{Option, none, some}
+use mathlib.Core.Option.{Option, none}
 use Prim.Native.Nat.{ℕ, _≤_, _<_}
 use native.Mathlib.Omega.{arith}
-use lib.ListN.{length, take}
-use lib.Dec.{ltb}
+use lib.ListN.{length}
 use borrow.Author.Tests.{lt-ltb, le-ltb}
-use Rattle.model.specs.Lists.{_and_, _or_, any, filter}
+use Rattle.model.specs.Lists.{_and_, _or_, any}
 use Rattle.model.specs.Refusals.{malformed, noRoom}
 use Rattle.model.specs.Map.Tables.{NodeInfo, Spec, ShardInfo}
 use Rattle.model.specs.Map.Change.{holds}
 use Rattle.model.specs.Map.Apply.{shardAt}
 use Rattle.model.specs.Map.Place as place
-use Rattle.model.specs.Map.Place.{Load, Placed, nowhere, placedOn, notPlaced, placeOn, placeShards, loadsOf, Replaced, notReplaced, replacedWith, replaceIn, lightest}
+use Rattle.model.specs.Map.Place.{Load, nowhere, placedOn, notPlaced, placeOn, placeShards, loadsOf, notReplaced, replaceIn}
 use Rattle.model.specs.Map.Calls.{placeCall, replacementCall}
 use Rattle.model.specs.Map.WellFormed.{wellFormedMap}
-use Rattle.model.specs.declared.Replica.{Replica}
 use Rattle.state.specs.Names.{viewKey}
-use Rattle.state.specs.View.{viewMap, viewSpec, viewNodes, viewShards, viewHolders}
-use Rattle.state.specs.declared.Holders.{Holders}
+use Rattle.state.specs.View.{viewMap, viewSpec, viewNodes, viewShards}
 use Rattle.state.specs.declared.ShardKey.{ShardKey}
 use Rattle.state.specs.declared.ShardMap.{ShardMap}
 use Rattle.state.specs.declared.Spec as spec
 use Rattle.mapcheck.specs.Lent.{counted, wellFormedLent}
 use Rattle.placement.specs.Answers.{placeLent, replacementLent}
-use Rattle.placement.specs.Read.{mayTake, freeLoads, unlisted}
-use Rattle.placement.proofs.Collecting.{collect-same, filter-all}
+use Rattle.placement.specs.Read.{mayTake, freeLoads}
+use Rattle.placement.proofs.Collecting.{collect-same}
 
 -- ---- 24
 
@@ -64,11 +61,6 @@ module _ (m : ShardMap) (s : spec.Spec) where
   unfolding placeLent placeCall wellFormedLent place.place
   place-on e = taken-first _ _ (counted m) (wellFormedMap (viewMap m)) e ∙ ap (placeOn (viewSpec s)) (sym (live-loads m))
 
-  pub place-loads : (l : List Load) → wellFormedLent m ≡ true → (rs : List Replica) → rs ≡ []
-      → l ≡ freeLoads rs (viewShards (m .shards)) (viewNodes (m .nodes)) → placeLent m s ≡ placeOn (viewSpec s) l
-  place-loads l e rs n q =
-      place-on e ∙ ap (placeOn (viewSpec s)) (sym (q ∙ ap (λ (h : List Replica). freeLoads h (viewShards (m .shards)) (viewNodes (m .nodes))) n))
-
 module _ (m : ShardMap) (k : ShardKey) where
   pub replace-24 : wellFormedLent m ≡ false → replacementLent m k ≡ notReplaced malformed
   unfolding replacementLent replacementCall wellFormedLent
@@ -78,10 +70,6 @@ module _ (m : ShardMap) (k : ShardKey) where
       → replacementLent m k ≡ replaceIn (viewMap m) o
   unfolding replacementLent replacementCall wellFormedLent place.replacement
   replace-on e o q = taken-first _ _ (counted m) (wellFormedMap (viewMap m)) e ∙ ap (replaceIn (viewMap m)) q
-
--- nobody holds anything
-pub nobody : (h : Holders) → h .count ≡ 0 → viewHolders h ≡ []
-nobody h e = ap (λ (k : ℕ). take k (h .items)) e
 
 -- ---- none, then 23, then a placement
 
@@ -103,21 +91,3 @@ module _ (s : Spec) (l : List Load) where
       pub placed-on : s .replication ≤ 8 → placeOn s l ≡ placedOn (placeShards (s .shards) (s .replication) l)
       unfolding placeOn _or_
       placed-on h = rw (le-ltb (length l) (s .replication) enough, le-ltb 16 (s .shards) fits, le-ltb 8 (s .replication) h)
-
--- ---- a replacement
-
--- no node is listed yet
-pub none-listed : (l : List Load) → filter (unlisted []) l ≡ l
-unfolding any
-none-listed l = filter-all (unlisted []) (λ x. refl) l
-
-replaced-from : (m : ShardMap) (s : ShardInfo) → replaceIn (viewMap m) (some s) ≡ replacedWith (lightest (freeLoads (s .replicas) (viewShards (m .shards)) (viewNodes (m .nodes))))
-unfolding replaceIn loadsOf
-replaced-from m s = refl
-
-pub replace-as : (m : ShardMap) (k : ShardKey) (s : ShardInfo) (l : List Load) (ns : List ℕ) (o : Option Load) → wellFormedLent m ≡ true
-    → shardAt (viewShards (m .shards)) (viewKey k) ≡ some s → l ≡ freeLoads (s .replicas) (viewShards (m .shards)) (viewNodes (m .nodes)) → ns ≡ []
-    → o ≡ lightest (filter (unlisted ns) l) → replacementLent m k ≡ replacedWith o
-replace-as m k s l ns o e q f n p =
-    replace-on m k e (some s) q ∙ replaced-from m s
-    ∙ ap replacedWith (ap lightest (sym f ∙ sym (none-listed l) ∙ ap (λ (z : List ℕ). filter (unlisted z) l) (sym n)) ∙ sym p)

@@ -1,20 +1,22 @@
 -- Laws of choosing the lightest node, and of choosing for each replica and each shard in turn. Assumes nothing.
 use mathlib.Core.Path.{_≡_, refl, sym, ap, _∙_}
-use mathlib.Core.Bool.{Bool, true, false, cond, not}
+use mathlib.Core.Bool.{Bool, true, false}
 use mathlib.Core.List.{List, [], _∷_, _++_, map}
 use mathlib.Core.Option.{Option, none, some}
 use Prim.Native.Nat.{ℕ, suc, _+_, _-_, _≤_, _<_}
 use native.Mathlib.Omega.{arith}
-use lib.ListN.{length, take, drop, getD, drop-of-length-le}
+use lib.ListN.{length, take, drop, set, drop-of-length-le}
 use lib.Seq.{append-snoc}
-use lib.Dec.{eqb, ltb}
+use lib.Dec.{ltb}
 use borrow.Author.Tests.{lt-ltb, le-ltb, eq-eqb, ne-eqb}
 use Rattle.model.specs.Lists.{_and_, _or_, filter}
 use Rattle.model.specs.Map.Apply.{update}
 use Rattle.model.specs.Map.Place.{Load, lighter, lightest, lightestFrom, isLoad, raised, Round, chosenOf, chooseNode, chooseNodes, placeShards}
+use Rattle.state.specs.View.{viewList}
+use Rattle.state.specs.declared.NodeList.{NodeList}
 use Rattle.state.proofs.Tables.{used-size}
 use Rattle.placement.specs.Read.{better, unlisted}
-use Rattle.placement.proofs.Collecting.{used-drop}
+use Rattle.placement.proofs.Collecting.{map-add}
 
 -- ---- the lighter of two
 
@@ -37,31 +39,18 @@ abbrev pub lightestAfter : Option Load → List Load → Option Load
 lightestAfter none l = lightest l
 lightestAfter (some x) l = some (lightestFrom x l)
 
-after-next : (o : Option Load) (y : Load) (l : List Load) → lightestAfter o (y ∷ l) ≡ lightestAfter (some (better o y)) l
+pub after-next : (o : Option Load) (y : Load) (l : List Load) → lightestAfter o (y ∷ l) ≡ lightestAfter (some (better o y)) l
 unfolding lightest lightestFrom
 after-next none y l = refl
 after-next (some x) y l = refl
 
-after-end : (o : Option Load) → lightestAfter o [] ≡ o
+pub after-end : (o : Option Load) → lightestAfter o [] ≡ o
 unfolding lightest lightestFrom
 after-end none = refl
 after-end (some x) = refl
 
 module _ {A : Type 0} (v : A → Load) (p : Load → Bool) (xs : List A) (n : ℕ) (le : n ≤ length xs) (i : ℕ) (o : Option Load) (t : Option Load)
     (inv : t ≡ lightestAfter o (filter p (drop i (map v (take n xs))))) where
-  open-pick : (d : A) → i < n
-      → filter p (drop i (map v (take n xs)))
-      ≡ cond (p (v (getD xs i d))) (v (getD xs i d) ∷ filter p (drop (i + 1) (map v (take n xs)))) (filter p (drop (i + 1) (map v (take n xs))))
-  unfolding filter
-  open-pick d h = rw (used-drop v xs n le i d h)
-
-  pub pick-on : (d : A) → i < n → p (v (getD xs i d)) ≡ true
-      → t ≡ lightestAfter (some (better o (v (getD xs i d)))) (filter p (drop (i + 1) (map v (take n xs))))
-  pick-on d h e = inv ∙ ap (lightestAfter o) (open-pick d h ∙ rw e) ∙ after-next o (v (getD xs i d)) _
-
-  pub pick-past : (d : A) → i < n → p (v (getD xs i d)) ≡ false → t ≡ lightestAfter o (filter p (drop (i + 1) (map v (take n xs))))
-  pick-past d h e = inv ∙ ap (lightestAfter o) (open-pick d h ∙ rw e)
-
   pub pick-end : n ≤ i → o ≡ t
   unfolding filter
   pick-end h =
@@ -90,10 +79,18 @@ unfolding chooseNodes
 chooses-end n i r h = let q : n - i ≡ 0 = omega arith in rw q
 
 -- one shard more has its list
-pub lists-next : (s i k : ℕ) (l : List Load) (before : List (List ℕ)) (r : Round) → i < s → r ≡ chooseNodes k (record { loads = l; nodes = [] })
+lists-next : (s i k : ℕ) (l : List Load) (before : List (List ℕ)) (r : Round) → i < s → r ≡ chooseNodes k (record { loads = l; nodes = [] })
     → before ++ placeShards (s - i) k l ≡ (before ++ (r .nodes ∷ [])) ++ placeShards (s - (i + 1)) k (r .loads)
 unfolding placeShards
 lists-next s i k l before r h e = let q : s - i ≡ suc (s - (i + 1)) = omega arith in rw (q, ← e, append-snoc)
+
+-- and stands in the array of lists
+pub placed-next : (s i k : ℕ) (l : List Load) (lists : List NodeList) (list : NodeList) (after : List Load) → i < s → i < length lists
+    → record { loads = after; nodes = viewList list } ≡ chooseNodes k (record { loads = l; nodes = [] })
+    → map viewList (take i lists) ++ placeShards (s - i) k l ≡ map viewList (take (i + 1) (set lists i list)) ++ placeShards (s - (i + 1)) k after
+placed-next s i k l lists list after h room e =
+    lists-next s i k l (map viewList (take i lists)) (record { loads = after; nodes = viewList list }) h e
+    ∙ ap (λ (b : List (List ℕ)). b ++ placeShards (s - (i + 1)) k after) (sym (map-add viewList lists i list room))
 
 pub lists-end : (s i k : ℕ) (l : List Load) (before : List (List ℕ)) → s ≤ i → before ++ placeShards (s - i) k l ≡ before
 unfolding placeShards

@@ -1,12 +1,12 @@
 -- Laws of collecting rows into an array, over any rows. Assumes nothing.
 use mathlib.Core.Path.{_≡_, refl, sym, ap, _∙_}
-use mathlib.Core.Bool.{Bool, true, false, cond, not}
+use mathlib.Core.Bool.{Bool, true, false, cond}
 use mathlib.Core.List.{List, [], _∷_, _++_, map}
-use Prim.Native.Nat.{ℕ, suc, _+_, _≤_, _<_}
+use Prim.Native.Nat.{ℕ, _+_, _≤_, _<_}
 use native.Mathlib.Numerals.{add-one}
 use lib.ListN.{length, take, drop, getD, set}
 use lib.Seq.{take-suc, drop-cons}
-use Rattle.model.specs.Lists.{every, any, filter, collect}
+use Rattle.model.specs.Lists.{every, any, collect}
 use Rattle.model.proofs.Lists.{by-test}
 use Rattle.state.proofs.Tables.{add-row, every-at, used-size, used-row}
 
@@ -18,15 +18,6 @@ map-append {B = B} v (y ∷ ys) m = ap (λ (w : List B). v y ∷ w) (map-append 
 pub map-add {ℓ κ} : {A : Type ℓ} {B : Type κ} (v : A → B) (xs : List A) (n : ℕ) (y : A) → n < length xs
     → map v (take (n + 1) (set xs n y)) ≡ map v (take n xs) ++ (v y ∷ [])
 map-add v xs n y h = ap (map v) (add-row xs n y h) ∙ map-append v (take n xs) (y ∷ [])
-
--- one row more, changed by g
-pub map-next {ℓ κ} : {A : Type ℓ} {B : Type κ} (v : A → B) (g : B → B) (xs out : List A) (i : ℕ) (d y : A) → i < length xs → i < length out
-    → map v (take i out) ≡ map g (map v (take i xs)) → v y ≡ g (v (getD xs i d))
-    → map v (take (i + 1) (set out i y)) ≡ map g (map v (take (i + 1) xs))
-map-next {A = A} {B = B} v g xs out i d y h k inv q =
-    map-add v out i y k ∙ ap (λ (l : List B). l ++ (v y ∷ [])) inv ∙ ap (λ (z : B). map g (map v (take i xs)) ++ (z ∷ [])) q
-    ∙ sym (ap (λ (l : List A). map g (map v l)) (ap (λ (j : ℕ). take j xs) (add-one i) ∙ take-suc xs i d h)
-    ∙ ap (map g) (map-append v (take i xs) (getD xs i d ∷ [])) ∙ map-append g (map v (take i xs)) (v (getD xs i d) ∷ []))
 
 -- the row at a place, and those after it
 pub used-drop {ℓ κ} : {A : Type ℓ} {B : Type κ} (v : A → B) (xs : List A) (n : ℕ) (le : n ≤ length xs) (i : ℕ) (d : A) → i < n
@@ -42,11 +33,6 @@ pub any-map {ℓ κ} : {A : Type ℓ} {B : Type κ} (v : A → B) (p : B → Boo
 unfolding any
 any-map v p [] = refl
 any-map v p (y ∷ ys) = ap (λ (t : Bool). cond (p (v y)) true t) (any-map v p ys)
-
-pub filter-all {ℓ} : {A : Type ℓ} (p : A → Bool) → ((x : A) → p x ≡ true) → (l : List A) → filter p l ≡ l
-unfolding filter
-filter-all p h [] = refl
-filter-all {A = A} p h (y ∷ ys) = rw (h y) (ap (λ (w : List A). y ∷ w) (filter-all p h ys))
 
 -- every row in use passes, so each does
 pub used-at {ℓ κ} : {A : Type ℓ} {B : Type κ} (v : A → B) (p : B → Bool) (xs : List A) (n i : ℕ) (d : A) → n ≤ length xs
@@ -74,13 +60,6 @@ module _ {ℓ κ} {A : Type ℓ} {B : Type κ} where
   unfolding collect
   collect-same p q f g s t [] = refl
   collect-same p q f g s t (y ∷ ys) = rw (s y, t y, collect-same p q f g s t ys)
-
-  pub every-collect : (row : B → Bool) (p : A → Bool) (f : A → B) → ((x : A) → row (f x) ≡ true) → (l : List A) → every row (collect p f l) ≡ true
-  unfolding collect every
-  every-collect row p f h [] = refl
-  every-collect row p f h (y ∷ ys) =
-      let more = every-collect row p f h ys in
-      by-test (λ (v : List B). every row v ≡ true) (p y) (λ e. rw (h y) more) (λ e. more)
 
 pub map-collect {ℓ κ} : {A : Type ℓ} {B C : Type κ} (p : A → Bool) (f : A → B) (g : B → C) (l : List A) → map g (collect p f l) ≡ collect p (λ x. g (f x)) l
 unfolding collect

@@ -1,4 +1,5 @@
 pub mod Collecting
 pub mod Weighing
 pub mod Choosing
+pub mod Pairs
 pub mod Answered

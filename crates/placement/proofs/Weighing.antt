@@ -1,25 +1,23 @@
--- Laws of counting replicas: shard by shard, and how many there can be. Assumes nothing.
-use mathlib.Core.Path.{_≡_, refl, sym, ap, _∙_}
+-- Laws of counting the replicas of a shard, and how many a node can have. Assumes nothing.
+use mathlib.Core.Path.{_≡_, refl, _∙_}
 use mathlib.Core.Bool.{Bool, true, false, cond, not}
-use mathlib.Core.List.{List, [], _∷_, map}
+use mathlib.Core.List.{List, [], _∷_}
 use mathlib.Core.Option.{Option, none, some}
 use Prim.Native.Nat.{ℕ, zero, suc, _+_, _≤_, _<_}
 use native.Mathlib.Numerals.{add-one}
 use native.Mathlib.Omega.{arith}
-use lib.ListN.{length, take, drop, getD, length-take, drop-of-length-le}
+use lib.ListN.{length, take, drop, getD, drop-of-length-le}
 use lib.Seq.{drop-cons, getD-take, length-take-le}
 use lib.Dec.{leb}
 use borrow.Author.Tests.{le-leb, leb-true}
-use Rattle.model.specs.Lists.{_and_, every, filter, collect}
-use Rattle.model.specs.Map.Tables.{NodeInfo, ShardInfo}
+use Rattle.model.specs.Lists.{every, filter}
 use Rattle.model.specs.Map.Change.{isOn}
 use Rattle.model.specs.Map.Apply.{update}
-use Rattle.model.specs.Map.Place.{Load, onNode, replicasOf, isLoad, isListed, raised, Round, chosenOf, chooseNode, chooseNodes, lightest}
+use Rattle.model.specs.Map.Place.{Load, onNode, isLoad, isListed, raised, Round, chosenOf, chooseNode, chooseNodes, lightest}
 use Rattle.model.specs.declared.Replica.{Replica}
 use Rattle.model.proofs.Lists.{by-test}
-use Rattle.model.proofs.Map.Rows.{every-tail, every-cons, every-to, length-filter}
-use Rattle.placement.specs.Read.{Light, mayTake, unloaded, withShard, withShards, freeLoads}
-use Rattle.placement.proofs.Collecting.{map-collect, collect-same, every-collect}
+use Rattle.model.proofs.Map.Rows.{every-tail, every-cons, every-to}
+use Rattle.placement.specs.Read.{Light}
 
 -- ---- the replicas of one shard
 
@@ -31,10 +29,6 @@ module _ (k : ℕ) where
       go : (b : Bool) → length (cond b (r ∷ filter (isOn k) rs) (filter (isOn k) rs)) ≡ cond b (suc (length (filter (isOn k) rs))) (length (filter (isOn k) rs))
       go true = refl
       go false = refl
-
-  pub on-most : (rs : List Replica) → onNode k rs ≤ length rs
-  unfolding onNode
-  on-most rs = length-filter (isOn k) rs
 
   module _ (xs : List Replica) (n : ℕ) (le : n ≤ length xs) (t m i : ℕ) (inv : t ≡ m + onNode k (drop i (take n xs))) where
     open-on : (d : Replica) → i < n
@@ -58,52 +52,12 @@ module _ (k : ℕ) where
         let q : onNode k (drop i (take n xs)) ≡ 0 = rw (drop-of-length-le (take n xs) {i = i} (rw (length-take-le n xs le) h)) in
         omega arith
 
--- ---- the replicas of all shards
-
-pub shards-more : (s : ShardInfo) (ss : List ShardInfo) (l : List Load) → map (withShards ss) (map (withShard (s .replicas)) l) ≡ map (withShards (s ∷ ss)) l
-unfolding replicasOf
-shards-more s ss [] = refl
-shards-more s ss (y ∷ ys) =
-    let q : (y .count + onNode (y .node) (s .replicas)) + replicasOf (y .node) ss ≡ y .count + (onNode (y .node) (s .replicas) + replicasOf (y .node) ss) = omega arith in
-    rw (q, shards-more s ss ys)
-
--- the next shard counted
-pub shards-next : (ss : List ShardInfo) (i : ℕ) (s : ShardInfo) (l : List Load) → drop i ss ≡ s ∷ drop (i + 1) ss
-    → map (withShards (drop (i + 1) ss)) (map (withShard (s .replicas)) l) ≡ map (withShards (drop i ss)) l
-shards-next ss i s l q = shards-more s (drop (i + 1) ss) l ∙ ap (λ (r : List ShardInfo). map (withShards r) l) (sym q)
-
-pub shards-none : (l : List Load) → map (withShards []) l ≡ l
-unfolding replicasOf
-shards-none [] = refl
-shards-none (y ∷ ys) = let q : y .count + 0 ≡ y .count = omega arith in rw (q, shards-none ys)
-
--- nothing counted yet, and then all shards
-pub all-counted : (rs : List Replica) (ss : List ShardInfo) (ns : List NodeInfo) → map (withShards ss) (collect (mayTake rs) unloaded ns) ≡ freeLoads rs ss ns
-all-counted rs ss ns =
-    map-collect (mayTake rs) unloaded (withShards ss) ns
-    ∙ collect-same (mayTake rs) (mayTake rs) _ _ (λ i. refl) (λ i. from-none i) ns
-  where
-    from-none : (i : NodeInfo) → withShards ss (unloaded i) ≡ record { node = i .node; count = replicasOf (i .node) ss }
-    from-none i = let q : 0 + replicasOf (i .node) ss ≡ replicasOf (i .node) ss = omega arith in rw q
-
 -- ---- how many there can be
 
 pub light-to : (k j : ℕ) (l : List Load) → k ≤ j → Light k l → Light j l
 light-to k j l h =
     every-to (λ (x : Load). leb (x .count) k) (λ (x : Load). leb (x .count) j)
     (λ x e. le-leb (x .count) j (omega (arith, leb-true (x .count) k e))) l
-
-pub light-start : (rs : List Replica) (ns : List NodeInfo) → Light 0 (collect (mayTake rs) unloaded ns)
-light-start rs ns = every-collect (λ (x : Load). leb (x .count) 0) (mayTake rs) unloaded (λ i. refl) ns
-
-pub light-shard : (k : ℕ) (rs : List Replica) (l : List Load) → length rs ≤ 8 → Light k l → Light (k + 8) (map (withShard rs) l)
-unfolding every
-light-shard k rs [] h e = refl
-light-shard k rs (y ∷ ys) h e =
-    let t = every-tail (λ (x : Load). leb (x .count) k) y ys e in
-    every-cons (λ (x : Load). leb (x .count) (k + 8)) (withShard rs y) (map (withShard rs) ys)
-    (le-leb _ (k + 8) (omega (arith, leb-true (y .count) k (t .0), on-most (y .node) rs)))
-    (light-shard k rs ys h (t .1))
 
 light-raised : (k n : ℕ) (l : List Load) → Light k l → Light (k + 1) (update (isLoad n) raised l)
 unfolding update every

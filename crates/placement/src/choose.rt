@@ -1,17 +1,13 @@
-// Internal: the lightest node of those that a shard does not have yet.
+// Internal: the lightest node of those that a shard does not have yet. Ids and counts stand in two arrays, so that a count is raised where it stands.
 ghost use mathlib.Core.Path.{_≡_};
 ghost use mathlib.Core.Option.{some};
-ghost use Prim.Native.Nat.{_≤_, _<_, _+_};
+ghost use Prim.Native.Nat.{_≤_, _<_};
 ghost use Rattle.model.specs.Lists.{filter};
-ghost use Rattle.model.specs.Map.Apply.{update};
-ghost use Rattle.model.specs.Map.Place.{lighter, lightest, isLoad, raised};
-ghost use Rattle.state.specs.Find.{firstAt};
+ghost use Rattle.model.specs.Map.Place.{lighter, lightest};
 ghost use Rattle.state.specs.View.{viewList};
-ghost use Rattle.placement.specs.Read.{viewLoad, viewLoads, bestOf, better, unlisted, Light, ChosenOne};
+ghost use Rattle.placement.specs.Read.{viewLoad, loadsIn, bestOf, better, unlisted, Light, Columns, Raised, ChosenOne};
 use crate::Best;
-use crate::Chosen;
 use crate::Load;
-use crate::Loads;
 use crate::lists::is_listed;
 use crate::lists::listed;
 use model::DataNodeId;
@@ -42,15 +38,17 @@ pub fn lighter_of(best: Best, l: Load) -> Best
     Best::At(x)
 }
 
-pub fn lightest_of(loads: Loads, taken: NodeList) -> Best
-    requires { ⌜ (loads .count ≤ 32) × (taken .count ≤ 8) ⌝ }
-    ensures { λ r. ⌜ bestOf r ≡ lightest (filter (unlisted (viewList taken)) (viewLoads loads)) ⌝ }
+pub fn lightest_of(ids: &[u64; 32], counts: &[u64; 32], count: usize, taken: NodeList) -> Best
+    requires { ⌜ (Columns (now ids) (now counts) count) × (taken .count ≤ 8) ⌝ }
+    ensures { λ r. ⌜ bestOf r ≡ lightest (filter (unlisted (viewList taken)) (loadsIn (now (ids .entry)) (now (counts .entry)) count)) ⌝ }
 {
-    let count = loads.count;
     let mut best = Best::Nobody;
     let mut i: usize = 0;
     while i < count {
-        let l = loads.items[i];
+        let l = Load {
+            node: DataNodeId(ids[i]),
+            count: counts[i],
+        };
         if is_listed(taken, l.node) {
             i += 1;
         } else {
@@ -62,60 +60,31 @@ pub fn lightest_of(loads: Loads, taken: NodeList) -> Best
     best
 }
 
-// Where the load of a node is, or the count.
-fn load_at(loads: Loads, node: DataNodeId) -> usize
-    requires { ⌜ loads .count ≤ 32 ⌝ }
-    ensures { λ r. ⌜ r ≡ firstAt (isLoad (node .0)) (viewLoads loads) ⌝ }
+// One replica more on the node.
+fn raise(ids: &[u64; 32], counts: &mut [u64; 32], count: usize, node: u64)
+    requires { ⌜ (Columns (now ids) (now counts) count) × Light 4096 (loadsIn (now ids) (now counts) count) ⌝ }
+    ensures { λ _. ⌜ Raised (now (ids .entry)) (now (counts .entry)) (now (counts .exit)) count node ⌝ }
 {
-    let count = loads.count;
     let mut i: usize = 0;
     while i < count {
-        let l = loads.items[i];
-        if l.node.0 == node.0 {
-            return i;
+        if ids[i] == node {
+            counts[i] = counts[i] + 1;
+            return;
         }
         i += 1;
-    }
-    i
-}
-
-// The loads with one replica more on the node.
-fn loads_raised(loads: Loads, node: DataNodeId) -> Loads
-    requires { ⌜ (loads .count ≤ 32) × Light 4096 (viewLoads loads) ⌝ }
-    ensures { λ r. ⌜ (viewLoads r ≡ update (isLoad (node .0)) raised (viewLoads loads)) × (r .count ≡ loads .count) ⌝ }
-{
-    let at = load_at(loads, node);
-    let count = loads.count;
-    if count <= at {
-        return loads;
-    }
-    let mut items = loads.items;
-    let l = items[at];
-    let id = l.node;
-    items[at] = Load {
-        node: id,
-        count: l.count + 1,
-    };
-    Loads {
-        items: items,
-        count: count,
     }
 }
 
 // One node more for the shard.
-pub fn choose_one(c: Chosen) -> Chosen
-    requires { ⌜ (c .loads .count ≤ 32) × (c .list .count < 8) × Light 4096 (viewLoads (c .loads)) ⌝ }
-    ensures { λ r. ⌜ ChosenOne c r ⌝ }
+pub fn choose_one(ids: &[u64; 32], counts: &mut [u64; 32], count: usize, list: NodeList) -> NodeList
+    requires { ⌜ (Columns (now ids) (now counts) count) × (list .count < 8) × Light 4096 (loadsIn (now ids) (now counts) count) ⌝ }
+    ensures { λ r. ⌜ ChosenOne (now (ids .entry)) (now (counts .entry)) (now (counts .exit)) count list r ⌝ }
 {
-    let best = lightest_of(c.loads, c.list);
+    let best = lightest_of(ids, counts, count, list);
     let Best::At(l) = best else {
-        return c;
+        return list;
     };
     let id = l.node;
-    let loads = loads_raised(c.loads, id);
-    let list = listed(c.list, id);
-    Chosen {
-        loads: loads,
-        list: list,
-    }
+    raise(ids, counts, count, id.0);
+    listed(list, id)
 }

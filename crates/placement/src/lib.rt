@@ -1,26 +1,10 @@
-// Where new replicas go (the source's `place` and `replacement`): on the live node with the fewest replicas, of level ones the lowest id.
-// A malformed map is refused first. What an answer says stands in specs/Answers.antt.
-ghost use mathlib.Core.Path.{_≡_};
-ghost use Rattle.placement.specs.Answers.{placedOf, placeLent, replacedOf, replacementLent};
-use crate::choose::lightest_of;
-use crate::counting::holders_at;
-use crate::counting::loads_of;
-use crate::counting::no_holders;
-use crate::lists::no_nodes;
-use crate::placed::place_on;
-use crate::placed::unplaced;
-use mapcheck::well_formed;
+// Where new replicas go (the source's `place` and `replacement`), of the nodes that may be chosen with their loads: on the one with the fewest
+// replicas, of level ones the lowest id. What an answer says of a map stands in specs/Answers.antt; the loads are counted in crate `placebytes`.
 use model::DataNodeId;
-use state::NodeList;
 use state::Placement;
 use state::Refusal;
-use state::ShardKey;
-use state::ShardMap;
-use state::Spec;
-use state::shard_table::shard_at;
 
-mod choose;
-pub mod counting;
+pub mod choose;
 mod lists;
 pub mod placed;
 
@@ -30,9 +14,10 @@ pub struct Load {
     pub count: u64,
 }
 
-// The loads in use are the first `count`; the rest is free.
+// The loads in use are the first `count` ids with the counts at the same places; the rest is free.
 pub struct Loads {
-    pub items: [Load; 32],
+    pub ids: [u64; 32],
+    pub counts: [u64; 32],
     pub count: usize,
 }
 
@@ -40,12 +25,6 @@ pub struct Loads {
 pub enum Best {
     Nobody,
     At(Load),
-}
-
-// The nodes chosen so far for a shard, with the loads that follow.
-pub struct Chosen {
-    pub loads: Loads,
-    pub list: NodeList,
 }
 
 // How `place` ends: none, a placement, or 23 and 24.
@@ -66,37 +45,4 @@ pub enum Replaced {
     Nobody,
     By(DataNodeId),
     Refused(Refusal),
-}
-
-// Paper 01, 'Place'. Lists past the placement's count and nodes past a list's are free.
-pub fn place(m: ShardMap, spec: Spec) -> PlaceAnswer
-    ensures { λ r. ⌜ placedOf r ≡ placeLent m spec ⌝ }
-{
-    if !well_formed(m) {
-        return unplaced(Placing::Refused(Refusal::Malformed));
-    }
-    let loads = loads_of(m.nodes, no_holders(), m.shards);
-    place_on(loads, spec)
-}
-
-// The lightest live node that does not hold the shard; none if the map lacks the shard or such a node.
-pub fn replacement(m: ShardMap, key: ShardKey) -> Replaced
-    ensures { λ r. ⌜ replacedOf r ≡ replacementLent m key ⌝ }
-{
-    if !well_formed(m) {
-        return Replaced::Refused(Refusal::Malformed);
-    }
-    let at = shard_at(m.shards, key);
-    let count = m.shards.count;
-    if count <= at {
-        return Replaced::Nobody;
-    }
-    let holders = holders_at(m.shards, at);
-    let loads = loads_of(m.nodes, holders, m.shards);
-    let best = lightest_of(loads, no_nodes());
-    let Best::At(l) = best else {
-        return Replaced::Nobody;
-    };
-    let id = l.node;
-    Replaced::By(id)
 }

@@ -5,50 +5,53 @@ ghost use lib.ListN.{length};
 ghost use Rattle.model.specs.Map.Place.{placeShards, placeOn};
 ghost use Rattle.state.specs.View.{viewPlacement, viewSpec};
 ghost use Rattle.placement.specs.Answers.{placedOf};
-ghost use Rattle.placement.specs.Read.{viewLoads, Light, ChosenList};
-use crate::Chosen;
+ghost use Rattle.placement.specs.Read.{loadsIn, viewLoads, Light, Columns, ChosenList};
 use crate::Loads;
 use crate::PlaceAnswer;
 use crate::Placing;
 use crate::choose::choose_one;
 use crate::lists::no_lists;
 use crate::lists::no_nodes;
+use state::NodeList;
 use state::Placement;
 use state::Refusal;
 use state::Spec;
 
-fn choose_list(loads: Loads, replication: usize) -> Chosen
-    requires { ⌜ (loads .count ≤ 32) × (replication ≤ 8) × Light 2048 (viewLoads loads) ⌝ }
-    ensures { λ r. ⌜ ChosenList loads replication r ⌝ }
+fn choose_list(
+    ids: &[u64; 32],
+    counts: &mut [u64; 32],
+    count: usize,
+    replication: usize,
+) -> NodeList
+    requires { ⌜ (Columns (now ids) (now counts) count) × (replication ≤ 8) × Light 2048 (loadsIn (now ids) (now counts) count) ⌝ }
+    ensures { λ r. ⌜ ChosenList (now (ids .entry)) (now (counts .entry)) (now (counts .exit)) count replication r ⌝ }
 {
-    let empty = no_nodes();
-    let mut c = Chosen {
-        loads: loads,
-        list: empty,
-    };
+    let mut list = no_nodes();
     let mut i: usize = 0;
     while i < replication {
-        let next = choose_one(c);
-        c = next;
+        let next = choose_one(ids, counts, count, list);
+        list = next;
         i += 1;
     }
-    c
+    list
 }
 
-fn place_lists(loads: Loads, shards: usize, replication: usize) -> Placement
-    requires { ⌜ (loads .count ≤ 32) × (shards ≤ 16) × (replication ≤ 8) × Light 512 (viewLoads loads) ⌝ }
-    ensures { λ r. ⌜ viewPlacement r ≡ placeShards shards replication (viewLoads loads) ⌝ }
+fn place_lists(
+    ids: &[u64; 32],
+    counts: &mut [u64; 32],
+    count: usize,
+    shards: usize,
+    replication: usize,
+) -> Placement
+    requires { ⌜ (Columns (now ids) (now counts) count) × (shards ≤ 16) × (replication ≤ 8) × Light 512 (loadsIn (now ids) (now counts) count) ⌝ }
+    ensures { λ r. ⌜ viewPlacement r ≡ placeShards shards replication (loadsIn (now (ids .entry)) (now (counts .entry)) count) ⌝ }
 {
     let empty = no_lists();
     let mut lists = empty.lists;
-    let mut left = loads;
     let mut i: usize = 0;
     while i < shards {
-        let c = choose_list(left, replication);
-        let list = c.list;
+        let list = choose_list(ids, counts, count, replication);
         lists[i] = list;
-        let next = c.loads;
-        left = next;
         i += 1;
     }
     Placement {
@@ -84,7 +87,9 @@ pub fn place_on(loads: Loads, spec: Spec) -> PlaceAnswer
     if 8 < replication {
         return unplaced(Placing::Refused(Refusal::NoRoom));
     }
-    let placement = place_lists(loads, shards, replication);
+    let ids = loads.ids;
+    let mut counts = loads.counts;
+    let placement = place_lists(&ids, &mut counts, loads.count, shards, replication);
     PlaceAnswer {
         how: Placing::Placed,
         placement: placement,

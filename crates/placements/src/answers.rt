@@ -83,7 +83,7 @@ pub fn place(map: &[u8], s: &[u8]) {
     let shards = num::get4(s, 0);
     let replication = num::get4(s, 4);
     let mut lists = [0u8; 1024];
-    let n = mapcalls::place(map, shards, replication, &mut lists);
+    let n = placecalls::place(map, shards, replication, &mut lists);
     if n != 0 {
         nothing(n);
         return;
@@ -99,7 +99,7 @@ pub fn replacement(map: &[u8], s: &[u8]) {
     }
     let shard = num::get4(s, 0);
     let mut answer = [0u8; 8];
-    let n = mapcalls::replacement(map, &s[4..], shard, &mut answer);
+    let n = placecalls::replacement(map, &s[4..], shard, &mut answer);
     if n != 0 {
         nothing(n);
         return;

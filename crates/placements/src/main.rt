@@ -1,7 +1,7 @@
 // Replays the oracle's stored answers of `place` and `replacement` (paper 01, 'Place'; state.rs) on maps that requests have built: calls on
 // one map on standard input, each a number u8, a length u16 and as many bytes of operands, and what each answers on standard output.
 // An unknown call or a record that is cut short ends the program. stdin is oracle/stored/placement/chosen.in, random-1.in and random-2.in one
-// after the other, then counts.in, stdout their .out: the answers of the Rust. The map is a byte image, the calls are crate mapcalls', and for how
+// after the other, then counts.in, stdout their .out: the answers of the Rust. The map is a byte image, the calls are crates mapcalls' and placecalls', and for how
 // many placements pass (paper 02, 2.14) crate countcalls'; where they are few, each is asked of Create's own code too.
 use answers::apply;
 use answers::empty;

@@ -1,12 +1,11 @@
 -- `answer_rows` meets its contract. Assumes nothing.
 use borrow.Author.Needs.{needs}
 use native.Mathlib.Omega.{arith}
-use mathlib.Core.Path.{_≡_, refl, sym, _∙_, ap}
-use mathlib.Core.List.{List, [], _∷_, _++_}
-use Prim.Native.Nat.{ℕ, _+_, _-_, _*_, _≤_, _<_}
-use lib.ListN.{length, getD, take, drop, set}
+use mathlib.Core.Path.{sym, _∙_}
+use Prim.Native.Nat.{_-_}
+use lib.ListN.{take}
 use borrow.Author.Tests.{not-true, not-false}
-use lib.Seq.{sets, length-take-le}
+use lib.Seq.{length-take-le}
 use Rattle.losscalls.proofs.OfCalls.{list-short, answer-short, both-lent}
 use Rattle.losscalls.proofs.answer_rows.Statement.{statement}
 use Rattle.losscalls.proofs.answer_rows.Tie as tie

@@ -1,11 +1,8 @@
 -- `rows::put_row` meets its contract. Assumes nothing.
 use borrow.Author.Needs.{needs}
 use native.Mathlib.Omega.{arith}
-use mathlib.Core.Path.{_≡_, refl, sym, _∙_, ap}
-use mathlib.Core.List.{List, [], _∷_, _++_}
-use Prim.Native.Nat.{ℕ, _+_, _-_, _*_, _≤_, _<_}
-use lib.ListN.{length, getD, take, drop, set}
-use Rattle.image.specs.Shape.{Stored}
+use mathlib.Core.Path.{sym}
+use Prim.Native.Nat.{_-_}
 use Rattle.image.proofs.Images.{stored-then, stored-word}
 use Rattle.losscalls.proofs.OfRows.{short-row, long-row}
 use Rattle.losscalls.proofs.rows.put_row.Statement.{statement}

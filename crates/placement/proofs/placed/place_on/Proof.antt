@@ -1,10 +1,8 @@
 -- `placed::place_on` meets its contract. Assumes nothing.
 use borrow.Author.Needs.{needs}
 use native.Mathlib.Omega.{arith}
-use mathlib.Core.Path.{_≡_, refl, sym, _∙_, ap}
-use mathlib.Core.List.{List, [], _∷_, _++_}
-use Prim.Native.Nat.{ℕ, _+_, _-_, _*_, _≤_, _<_}
-use lib.ListN.{length, getD, take, drop, set}
+use mathlib.Core.Path.{sym, _∙_, ap}
+use Prim.Native.Nat.{_-_}
 use Rattle.model.specs.Map.Place as place
 use Rattle.state.specs.View.{viewSpec}
 use Rattle.placement.specs.Read.{viewLoads}
@@ -42,11 +40,11 @@ returns-3 c = ap (λ (h : Placing). placedAs h ((c .unplaced3) .result .placemen
     ∙ sym (long-lists (viewSpec ((c .before .before .before .before .before .before .before .args) .spec)) (viewLoads ((c .before .before .before .before .before .before .before .args) .loads)) (omega (arith, (c .before .before .before .before .before .before .before .pre) .1)) (search needs) (search needs))
 
 place-lists-requires : tie.Need-place-lists-requires
-place-lists-requires c κs = ((c .before .before .before .before .before .before .pre) .0, search needs, search needs, (c .before .before .before .before .before .before .pre) .2)
+place-lists-requires c κs = (record { named = search needs; counted = search needs; few = (c .before .before .before .before .before .before .before .before .before .before .pre) .0 }, search needs, search needs, (c .before .before .before .before .before .before .before .before .before .before .pre) .2)
 
 returns-4 : tie.Need-returns-4
 returns-4 c = ap place.placedOn ((c .place-lists) .ensures)
-    ∙ sym (placed-on (viewSpec ((c .before .before .before .before .before .before .before .args) .spec)) (viewLoads ((c .before .before .before .before .before .before .before .args) .loads)) (omega (arith, (c .before .before .before .before .before .before .before .pre) .1)) (search needs) (search needs))
+    ∙ sym (placed-on (viewSpec ((c .before .before .before .before .before .before .before .before .before .before .before .args) .spec)) (viewLoads ((c .before .before .before .before .before .before .before .before .before .before .before .args) .loads)) (omega (arith, (c .before .before .before .before .before .before .before .before .before .before .before .pre) .1)) (search needs) (search needs))
 
 pub place-on-spec : {M : Type 1} → statement M
 place-on-spec = tie.close (tie.spec cast-shards cast-replication unplaced-requires returns unplaced-requires-2 returns-2 unplaced-requires-3 returns-3 place-lists-requires returns-4)
