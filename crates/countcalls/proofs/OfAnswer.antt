@@ -4,7 +4,7 @@ use mathlib.Core.Path.{_≡_, refl, sym, ap, subst, _∙_}
 use mathlib.Core.Bool.{Bool, true, false, cond}
 use mathlib.Core.List.{List, [], _∷_}
 use native.Mathlib.Omega.{arith}
-use lib.Dec.{eqb, leb, ltb}
+use lib.Dec.{leb, ltb}
 use lib.ListN.{length, getD, take}
 use lib.Seq.{sets}
 use borrow.Author.Tests.{lt-ltb, le-ltb, le-leb, lt-leb, leb-true, leb-false, eq-eqb, ne-eqb}
@@ -18,17 +18,15 @@ use Rattle.rpcput.specs.Fields.{textFits}
 use Rattle.state.specs.Names.{viewName}
 use Rattle.state.specs.View.{viewMap, viewSpec}
 use Rattle.state.specs.declared.Name.{Name}
-use Rattle.state.specs.declared.ShardMap.{ShardMap}
 use Rattle.state.specs.declared.Spec.{Spec}
 use Rattle.mapcheck.specs.Lent.{wellFormedLent}
-use Rattle.mapimage.specs.Image.{mapAt, mapLent, noMap, lentMap}
-use Rattle.mapimage.specs.declared.Lent.{Lent}
-use Rattle.enumeration.specs.Counts.{Six, Counts, six, notCounted, maxIds, isWide, placementsOf, countBy}
+use Rattle.mapimage.specs.Image.{mapAt, mapLent}
+use Rattle.enumeration.specs.Counts.{Counts, six, notCounted, maxIds, isWide, placementsOf, countBy}
 use Rattle.counting.specs.Answers.{countingAs, countLent}
 use Rattle.counting.specs.Read.{viewIds, viewSix, wideLent}
 use Rattle.counting.specs.declared.Ending.{Ending}
 use Rattle.counting.specs.declared.IdSet.{IdSet}
-use Rattle.countcalls.specs.Calls.{idsFrom, idsIn, Loaded, tallyOf, sixBytes, answerBytes, Answers}
+use Rattle.countcalls.specs.Calls.{idsFrom, idsIn, Loaded, tallyOf, sixBytes, Answers}
 
 -- ---- ids
 
@@ -122,13 +120,6 @@ told h g xs s t r e p = subst (λ (z : Ending). Answers (countingAs z xs) s t r)
 
 -- ---- the call
 
-module _ (s : List ℕ) (l : Lent) (read : l ≡ lentMap s) where
-  pub found-lent : (b : Bool) → l .found ≡ b → mapLent s ≡ b
-  found-lent b e = sym (ap (λ (x : Lent). x .found) read) ∙ e
-
-  pub map-lent : mapLent s ≡ true → l .map ≡ mapAt s
-  map-lent e = ap (λ (x : Lent). x .map) read ∙ ap (λ (b : Bool). cond b (mapAt s) noMap) e
-
 module _ (m name : List ℕ) (spec : tables.Spec) (ids : List ℕ) (lists nodes : ℕ) (s : List ℕ) where
   said-as : (x : Counts) (t : List ℕ) (r : ℕ) → tallyOf m name spec ids lists nodes ≡ x → Answers x s t r
       → Answers (tallyOf m name spec ids lists nodes) s t r
@@ -165,16 +156,15 @@ module _ (m name : List ℕ) (spec : tables.Spec) (ids : List ℕ) (lists nodes 
               rw (lt-ltb maxIds (set .count) h, wide-many (idsIn ids) lists nodes (omega (arith, h, l .count, ids-many ids)))
               (any-wide f x name spec (placementsOf lists nodes (viewIds set)) (placementsOf lists nodes (idsIn ids)))
 
-      pub lent : (x : ShardMap) (n : Name) (sp : Spec) (set : IdSet) (a : Counts) (t : List ℕ) (r : ℕ) → mapLent m ≡ true → x ≡ mapAt m
-          → viewName n ≡ name → viewSpec sp ≡ spec → Loaded ids set → a ≡ countLent x n sp set lists nodes → Answers a s t r
+      pub lent : (n : Name) (sp : Spec) (set : IdSet) (a : Counts) (t : List ℕ) (r : ℕ) → mapLent m ≡ true
+          → viewName n ≡ name → viewSpec sp ≡ spec → Loaded ids set → a ≡ countLent (mapAt m) n sp set lists nodes → Answers a s t r
           → Answers (tallyOf m name spec ids lists nodes) s t r
       unfolding tallyOf _and_ countLent
-      lent x n sp set a t r e q v w l p k =
+      lent n sp set a t r e v w l p k =
           said-as a t r
           (rw (fits, eq-eqb (length ids % 8) 0 whole, e)
           (sym
           (p
-          ∙ ap (λ (z : ShardMap). countBy (wellFormedLent z) (wideLent set lists nodes) (viewMap z) (viewName n) (viewSpec sp) (placementsOf lists nodes (viewIds set))) q
           ∙ ap (λ (z : List ℕ). countBy (wellFormedLent (mapAt m)) (wideLent set lists nodes) (viewMap (mapAt m)) z (viewSpec sp) (placementsOf lists nodes (viewIds set))) v
           ∙ ap (λ (z : tables.Spec). countBy (wellFormedLent (mapAt m)) (wideLent set lists nodes) (viewMap (mapAt m)) name z (placementsOf lists nodes (viewIds set))) w
           ∙ same (wellFormedLent (mapAt m)) (viewMap (mapAt m)) set l)))

@@ -5,7 +5,7 @@ ghost use Rattle.countcalls.specs.Calls.{specGiven, Tallies};
 use crate::answer::answer_counts;
 use crate::ids::load_ids;
 use asked::named::key_named;
-use mapimage::read_map;
+use mapbytes::lent::is_lent;
 use model::Metric;
 use rpcw::fit::text_fits;
 use state::Spec;
@@ -34,8 +34,7 @@ pub fn count_placements(
     if ids.len() % 8 != 0 {
         return 21;
     }
-    let lent = read_map(map);
-    if !lent.found {
+    if !is_lent(map) {
         return 24;
     }
     let key = key_named(name, 0);
@@ -46,6 +45,6 @@ pub fn count_placements(
         shards: shards,
         replication: replication,
     };
-    let counted = counting::count_placements(lent.map, key.collection, spec, set, lists, nodes);
+    let counted = counting::count_placements(map, key.collection, spec, set, lists, nodes);
     answer_counts(counts, counted)
 }

@@ -1,10 +1,9 @@
 -- Laws of the answer: 24, 36, 35, then the counts. Assumes nothing.
 use Prim.Native.Nat.{ℕ, _≤_, _<_}
-use mathlib.Core.Path.{_≡_, refl, sym, ap, _∙_}
-use mathlib.Core.Bool.{Bool, true, false, cond}
-use mathlib.Core.List.{List}
+use mathlib.Core.Path.{_≡_, sym, ap, _∙_}
+use mathlib.Core.Bool.{Bool, true, false}
 use native.Mathlib.Omega.{arith}
-use lib.Dec.{leb, ltb}
+use lib.Dec.{ltb}
 use lib.ListN.{length}
 use borrow.Author.Tests.{leb-true, leb-false, lt-ltb, le-ltb, le-leb}
 use Rattle.model.specs.Limits.{maxU64}
@@ -15,7 +14,7 @@ use Rattle.state.specs.declared.Name.{Name}
 use Rattle.state.specs.declared.ShardMap.{ShardMap}
 use Rattle.state.specs.declared.Spec.{Spec}
 use Rattle.mapcheck.specs.Lent.{wellFormedLent}
-use Rattle.enumeration.specs.Counts.{Six, Counts, six, beyond, tooWide, notCounted, placementsOf, isBeyond, countBy}
+use Rattle.enumeration.specs.Counts.{Six, six, beyond, tooWide, notCounted, placementsOf, isBeyond, countBy}
 use Rattle.enumeration.specs.Closed.{geometric, totalOf, closedSix}
 use Rattle.enumeration.proofs.Closed.{closed}
 use Rattle.enumeration.proofs.Cover.{beyond-closed}

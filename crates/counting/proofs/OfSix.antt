@@ -1,16 +1,14 @@
 -- Laws of the six counts, by how far Create gets. Assumes nothing.
 use Prim.Native.Nat.{ℕ, _-_, _≤_, _<_}
-use mathlib.Core.Path.{_≡_, refl, sym, ap, _∙_}
+use mathlib.Core.Path.{_≡_, sym, ap, _∙_}
 use mathlib.Core.Bool.{Bool, true, false, cond}
 use mathlib.Core.List.{List}
 use native.Mathlib.Omega.{arith}
-use lib.ListN.{length, take}
-use lib.Seq.{length-take-le}
+use lib.ListN.{length}
 use Rattle.model.specs.Keys.{Name}
 use Rattle.model.specs.Limits.{maxU64}
 use Rattle.model.specs.Map.Tables.{NodeInfo, Spec, Map}
 use Rattle.model.specs.Map.Create.{nodeAt, isAlive, hasCollection, zeroIn}
-use Rattle.enumeration.specs.Counts.{Six}
 use Rattle.enumeration.specs.Closed.{geometric, totalOf, fittingOf, aliveAmong, roomFor, closedBy, closedSix}
 use Rattle.enumeration.proofs.HowMany.{many-most}
 use Rattle.enumeration.proofs.Sums.{fit-none, fit-within, fit-fewer, total-fewer, few-lists}

@@ -1,22 +1,32 @@
--- Laws of what the map says of a request: the name, and the room. Assumes nothing.
-use Prim.Native.Nat.{ℕ, _≤_, _<_}
+-- What a well-formed map's bytes say of a request: the name, and who is alive. Assumes nothing.
+use Prim.Native.Nat.{ℕ, _+_, _*_, _≤_, _<_}
 use mathlib.Core.Path.{_≡_, refl, sym, ap, _∙_}
 use mathlib.Core.Bool.{Bool, true, false}
-use mathlib.Core.List.{List, []}
+use mathlib.Core.List.{List, map}
 use native.Mathlib.Omega.{arith}
 use lib.Dec.{ltb}
-use lib.ListN.{length, replicate, length-replicate}
-use borrow.Author.Tests.{lt-ltb, le-ltb, ltb-true, ltb-false}
-use Rattle.model.specs.Keys.{Name}
-use Rattle.model.specs.Lists.{any}
-use Rattle.model.specs.Limits.{maxCollections, maxShards}
-use Rattle.model.specs.Map.Tables.{Collection, Map}
-use Rattle.model.specs.Map.Create.{Placement, isNamed, hasCollection, createdShards, withShards, createRoom}
+use lib.ListN.{length, take}
+use borrow.Author.Tests.{ltb-true, ltb-false}
+use Rattle.model.specs.Keys.{Name, Key}
+use Rattle.model.specs.Lists.{any, find, rising}
+use Rattle.model.specs.Layout.Format.{numberAt}
+use Rattle.model.specs.Map.Tables.{Collection}
+use Rattle.model.specs.Map.Apply.{isShard}
+use Rattle.model.specs.Map.Create as model
+use Rattle.model.specs.Map.Create.{isNode, isAlive, isNamed, hasCollection, shardBelow}
+use Rattle.model.proofs.Map.WellFormed.{map-parts}
+use Rattle.state.specs.Counted.{TablesCounted}
 use Rattle.state.specs.Find.{firstAt}
-use Rattle.state.proofs.Tables.{any-at, any-none}
-use Rattle.creating.proofs.OfCreate.{collections-full, shards-full, has-room}
-use Rattle.enumeration.specs.Closed.{roomFor}
-use Rattle.enumeration.proofs.Room.{room-same}
+use Rattle.state.specs.View.{viewNode, viewNodes, viewCollection, viewCollections, viewShard, viewShards, viewMap}
+use Rattle.state.proofs.Tables.{any-at, any-none, used-size}
+use Rattle.mapcheck.proofs.Formed.{lent-tables, lent-formed}
+use Rattle.image.specs.Codes.{flagOf}
+use Rattle.maprows.specs.Rows.{nodeAt, collectionAt, shardAt}
+use Rattle.mapimage.specs.Image.{noNode, noCollection, noShard, nodesAt, collectionsAt, shardsAt, mapAt}
+use Rattle.mapbytes.proofs.OfRows.{Rows, rows-long}
+use Rattle.placebytes.proofs.OfRows.{row-found, row-missed}
+use Rattle.counting.specs.Read.{Formed}
+use Rattle.counting.proofs.OfRoom.{isNew}
 
 -- 2, by the place where the name is found
 pub taken : (name : Name) (cs : List Collection) (n at : ℕ) → length cs ≡ n → at ≡ firstAt (isNamed name) cs → ltb at n ≡ hasCollection name cs
@@ -27,19 +37,60 @@ taken name cs n at e f = go (ltb at n) refl
     go true t = t ∙ sym (any-at (isNamed name) cs (omega (arith, ltb-true at n t)))
     go false t = t ∙ sym (any-none (isNamed name) cs (omega (arith, ltb-false at n t)))
 
--- 23, by the shards of any placement of as many lists
-module _ (m : Map) (name : Name) (p : Placement) (n : ℕ) (e : length p ≡ n) where
-  same : roomFor m name n ≡ createRoom m name p
-  unfolding roomFor
-  same = room-same m name (replicate n []) p (length-replicate n [] ∙ sym e)
+-- ---- a map in its bytes
 
-  pub no-collection-left : maxCollections ≤ length (m .collections) → false ≡ roomFor m name n
-  no-collection-left h = sym (same ∙ collections-full m name p h)
+rows-many : {A B : Type 0} (limit w at : ℕ) (get : ℕ → A) (blank : A) (n : ℕ) (v : A → B) → n ≤ limit → length (map v (take n (Rows limit w at get blank n))) ≡ n
+rows-many limit w at get blank n v h = let q = rows-long limit w at get blank n h in used-size v (Rows limit w at get blank n) n (omega arith)
 
-  pub no-shard-left : maxShards < length (withShards (m .shards) (m .nodes) name 0 p) → false ≡ roomFor m name n
-  unfolding createdShards
-  no-shard-left h = sym (same ∙ shards-full m name p h)
+module _ (s : List ℕ) (f : Formed s) where
+  tables : TablesCounted (mapAt s)
+  tables = lent-tables (mapAt s) (f .right)
 
-  pub room-left : length (m .collections) < maxCollections → length (withShards (m .shards) (m .nodes) name 0 p) ≤ maxShards → true ≡ roomFor m name n
-  unfolding createdShards
-  room-left h k = sym (same ∙ has-room m name p h k)
+  pub nodes-few : numberAt 8 s 8 ≤ 32
+  unfolding mapAt
+  nodes-few = tables .nodes
+
+  pub collections-few : numberAt 8 s 16 ≤ 16
+  unfolding mapAt
+  collections-few = tables .collections
+
+  pub shards-few : numberAt 8 s 24 ≤ 64
+  unfolding mapAt
+  shards-few = tables .shards .count
+
+  pub collections-many : length (viewMap (mapAt s) .collections) ≡ numberAt 8 s 16
+  unfolding mapAt
+  collections-many = rows-many 16 56 3112 (collectionAt s) noCollection (numberAt 8 s 16) viewCollection collections-few
+
+  pub shards-many : length (viewMap (mapAt s) .shards) ≡ numberAt 8 s 24
+  unfolding mapAt
+  shards-many = rows-many 64 272 4008 (shardAt s) noShard (numberAt 8 s 24) viewShard shards-few
+
+  pub shards-rise : rising shardBelow (viewMap (mapAt s) .shards) ≡ true
+  shards-rise = map-parts (viewMap (mapAt s)) (lent-formed (mapAt s) (f .right)) .2 .1
+
+  pub name-taken : (name : Name) (n at : ℕ) → n ≡ numberAt 8 s 16 → at ≡ firstAt (isNamed name) (viewCollections (collectionsAt s))
+      → ltb at n ≡ hasCollection name (viewMap (mapAt s) .collections)
+  unfolding mapAt
+  name-taken name n at e q = taken name (viewCollections (collectionsAt s)) n at (collections-many ∙ sym e) q
+
+  -- the shard of a key
+  module _ (key : Key) (at : ℕ) (is : at ≡ firstAt (isShard key) (viewShards (shardsAt s))) where
+    pub shard-there : at < numberAt 8 s 24 → isNew (find (isShard key) (viewMap (mapAt s) .shards)) ≡ 0
+    unfolding mapAt
+    shard-there h = ap isNew (row-found 64 272 4008 (shardAt s) noShard (numberAt 8 s 24) viewShard shards-few (isShard key) at is h)
+
+    pub shard-new : numberAt 8 s 24 ≤ at → isNew (find (isShard key) (viewMap (mapAt s) .shards)) ≡ 1
+    unfolding mapAt
+    shard-new h = ap isNew (row-missed 64 272 4008 (shardAt s) noShard (numberAt 8 s 24) viewShard shards-few (isShard key) at is h)
+
+-- a node by its id
+module _ (s : List ℕ) (few : numberAt 8 s 8 ≤ 32) (id at : ℕ) (is : at ≡ firstAt (isNode id) (viewNodes (nodesAt s))) where
+  pub unknown-dead : numberAt 8 s 8 ≤ at → false ≡ isAlive (model.nodeAt (viewNodes (nodesAt s)) id)
+  unfolding model.nodeAt
+  unknown-dead h = ap isAlive (sym (row-missed 32 96 40 (nodeAt s) noNode (numberAt 8 s 8) viewNode few (isNode id) at is h))
+
+  pub known-alive : (b : Bool) (code : ℕ) → at < numberAt 8 s 8 → b ≡ flagOf code → code ≡ numberAt 4 s (40 + 96 * at + 16)
+      → b ≡ isAlive (model.nodeAt (viewNodes (nodesAt s)) id)
+  unfolding model.nodeAt nodeAt
+  known-alive b code h e q = e ∙ ap flagOf q ∙ ap isAlive (sym (row-found 32 96 40 (nodeAt s) noNode (numberAt 8 s 8) viewNode few (isNode id) at is h))

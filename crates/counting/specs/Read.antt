@@ -7,8 +7,8 @@ use lib.Dec.{leb, ltb}
 use lib.ListN.{length, take, getD}
 use Rattle.model.specs.Lists.{_or_}
 use Rattle.model.specs.Limits.{maxU64}
-use Rattle.state.specs.Counted.{TablesCounted}
-use Rattle.state.specs.declared.ShardMap.{ShardMap}
+use Rattle.mapcheck.specs.Lent.{wellFormedLent}
+use Rattle.mapimage.specs.Image.{mapAt}
 use Rattle.enumeration.specs.Counts.{Six, maxIds, isWide}
 use Rattle.enumeration.specs.Closed.{geometric, totalOf}
 use Rattle.counting.specs.declared.IdSet.{IdSet}
@@ -34,9 +34,14 @@ pub record SumAs (b n : ℕ) (r : Summed) : Type 0 where
   pub sum : r .fits ≡ true → r .sum ≡ geometric b n
   pub last : r .fits ≡ true → r .last ≡ b ^ n
 
+-- a map that passed the test (24), in its bytes
+pub record Formed (s : List ℕ) : Type 0 where
+  pub long : 26536 ≤ length s
+  pub right : wellFormedLent (mapAt s) ≡ true
+
 -- a request that is neither malformed nor too wide, with its total
-pub record Asked (m : ShardMap) (ids : IdSet) (lists nodes total : ℕ) : Type 0 where
-  pub tables : TablesCounted m
+pub record Asked (s : List ℕ) (ids : IdSet) (lists nodes total : ℕ) : Type 0 where
+  pub formed : Formed s
   pub few : ids .count ≤ 4
   pub sized : ids .count ≡ length (viewIds ids)
   pub listed : lists ≤ 16

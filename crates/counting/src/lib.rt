@@ -1,14 +1,17 @@
-// How many placements Create accepts, and how many end in each of 2, 3, 4, 5 and 23 (paper 02, 2.14), by sums of powers: no placement is walked.
+// How many placements Create accepts, and how many end in each of 2, 3, 4, 5 and 23 (paper 02, 2.14), by sums of powers: no placement is walked. The
+// map is tested and searched in its bytes.
 // What is counted is enumeration's Counts; that the sums are the counts, its proofs/Closed. What an answer says stands in specs/Answers.antt.
 ghost use mathlib.Core.Path.{_≡_};
+ghost use Prim.Native.Nat.{_≤_};
+ghost use lib.ListN.{length};
+ghost use Rattle.mapimage.specs.Image.{mapAt};
 ghost use Rattle.counting.specs.Answers.{countingOf, countLent};
 use crate::given::too_wide;
 use crate::six::no_counts;
 use crate::six::six_of;
 use crate::sums::geometric;
-use mapcheck::well_formed;
+use mapbytes::formed::is_formed;
 use state::Name;
-use state::ShardMap;
 use state::Spec;
 
 mod given;
@@ -55,16 +58,17 @@ fn uncounted(how: Ending) -> Counting
 
 // 24, 36, 35, then the counts.
 pub fn count_placements(
-    m: ShardMap,
+    map: &[u8],
     name: Name,
     spec: Spec,
     ids: IdSet,
     lists: u32,
     nodes: u32,
 ) -> Counting
-    ensures { λ r. ⌜ countingOf r ≡ countLent m name spec ids lists nodes ⌝ }
+    requires { ⌜ 26536 ≤ length (now map) ⌝ }
+    ensures { λ r. ⌜ countingOf r ≡ countLent (mapAt (now (map .entry))) name spec ids lists nodes ⌝ }
 {
-    if !well_formed(m) {
+    if !is_formed(map) {
         return uncounted(Ending::Malformed);
     }
     if too_wide(ids, lists, nodes) {
@@ -76,7 +80,7 @@ pub fn count_placements(
     if !total.fits {
         return uncounted(Ending::Beyond);
     }
-    let six = six_of(m, name, spec, ids, lists, nodes, total.sum);
+    let six = six_of(map, name, spec, ids, lists, nodes, total.sum);
     Counting {
         how: Ending::Counted,
         six: six,

@@ -5,6 +5,7 @@ ghost use lib.ListN.{length};
 ghost use Rattle.model.specs.Limits.{maxU64};
 ghost use Rattle.state.specs.Names.{viewName};
 ghost use Rattle.state.specs.View.{viewSpec, viewMap};
+ghost use Rattle.mapimage.specs.Image.{mapAt};
 ghost use Rattle.enumeration.specs.Counts.{Six};
 ghost use Rattle.enumeration.specs.Closed.{geometric, totalOf, fittingOf, closedSix};
 ghost use Rattle.counting.specs.Read.{viewIds, viewSix, counts, Asked};
@@ -15,7 +16,6 @@ use crate::tests::is_taken;
 use crate::tests::room_for;
 use creating::zero_in;
 use state::Name;
-use state::ShardMap;
 use state::Spec;
 
 fn six(accepted: u64, two: u64, three: u64, four: u64, five: u64, full: u64) -> [u64; 6]
@@ -47,7 +47,7 @@ fn fitting(ids: u64, shards: u32, replication: u32, lists: u32, nodes: u32) -> u
 
 // 2, 3, 4, 5, 23, as far as Create gets.
 pub fn six_of(
-    m: ShardMap,
+    map: &[u8],
     name: Name,
     spec: Spec,
     ids: IdSet,
@@ -55,10 +55,10 @@ pub fn six_of(
     nodes: u32,
     total: u64,
 ) -> [u64; 6]
-    requires { ⌜ Asked m ids lists nodes total ⌝ }
-    ensures { λ r. ⌜ viewSix r ≡ closedSix (viewMap m) (viewName name) (viewSpec spec) (viewIds ids) lists nodes ⌝ }
+    requires { ⌜ Asked (now map) ids lists nodes total ⌝ }
+    ensures { λ r. ⌜ viewSix r ≡ closedSix (viewMap (mapAt (now (map .entry)))) (viewName name) (viewSpec spec) (viewIds ids) lists nodes ⌝ }
 {
-    if is_taken(m.collections, name) {
+    if is_taken(map, name) {
         return six(0, total, 0, 0, 0, 0);
     }
     if zero_in(spec) {
@@ -69,10 +69,10 @@ pub fn six_of(
         return six(0, 0, 0, total, 0, 0);
     }
     let given = ids.count as u64;
-    let alive = alive_among(m.nodes, ids);
+    let alive = alive_among(map, ids);
     let fit = fitting(given, shards, spec.replication, lists, nodes);
     let live = fitting(alive, shards, spec.replication, lists, nodes);
-    if room_for(m, name, shards) {
+    if room_for(map, name, shards) {
         return six(live, 0, 0, total - fit, fit - live, 0);
     }
     six(0, 0, 0, total - fit, fit - live, live)

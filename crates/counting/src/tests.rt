@@ -1,45 +1,64 @@
-// Internal: what the map says of a request: the name, the ids that are alive, and room for the shards.
+// Internal: what the map says of a request: the name, the ids that are alive, and room for the shards. Of a well-formed map, in its bytes.
 ghost use mathlib.Core.Path.{_≡_};
 ghost use Prim.Native.Nat.{_≤_};
-ghost use Rattle.model.specs.Map.Create.{hasCollection};
+ghost use Rattle.model.specs.Map.Create.{nodeAt, isAlive, hasCollection};
 ghost use Rattle.state.specs.Names.{viewName};
-ghost use Rattle.state.specs.Counted.{TablesCounted};
-ghost use Rattle.state.specs.View.{viewNodes, viewCollections, viewMap};
+ghost use Rattle.state.specs.View.{viewNodes, viewMap};
+ghost use Rattle.mapimage.specs.Image.{nodesAt, mapAt};
+ghost use Rattle.mapbytes.specs.Places.{NodesCount};
 ghost use Rattle.enumeration.specs.Closed.{aliveAmong, roomFor};
-ghost use Rattle.counting.specs.Read.{viewIds};
+ghost use Rattle.counting.specs.Read.{viewIds, Formed};
 use crate::IdSet;
-use creating::is_alive;
-use model::DataNodeId;
-use newshards::with_shards;
-use state::Collections;
+use image::codes::flag_of;
+use mapbytes::layout::COLLECTIONS_USED;
+use mapbytes::layout::NODE;
+use mapbytes::layout::NODES;
+use mapbytes::layout::NODES_USED;
+use mapbytes::layout::SHARDS_USED;
+use mapbytes::place::collection_place;
+use mapbytes::place::node_place;
+use mapbytes::place::shard_place;
 use state::Name;
-use state::NodeList;
-use state::Nodes;
-use state::Placement;
-use state::ShardMap;
-use state::collection_table::collection_at;
+use state::ShardKey;
+
+// Where the row of a node says whether it is alive.
+const ALIVE: usize = 16;
 
 // 2: the name is taken.
-pub fn is_taken(t: Collections, name: Name) -> bool
-    requires { ⌜ t .count ≤ 16 ⌝ }
-    ensures { λ r. ⌜ r ≡ hasCollection (viewName name) (viewCollections t) ⌝ }
+pub fn is_taken(map: &[u8], name: Name) -> bool
+    requires { ⌜ Formed (now map) ⌝ }
+    ensures { λ r. ⌜ r ≡ hasCollection (viewName name) (viewMap (mapAt (now (map .entry))) .collections) ⌝ }
 {
-    let count = t.count;
-    let at = collection_at(t, name);
+    let count = num::get8(map, COLLECTIONS_USED) as usize;
+    let at = collection_place(map, count, name);
     at < count
 }
 
-// 5: how many of the ids the map knows alive.
-pub fn alive_among(t: Nodes, ids: IdSet) -> u64
-    requires { ⌜ (t .count ≤ 32) × (ids .count ≤ 4) ⌝ }
-    ensures { λ r. ⌜ r ≡ aliveAmong (viewNodes t) (viewIds ids) ⌝ }
+// A node that the map knows alive.
+fn is_alive(map: &[u8], count: usize, id: u64) -> bool
+    requires { ⌜ NodesCount (now map) count ⌝ }
+    ensures { λ r. ⌜ r ≡ isAlive (nodeAt (viewNodes (nodesAt (now (map .entry)))) id) ⌝ }
 {
+    let at = node_place(map, count, id);
+    if count <= at {
+        return false;
+    }
+    let row = NODES + NODE * at;
+    flag_of(num::get4(map, row + ALIVE))
+}
+
+// 5: how many of the ids the map knows alive.
+pub fn alive_among(map: &[u8], ids: IdSet) -> u64
+    requires { ⌜ (Formed (now map)) × (ids .count ≤ 4) ⌝ }
+    ensures { λ r. ⌜ r ≡ aliveAmong (viewMap (mapAt (now (map .entry))) .nodes) (viewIds ids) ⌝ }
+{
+    let known = num::get8(map, NODES_USED) as usize;
     let count = ids.count;
     let mut n: u64 = 0;
     let mut i: usize = 0;
     while i < count {
         let id = ids.items[i];
-        if is_alive(t, DataNodeId(id)) {
+        if is_alive(map, known, id) {
             n += 1;
             i += 1;
         } else {
@@ -49,23 +68,28 @@ pub fn alive_among(t: Nodes, ids: IdSet) -> u64
     n
 }
 
-// 23: room for that many shards, as Create's own code finds it: by the keys, whatever the lists are.
-pub fn room_for(m: ShardMap, name: Name, shards: u32) -> bool
-    requires { ⌜ (TablesCounted m) × (shards ≤ 16) ⌝ }
-    ensures { λ r. ⌜ r ≡ roomFor (viewMap m) (viewName name) shards ⌝ }
+// 23: room for that many shards: those whose keys the map has take no new row.
+pub fn room_for(map: &[u8], name: Name, shards: u32) -> bool
+    requires { ⌜ (Formed (now map)) × (shards ≤ 16) ⌝ }
+    ensures { λ r. ⌜ r ≡ roomFor (viewMap (mapAt (now (map .entry)))) (viewName name) shards ⌝ }
 {
-    let count = m.collections.count;
-    if 16 <= count {
+    if 16 <= num::get8(map, COLLECTIONS_USED) {
         return false;
     }
-    let empty = NodeList {
-        nodes: [DataNodeId(0); 8],
-        count: 0,
-    };
-    let lists = Placement {
-        lists: [empty; 16],
-        count: shards as usize,
-    };
-    let grown = with_shards(m.shards, m.nodes, name, lists);
-    if grown.full { false } else { true }
+    let count = num::get8(map, SHARDS_USED) as usize;
+    let mut total = count;
+    let mut i: u32 = 0;
+    while i < shards {
+        let key = ShardKey {
+            collection: name,
+            shard: i,
+        };
+        if shard_place(map, count, key) < count {
+            i += 1;
+        } else {
+            total += 1;
+            i += 1;
+        }
+    }
+    total <= 64
 }

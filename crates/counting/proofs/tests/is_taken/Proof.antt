@@ -6,18 +6,18 @@ use mathlib.Core.List.{List, [], _∷_, _++_}
 use Prim.Native.Nat.{ℕ, _+_, _-_, _*_, _≤_, _<_}
 use lib.ListN.{length, getD, take, drop, set}
 use Rattle.state.specs.Names.{viewName}
-use Rattle.state.specs.View.{viewCollection, viewCollections}
-use Rattle.state.proofs.Tables.{used-size, of-field}
-use Rattle.counting.proofs.OfTests.{taken}
+use Rattle.counting.proofs.OfTests.{collections-few, name-taken}
 use Rattle.counting.proofs.tests.is_taken.Statement.{statement}
 use Rattle.counting.proofs.tests.is_taken.Tie as tie
 
-collection-at-requires : tie.Need-collection-at-requires
-collection-at-requires c κs = search needs
+get8-requires : tie.Need-get8-requires
+get8-requires c κs = let l = (c .before .pre) .long in omega arith
+
+collection-place-requires : tie.Need-collection-place-requires
+collection-place-requires c κs = let e = (c .get8) .ensures in ((c .before .before .pre) .long, omega (arith, collections-few ((c .before .before .args) .map .now) (c .before .before .pre)), sym e)
 
 returns : tie.Need-returns
-returns c = let h : length ((c .before .args) .t .items) ≡ 16 = search (needs, of-field) in
-    taken (viewName ((c .before .args) .name)) (viewCollections ((c .before .args) .t)) ((c .before .args) .t .count) ((c .collection-at) .result) (used-size viewCollection ((c .before .args) .t .items) ((c .before .args) .t .count) (omega (arith, (c .before .pre)))) ((c .collection-at) .ensures)
+returns c = name-taken ((c .before .before .before .args) .map .now) (c .before .before .before .pre) (viewName ((c .before .before .before .args) .name)) _ ((c .collection-place) .result) ((c .before .get8) .ensures) ((c .collection-place) .ensures)
 
 pub is-taken-spec : {M : Type 1} → statement M
-is-taken-spec = tie.close (tie.spec collection-at-requires returns)
+is-taken-spec = tie.close (tie.spec get8-requires collection-place-requires returns)
