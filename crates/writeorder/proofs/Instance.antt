@@ -53,30 +53,30 @@ y = message.encodeWrite (asks (wireUpsert 7 ones))
 unfoldable pub z : List ℕ
 z = message.encodeWrite (asks (wireDelete 41))
 
-read-x : message.decodeWrite x ≡ some (asks (wireUpsert 41 ones))
+pub read-x : message.decodeWrite x ≡ some (asks (wireUpsert 41 ones))
 unfolding opened x
 read-x = refl
 
-read-y : message.decodeWrite y ≡ some (asks (wireUpsert 7 ones))
+pub read-y : message.decodeWrite y ≡ some (asks (wireUpsert 7 ones))
 unfolding opened y
 read-y = refl
 
-read-z : message.decodeWrite z ≡ some (asks (wireDelete 41))
+pub read-z : message.decodeWrite z ≡ some (asks (wireDelete 41))
 unfolding opened z
 read-z = refl
 
 abbrev pub sets : ℕ → Op
 sets id = upsert id (one ∷ [])
 
-edit-x : Edit x key (sets 41)
+pub edit-x : Edit x key (sets 41)
 unfolding opened
 edit-x = record { write = asks (wireUpsert 41 ones); read = read-x; key = refl; stored = refl }
 
-edit-y : Edit y key (sets 7)
+pub edit-y : Edit y key (sets 7)
 unfolding opened
 edit-y = record { write = asks (wireUpsert 7 ones); read = read-y; key = refl; stored = refl }
 
-edit-z : Edit z key (delete 41)
+pub edit-z : Edit z key (delete 41)
 unfolding opened
 edit-z = record { write = asks (wireDelete 41); read = read-z; key = refl; stored = refl }
 
@@ -91,22 +91,22 @@ pair v w = set (first v) 1 w
 abbrev floats : List Float
 floats = set (replicate 32768 (floatOf 0)) 0 one
 
-pub after-x : Lot
+unfoldable pub after-x : Lot
 after-x = lot (first 1) (first 1) (first 41) (first 1) (first 1) floats (first 41) (first 1)
 
-pub after-y : Lot
+unfoldable pub after-y : Lot
 after-y = lot (first 1) (first 1) (first 7) (first 1) (first 1) floats (first 7) (first 1)
 
-pub after-z : Lot
+unfoldable pub after-z : Lot
 after-z = lot (first 1) (first 1) (first 41) (first 2) (first 0) (replicate 32768 (floatOf 0)) (first 0) (first 0)
 
-pub after-x-y : Lot
+unfoldable pub after-x-y : Lot
 after-x-y = lot (pair 1 1) (pair 1 2) (pair 41 7) (pair 1 1) (pair 1 1) (set floats 32 one) (pair 7 41) (pair 2 1)
 
-pub after-y-x : Lot
+unfoldable pub after-y-x : Lot
 after-y-x = lot (pair 1 1) (pair 1 2) (pair 7 41) (pair 1 1) (pair 1 1) (set floats 32 one) (pair 7 41) (pair 1 2)
 
-pub after-x-z : Lot
+unfoldable pub after-x-z : Lot
 after-x-z = lot (pair 1 1) (pair 1 2) (pair 41 41) (pair 1 2) (pair 1 0) floats (first 41) (first 1)
 
 -- ---- what they are read as
@@ -121,15 +121,15 @@ reads-before : Reads before 0 0 [] []
 unfolding opened fits lentFits sized wellFormedStore everyBelow sameRows view.logOf view.firsts view.entryOf view.opOf view.stretch table.rowsOf table.zipped table.vectorsOf table.vectorOf table.rowOp table.playRows table.playRowsFrom
 reads-before = record { log = refl; vectors = refl; fits = refl }
 
-reads-after-x : Reads after-x 1 1 (entry 1 (sets 41) ∷ []) (row 41 ∷ [])
+pub reads-after-x : Reads after-x 1 1 (entry 1 (sets 41) ∷ []) (row 41 ∷ [])
 unfolding opened after-x fits lentFits sized wellFormedStore everyBelow sameRows view.logOf view.firsts view.entryOf view.opOf view.stretch table.rowsOf table.zipped table.vectorsOf table.vectorOf table.rowOp table.playRows table.playRowsFrom
 reads-after-x = record { log = refl; vectors = refl; fits = refl }
 
-reads-after-y : Reads after-y 1 1 (entry 1 (sets 7) ∷ []) (row 7 ∷ [])
+pub reads-after-y : Reads after-y 1 1 (entry 1 (sets 7) ∷ []) (row 7 ∷ [])
 unfolding opened after-y fits lentFits sized wellFormedStore everyBelow sameRows view.logOf view.firsts view.entryOf view.opOf view.stretch table.rowsOf table.zipped table.vectorsOf table.vectorOf table.rowOp table.playRows table.playRowsFrom
 reads-after-y = record { log = refl; vectors = refl; fits = refl }
 
-reads-after-z : Reads after-z 0 1 (entry 1 (delete 41) ∷ []) []
+pub reads-after-z : Reads after-z 0 1 (entry 1 (delete 41) ∷ []) []
 unfolding opened after-z fits lentFits sized wellFormedStore everyBelow sameRows view.logOf view.firsts view.entryOf view.opOf view.stretch table.rowsOf table.zipped table.vectorsOf table.vectorOf table.rowOp table.playRows table.playRowsFrom
 reads-after-z = record { log = refl; vectors = refl; fits = refl }
 
@@ -141,34 +141,34 @@ pub reads-after-y-x : Reads after-y-x 2 2 (entry 1 (sets 7) ∷ entry 2 (sets 41
 unfolding opened after-y-x fits lentFits sized wellFormedStore everyBelow sameRows view.logOf view.firsts view.entryOf view.opOf view.stretch table.rowsOf table.zipped table.vectorsOf table.vectorOf table.rowOp table.playRows table.playRowsFrom
 reads-after-y-x = record { log = refl; vectors = refl; fits = refl }
 
-reads-after-x-z : Reads after-x-z 0 2 (entry 1 (sets 41) ∷ entry 2 (delete 41) ∷ []) []
+pub reads-after-x-z : Reads after-x-z 0 2 (entry 1 (sets 41) ∷ entry 2 (delete 41) ∷ []) []
 unfolding opened after-x-z fits lentFits sized wellFormedStore everyBelow sameRows view.logOf view.firsts view.entryOf view.opOf view.stretch table.rowsOf table.zipped table.vectorsOf table.vectorOf table.rowOp table.playRows table.playRowsFrom
 reads-after-x-z = record { log = refl; vectors = refl; fits = refl }
 
 -- ---- the headers pass their test
 
-formed-empty : (s : Stores) → lentNode s (header 0 0) ≡ true
+pub formed-empty : (s : Stores) → lentNode s (header 0 0) ≡ true
 unfolding opened lentNode slotsFit countsFit
 formed-empty s = rw (s .long 0 0) refl
 
-formed-one : (s : Stores) → lentNode s (header 1 1) ≡ true
+pub formed-one : (s : Stores) → lentNode s (header 1 1) ≡ true
 unfolding opened lentNode slotsFit countsFit
 formed-one s = rw (s .long 0 1) refl
 
 -- ---- each call keeps its contract
 
-abbrev accepted : ℕ → WriteReply
+abbrev pub accepted : ℕ → WriteReply
 accepted o = C.Accepted (record { 0 = o })
 
 abbrev answers : (stored last : ℕ) → WriteAnswer
 answers stored last = record { answer = accepted last; node = header stored last; refused = 0 }
 
 -- what the definition does of the message m
-abbrev Does : (m : List ℕ) (l₁ l₂ : Log) (v₁ v₂ : Vectors) (last : ℕ) → Type 0
+abbrev pub Does : (m : List ℕ) (l₁ l₂ : Log) (v₁ v₂ : Vectors) (last : ℕ) → Type 0
 Does m l₁ l₂ v₁ v₂ last =
     (t : Key → Bool) → t key ≡ true → record { answer = accepted last; node = read l₂ v₂ } ≡ told writeWord (writeWith t (read l₁ v₁) 5 1 m)
 
-does-x : Does x [] (entry 1 (sets 41) ∷ []) [] (row 41 ∷ []) 1
+pub does-x : Does x [] (entry 1 (sets 41) ∷ []) [] (row 41 ∷ []) 1
 unfolding opened x fits
 does-x t e = rw e refl
 
@@ -176,7 +176,7 @@ call-x : WritesAt (header 0 0) before after-x 5 1 x 0 (answers 1 1)
 call-x =
     call x (wireUpsert 41 ones) read-x 0 0 1 1 before after-x [] (entry 1 (sets 41) ∷ []) [] (row 41 ∷ []) reads-before reads-after-x formed-empty does-x
 
-does-y : Does y [] (entry 1 (sets 7) ∷ []) [] (row 7 ∷ []) 1
+pub does-y : Does y [] (entry 1 (sets 7) ∷ []) [] (row 7 ∷ []) 1
 unfolding opened y fits
 does-y t e = rw e refl
 
@@ -184,7 +184,7 @@ call-y : WritesAt (header 0 0) before after-y 5 1 y 0 (answers 1 1)
 call-y =
     call y (wireUpsert 7 ones) read-y 0 0 1 1 before after-y [] (entry 1 (sets 7) ∷ []) [] (row 7 ∷ []) reads-before reads-after-y formed-empty does-y
 
-does-z : Does z [] (entry 1 (delete 41) ∷ []) [] [] 1
+pub does-z : Does z [] (entry 1 (delete 41) ∷ []) [] [] 1
 unfolding opened z fits
 does-z t e = rw e refl
 
@@ -192,7 +192,7 @@ call-z : WritesAt (header 0 0) before after-z 5 1 z 0 (answers 0 1)
 call-z =
     call z (wireDelete 41) read-z 0 0 0 1 before after-z [] (entry 1 (delete 41) ∷ []) [] [] reads-before reads-after-z formed-empty does-z
 
-does-x-y : Does y (entry 1 (sets 41) ∷ []) (entry 1 (sets 41) ∷ entry 2 (sets 7) ∷ []) (row 41 ∷ []) (row 7 ∷ row 41 ∷ []) 2
+pub does-x-y : Does y (entry 1 (sets 41) ∷ []) (entry 1 (sets 41) ∷ entry 2 (sets 7) ∷ []) (row 41 ∷ []) (row 7 ∷ row 41 ∷ []) 2
 unfolding opened y fits
 does-x-y t e = rw e refl
 
@@ -200,7 +200,7 @@ call-x-y : WritesAt (header 1 1) after-x after-x-y 5 1 y 0 (answers 2 2)
 call-x-y =
     call y (wireUpsert 7 ones) read-y 1 1 2 2 after-x after-x-y (entry 1 (sets 41) ∷ []) (entry 1 (sets 41) ∷ entry 2 (sets 7) ∷ []) (row 41 ∷ []) (row 7 ∷ row 41 ∷ []) reads-after-x reads-after-x-y formed-one does-x-y
 
-does-y-x : Does x (entry 1 (sets 7) ∷ []) (entry 1 (sets 7) ∷ entry 2 (sets 41) ∷ []) (row 7 ∷ []) (row 7 ∷ row 41 ∷ []) 2
+pub does-y-x : Does x (entry 1 (sets 7) ∷ []) (entry 1 (sets 7) ∷ entry 2 (sets 41) ∷ []) (row 7 ∷ []) (row 7 ∷ row 41 ∷ []) 2
 unfolding opened x fits
 does-y-x t e = rw e refl
 
@@ -208,7 +208,7 @@ call-y-x : WritesAt (header 1 1) after-y after-y-x 5 1 x 0 (answers 2 2)
 call-y-x =
     call x (wireUpsert 41 ones) read-x 1 1 2 2 after-y after-y-x (entry 1 (sets 7) ∷ []) (entry 1 (sets 7) ∷ entry 2 (sets 41) ∷ []) (row 7 ∷ []) (row 7 ∷ row 41 ∷ []) reads-after-y reads-after-y-x formed-one does-y-x
 
-does-x-z : Does z (entry 1 (sets 41) ∷ []) (entry 1 (sets 41) ∷ entry 2 (delete 41) ∷ []) (row 41 ∷ []) [] 2
+pub does-x-z : Does z (entry 1 (sets 41) ∷ []) (entry 1 (sets 41) ∷ entry 2 (delete 41) ∷ []) (row 41 ∷ []) [] 2
 unfolding opened z fits
 does-x-z t e = rw e refl
 
@@ -224,7 +224,7 @@ node stored last lots = record { header = header stored last; lots = lots }
 abbrev empty : ℕ → Lot
 empty slot = before
 
-pub now : Moment
+unfoldable pub now : Moment
 now = record { clock = 5; least = 1 }
 
 pub slot-zero : (stored last : ℕ) → 0 ≡ slotOf (header stored last) key

@@ -1,5 +1,6 @@
 pub mod OfNode
 pub mod OfSearch
+pub mod Turns
 pub mod OfWrites
 pub mod Order
 pub mod Calls

@@ -6,7 +6,7 @@ use mathlib.Core.List.{List}
 use mathlib.Core.Option.{Option, none, some}
 use native.Mathlib.Omega.{arith}
 use lib.Dec.{ltb}
-use borrow.Author.Tests.{le-ltb}
+use borrow.Author.Tests.{le-ltb, ltb-false}
 use Rattle.model.specs.Refusals.{Refusal, unknownShard, undecodable, outsideDomain, malformed}
 use Rattle.model.specs.Keys.{Key, sameKey}
 use Rattle.model.specs.Log.{Op, ShardReplica, append, lastOffset}
@@ -30,7 +30,7 @@ abbrev offsetIn : WriteAnswer → Option ℕ
 offsetIn (accepted o) = some o
 offsetIn (writeRefused r) = none
 
-no-offset : {A : Type 0} (r : Refusal) (o : ℕ) → writeRefused r ≡ accepted o → A
+pub no-offset : {A : Type 0} (r : Refusal) (o : ℕ) → writeRefused r ≡ accepted o → A
 no-offset r o e = none-some (ap offsetIn e)
 
 pub longer : (r : ShardReplica) (op : Op) → lastOffset (append r op) ≡ lastOffset r + 1
@@ -73,6 +73,7 @@ pub record Appended (n p : Node) (clock least : ℕ) (k : Key) (epoch : ℕ) (op
   pub shard : Held
   pub held : heldShard n k ≡ some shard
   pub admits : Admits (leased n clock) least epoch shard
+  pub room : lastOffset (shard .replica) ≤ 1023
   pub offset : o ≡ lastOffset (shard .replica) + 1
   pub after : heldShard p k ≡ some (withReplica shard (append (shard .replica) op))
   pub others : (j : Key) → sameKey k j ≡ false → heldShard p j ≡ heldShard n j
@@ -103,6 +104,7 @@ module _ (n : Node) (clock least : ℕ) (k : Key) (epoch : ℕ) (op : Op) where
         shard = h;
         held = f .1;
         admits = a .0;
+        room = omega (arith, longer (h .replica) op, ltb-false 1024 (lastOffset (append (h .replica) op)) (a .1));
         offset = some-same (ap offsetIn (sym (f .2) ∙ ap (λ (z : Result WriteAnswer Held). z .answer) is)) ∙ longer (h .replica) op;
         after = at-after n k absent does key h (f .1) ∙ ap (λ (z : Result WriteAnswer Held). some (z .after)) is;
         others = λ j d. at-other n k absent does key j d;

@@ -29,6 +29,7 @@ use Rattle.durable.proofs.Seen.{lots-lend, lots-change}
 use Rattle.durable.proofs.Lent.{lent-well}
 use Rattle.writeorder.specs.Editors.{Owned, nodeOf, Edit, Moment, Writes}
 use Rattle.writeorder.proofs.OfNode.{Appended, Checked, on-accepted, with-lent, with-accepted}
+use Rattle.writeorder.proofs.Turns.{Taken}
 
 -- ---- an accepting reply is an acceptance of the definition
 
@@ -83,10 +84,6 @@ module _ (u : Owned) (c : Moment) (m : List ℕ) (v : Owned) (w : WriteReply) (x
       log-formed (h .replica) (sym (ap logIfHeld is) ∙ log) .played
 
 -- an accepted Write of an edit
-pub record Taken (u : Owned) (c : Moment) (v : Owned) (k : Key) (epoch : ℕ) (op : Op) (o : ℕ) : Type 0 where
-  pub appended : Appended (nodeOf u) (nodeOf v) (c .clock) (c .least) k epoch op o
-  pub step : InStep (appended .shard .replica)
-
 module _ (u : Owned) (c : Moment) (m : List ℕ) (k : Key) (op : Op) (e : Edit m k op) (v : Owned) (o : ℕ)
     (x : Writes u c m v (R.Accepted (record { 0 = o }))) where
   abbrev y : message.Write
@@ -101,7 +98,10 @@ module _ (u : Owned) (c : Moment) (m : List ℕ) (k : Key) (op : Op) (e : Edit m
   pub checked : Checked (c .clock) y
   checked = passed .0
 
-  at-own : Taken u c v (y .key) (y .epoch) (storedOp (y .op)) o
+  abbrev Took : Key → Op → Type 0
+  Took j z = Taken (nodeOf u) (nodeOf v) (c .clock) (c .least) j (y .epoch) z o
+
+  at-own : Took (y .key) (storedOp (y .op))
   at-own =
       let n = nodeOf u in
       let is = with-lent (lent u c m v _ x) n (c .clock) (c .least) m y (e .read) checked (passed .1) in
@@ -112,7 +112,5 @@ module _ (u : Owned) (c : Moment) (m : List ℕ) (k : Key) (op : Op) (e : Edit m
       (sym (ap (λ (z : Result client.WriteAnswer held.Node). z .answer) is) ∙ accepts)) in
       record { appended = a; step = in-step u c m v _ x y (e .read) (passed .1) (a .shard) (a .held) }
 
-  pub taken : Taken u c v k (y .epoch) op o
-  taken =
-      subst (λ (j : Key). Taken u c v j (y .epoch) op o) (e .key)
-      (subst (λ (z : Op). Taken u c v (y .key) (y .epoch) z o) (e .stored) at-own)
+  pub taken : Took k op
+  taken = subst (λ (j : Key). Took j op) (e .key) (subst (Took (y .key)) (e .stored) at-own)

@@ -26,33 +26,33 @@ use Rattle.onenode.proofs.Write.{read}
 use Rattle.writeorder.proofs.Calls.{header, Reads, view-of, lent}
 use Rattle.writeorder.proofs.Instance.{ones, entry, row, sets, after-x-y, after-y-x, reads-after-x-y, reads-after-y-x, slot-zero, searches-met}
 
-abbrev asked : Query
+abbrev pub asked : Query
 asked = record { key = key; epoch = 1; k = 1; bits = ones }
 
-unfoldable bytes : List ℕ
+unfoldable pub bytes : List ℕ
 bytes = encodeSearch asked
 
-decoded : decodeSearch bytes ≡ some asked
+pub decoded : decodeSearch bytes ≡ some asked
 unfolding opened bytes
 decoded = refl
 
 named : SearchSlot (header 2 2) bytes 0
 named v d = slot-zero 2 2 ∙ ap (λ (w : Query). slotOf (header 2 2) (w .key)) (some-same (sym decoded ∙ d))
 
-abbrev room : Output
+abbrev pub room : Output
 room = output (0 ∷ []) (floatOf 0 ∷ [])
 
-abbrev filled : Output
+abbrev pub filled : Output
 filled = output (7 ∷ []) (floatOf 0 ∷ [])
 
-abbrev said : NodeSearched
+abbrev pub said : NodeSearched
 said = record { answer = S.Found 1; refused = 0 }
 
-formed : (s : Stores) → lentNode s (header 2 2) ≡ true
+pub formed : (s : Stores) → lentNode s (header 2 2) ≡ true
 unfolding opened lentNode slotsFit countsFit
 formed s = rw (s .long 0 2) refl
 
-abbrev vectors : Vectors
+abbrev pub vectors : Vectors
 vectors = row 7 ∷ row 41 ∷ []
 
 does : (t : Key → Bool) (l : Log) → t key ≡ true
@@ -60,7 +60,7 @@ does : (t : Key → Bool) (l : Log) → t key ≡ true
 unfolding opened bytes fits
 does t l e = rw e refl
 
-search : (a : Lot) (l : Log) → Reads a 2 2 l vectors → SearchesAt (header 2 2) a bytes 5 room filled 0 said
+pub search : (a : Lot) (l : Log) → Reads a 2 2 l vectors → SearchesAt (header 2 2) a bytes 5 room filled 0 said
 unfolding refused.counted
 search a l r = record {
   same = λ s slot w d.

@@ -1,0 +1,177 @@
+-- Two accepted Writes at a node of the definition, one after the other: both orders leave the same vectors and other logs, of one id the later
+-- alone counts, and what a node accepts it accepts after another Write. The laws of the calls, by value and over images, follow from these.
+-- Assumes nothing.
+use Prim.Native.Nat.{ℕ, _+_, _≤_}
+use mathlib.Core.Path.{_≡_, refl, sym, ap, _∙_, subst}
+use mathlib.Core.Bool.{true, false}
+use mathlib.Core.Option.{Option, none, some}
+use native.Mathlib.Omega.{arith}
+use Rattle.model.specs.Keys.{Key, sameKey}
+use Rattle.model.specs.Log.{Op, ShardReplica, push, append}
+use Rattle.model.specs.Node.Held.{Held, Node}
+use Rattle.model.specs.Node.Lease.{leased}
+use Rattle.model.specs.Node.Shards.{heldShard, withReplica}
+use Rattle.model.specs.Node.Client.{accepted, onWrite}
+use Rattle.model.proofs.Lists.{some-same, not-both}
+use Rattle.model.proofs.Log.Play.{InStep}
+use Rattle.model.proofs.Log.Edits.{opId, swap-appends, later-append, appends-differ}
+use Rattle.model.proofs.Map.Orders.{same-key, key-same}
+use Rattle.header.proofs.OfLists.{by-case}
+use Rattle.writeorder.specs.Editors.{vectorsIn, logIn}
+use Rattle.writeorder.proofs.OfNode.{Appended, Admits, longer, admits-after, on-admitted}
+use Rattle.writeorder.proofs.OfSearch.{bare, unlogged, Alike}
+
+-- ---- nodes that are the same but for logs
+
+-- the vectors are among what is the same
+pub alike-vectors : (n p : Node) → Alike n p → (j : Key) → vectorsIn (heldShard n j) ≡ vectorsIn (heldShard p j)
+alike-vectors n p a j = same (heldShard n j) ∙ ap vectorsIn (a .shards j) ∙ sym (same (heldShard p j))
+  where
+    same : (o : Option Held) → vectorsIn o ≡ vectorsIn (unlogged o)
+    same none = refl
+    same (some h) = refl
+
+-- p is n with another replica at the shard h of the key
+pub record Leaves (n p : Node) (k : Key) (h : Held) (r : ShardReplica) : Type 0 where
+  pub after : heldShard p k ≡ some (withReplica h r)
+  pub others : (j : Key) → sameKey k j ≡ false → heldShard p j ≡ heldShard n j
+  pub expiry : p .expiry ≡ n .expiry
+
+-- two replicas of one epoch and metric, with the same vectors
+leaves-alike : (n p q : Node) (k : Key) (h : Held) (r s : ShardReplica) → Leaves n p k h r → Leaves n q k h s
+    → r .epoch ≡ s .epoch → r .metric ≡ s .metric → r .vectors ≡ s .vectors → Alike p q
+leaves-alike n p q k h r s v w e m g = record {
+  expiry = v .expiry ∙ sym (w .expiry);
+  shards = λ j.
+      by-case (sameKey k j)
+      (λ z. subst (λ (i : Key). unlogged (heldShard p i) ≡ unlogged (heldShard q i)) (same-key k j z) own)
+      (λ z. ap unlogged (v .others j z ∙ sym (w .others j z)));
+}
+  where
+    bare-same : bare (withReplica h r) ≡ bare (withReplica h s)
+    bare-same = rw (e, m, g) refl
+
+    own : unlogged (heldShard p k) ≡ unlogged (heldShard q k)
+    own = ap unlogged (v .after) ∙ ap some bare-same ∙ sym (ap unlogged (w .after))
+
+-- `append` keeps the epoch and the metric
+epoch-kept : (r : ShardReplica) (op : Op) → append r op .epoch ≡ r .epoch
+unfolding append push
+epoch-kept r op = refl
+
+metric-kept : (r : ShardReplica) (op : Op) → append r op .metric ≡ r .metric
+unfolding append push
+metric-kept r op = refl
+
+-- ---- one accepted Write, and two in turn
+
+-- the edit appended to a log that the shard's vectors are played from
+pub record Taken (n p : Node) (clock least : ℕ) (k : Key) (epoch : ℕ) (op : Op) (o : ℕ) : Type 0 where
+  pub appended : Appended n p clock least k epoch op o
+  pub step : InStep (appended .shard .replica)
+
+-- the shard that two began with, and both edits appended
+pub record Both (n p : Node) (k : Key) (a b : Op) : Type 0 where
+  pub shard : Held
+  pub held : heldShard n k ≡ some shard
+  pub step : InStep (shard .replica)
+  pub leaves : Leaves n p k shard (append (append (shard .replica) a) b)
+
+pub both : (n p q : Node) (c l c′ l′ : ℕ) (k : Key) (d d′ : ℕ) (a b : Op) (o₁ o₂ : ℕ) → Taken n p c l k d a o₁ → Appended p q c′ l′ k d′ b o₂ → Both n q k a b
+both n p q c l c′ l′ k d d′ a b o₁ o₂ t s =
+    let g = t .appended in
+    let same : s .shard ≡ withReplica (g .shard) (append (g .shard .replica) a) = some-same (sym (s .held) ∙ g .after) in
+    record {
+      shard = g .shard;
+      held = g .held;
+      step = t .step;
+      leaves = record {
+        after = s .after ∙ ap (λ (h : Held). some (withReplica h (append (h .replica) b))) same;
+        others = λ j z. s .others j z ∙ g .others j z;
+        expiry = s .expiry ∙ g .expiry;
+      };
+    }
+
+module _ (n p q : Node) (k : Key) (a b : Op) (one : Both n p k a b) where
+  abbrev h : Held
+  h = one .shard
+
+  abbrev r : ShardReplica
+  r = h .replica
+
+  -- different ids, in either order
+  module _ (two : Both n q k b a) where
+    other-leaves : Leaves n q k h (append (append r b) a)
+    other-leaves =
+        subst (λ (g : Held). Leaves n q k g (append (append (g .replica) b) a)) (some-same (sym (two .held) ∙ one .held)) (two .leaves)
+
+    pub swapped : (opId a ≡ opId b → ⊥) → Alike p q
+    swapped d =
+        leaves-alike n p q k h (append (append r a) b) (append (append r b) a) (one .leaves) other-leaves
+        (epoch-kept (append r a) b ∙ epoch-kept r a ∙ sym (epoch-kept (append r b) a ∙ epoch-kept r b))
+        (metric-kept (append r a) b ∙ metric-kept r a ∙ sym (metric-kept (append r b) a ∙ metric-kept r b))
+        (swap-appends r a b (one .step) d)
+
+    -- the logs of the shard differ whenever the edits do
+    pub differ : (a ≡ b → ⊥) → logIn (heldShard p k) ≡ logIn (heldShard q k) → ⊥
+    differ d e =
+        appends-differ r a b d (some-same (sym (ap logIn (one .leaves .after)) ∙ e ∙ ap logIn (other-leaves .after)))
+
+  -- one id: the later alone, at the same node
+  pub later : (clock least epoch o : ℕ) → Appended n q clock least k epoch b o → opId a ≡ opId b → Alike p q
+  later clock least epoch o alone same =
+      leaves-alike n p q k h (append (append r a) b) (append r b) (one .leaves)
+      (subst (λ (g : Held). Leaves n q k g (append (g .replica) b)) (some-same (sym (alone .held) ∙ one .held))
+      (record { after = alone .after; others = alone .others; expiry = alone .expiry }))
+      (epoch-kept (append r a) b ∙ epoch-kept r a ∙ sym (epoch-kept r b))
+      (metric-kept (append r a) b ∙ metric-kept r a ∙ sym (metric-kept r b))
+      (later-append r a b (one .step) same)
+
+-- ---- two shards
+
+key-turned : (k j : Key) → sameKey k j ≡ false → sameKey j k ≡ false
+key-turned k j e =
+    by-case (sameKey j k)
+    (λ t. not-both (sameKey k j) (subst (λ (i : Key). sameKey i j ≡ true) (same-key j k t) (key-same j)) e) (λ t. t)
+
+-- edits of different shards, in either order: every shard is the same, with its log
+pub apart : (n p q p′ q′ : Node) (k j : Key) (a b : Op) (c₁ l₁ e₁ o₁ c₂ l₂ e₂ o₂ c₃ l₃ e₃ o₃ c₄ l₄ e₄ o₄ : ℕ) → sameKey k j ≡ false
+    → Appended n p c₁ l₁ k e₁ a o₁ → Appended p q c₂ l₂ j e₂ b o₂ → Appended n p′ c₃ l₃ j e₃ b o₃ → Appended p′ q′ c₄ l₄ k e₄ a o₄
+    → (i : Key) → heldShard q i ≡ heldShard q′ i
+apart n p q p′ q′ k j a b c₁ l₁ e₁ o₁ c₂ l₂ e₂ o₂ c₃ l₃ e₃ o₃ c₄ l₄ e₄ o₄ d x y y′ x′ i =
+    let z = key-turned k j d in
+    by-case (sameKey k i)
+    (λ t.
+    subst (λ (i : Key). heldShard q i ≡ heldShard q′ i) (same-key k i t)
+    (y .others k z ∙ x .after
+    ∙ ap (λ (h : Held). some (withReplica h (append (h .replica) a))) (some-same (sym (x .held) ∙ sym (y′ .others k z) ∙ x′ .held))
+    ∙ sym (x′ .after)))
+    (λ t.
+    by-case (sameKey j i)
+    (λ u.
+    subst (λ (i : Key). heldShard q i ≡ heldShard q′ i) (same-key j i u)
+    (y .after
+    ∙ ap (λ (h : Held). some (withReplica h (append (h .replica) b))) (some-same (sym (y .held) ∙ x .others j d ∙ y′ .held))
+    ∙ sym (y′ .after) ∙ sym (x′ .others j d)))
+    (λ u. y .others i u ∙ x .others i t ∙ sym (y′ .others i u) ∙ sym (x′ .others i t)))
+
+-- ---- space for both
+
+-- What a node accepts it accepts after another Write: the admission reads neither log nor vectors
+module _ (n p q : Node) (c l c′ l′ : ℕ) (k : Key) (d d′ : ℕ) (a b : Op) (o₁ o₂ : ℕ) where
+  -- of the same shard at the next offset, if its log had at most 1,022 entries: its own offset says so
+  pub next : o₁ ≤ 1023 → Appended n p c l k d a o₁ → Appended n q c′ l′ k d′ b o₂ → onWrite p c′ l′ k d′ b .answer ≡ accepted (o₁ + 1)
+  next space g j =
+      let h = withReplica (g .shard) (append (g .shard .replica) a) in
+      let z = longer (g .shard .replica) a in
+      let ok : Admits (leased p c′) l′ d′ h =
+      admits-after n p c′ l′ d′ (g .shard) (append (g .shard .replica) a) (g .expiry)
+      (subst (λ (y : Held). Admits (leased n c′) l′ d′ y) (some-same (sym (j .held) ∙ g .held)) (j .admits)) in
+      on-admitted p c′ l′ k d′ b h (g .after) ok (omega (arith, z, g .offset)) ∙ ap accepted (omega (arith, z, g .offset))
+
+  -- of another shard at the offset that it would have alone
+  pub beside : (j : Key) → sameKey k j ≡ false → Appended n p c l k d a o₁ → Appended n q c′ l′ j d′ b o₂ → onWrite p c′ l′ j d′ b .answer ≡ accepted o₂
+  beside j z g s =
+      on-admitted p c′ l′ j d′ b (s .shard) (g .others j z ∙ s .held)
+      (admits-after n p c′ l′ d′ (s .shard) (s .shard .replica) (g .expiry) (s .admits)) (s .room)
+      ∙ ap accepted (sym (s .offset))
