@@ -1,13 +1,12 @@
 -- Paper 02, 2.10, over byte images: `catalogue_write` called twice at a node in either order, on images lent twice alike, each call on what the
 -- one before it left and known by its contract alone. The laws are those of `writeorder`, of what the images are read as. Assumes nothing.
 use Prim.Native.Nat.{ℕ, _+_}
-use mathlib.Core.Path.{_≡_, sym, ap, _∙_, subst}
-use mathlib.Core.Bool.{true, false}
+use mathlib.Core.Path.{_≡_, ap, _∙_, subst}
+use mathlib.Core.Bool.{true}
 use mathlib.Core.List.{List}
 use native.Mathlib.Omega.{arith}
-use Rattle.model.specs.Keys.{Key, sameKey}
+use Rattle.model.specs.Keys.{Key}
 use Rattle.model.specs.Log.{Op}
-use Rattle.model.specs.Node.Shards.{heldShard}
 use Rattle.model.specs.Node.Wire.{storedOp}
 use Rattle.model.specs.Node.Client as client
 use Rattle.model.proofs.Log.Edits.{opId}
@@ -15,9 +14,9 @@ use Rattle.clientends.specs.Count.{countLent}
 use Rattle.intact.specs.Intact.{Intact}
 use Rattle.writeorder.specs.Editors.{logIn, Edit, Moment}
 use Rattle.writeorder.proofs.OfNode.{on-admitted}
-use Rattle.writeorder.proofs.OfSearch.{unlogged, Alike}
+use Rattle.writeorder.proofs.OfSearch.{Alike}
 use Rattle.writeorder.proofs.Turns as turns
-use Rattle.writeorder.proofs.Turns.{Both, alike-vectors, swapped, later, differ, next, beside, apart}
+use Rattle.writeorder.proofs.Turns.{Both, alike-vectors, swapped, later, differ, next}
 use Rattle.imageorder.specs.Images.{Images, nodeIn, vectorsAt, logAt, SpaceForTwo, Writes, Accepts, InTurn, SearchedAlike}
 use Rattle.imageorder.proofs.OfWrites.{TakenIn, left-intact, took, zero}
 use Rattle.imageorder.proofs.OfSearches.{alike-searches}
@@ -54,13 +53,6 @@ module _ (u : Images) (k : Key) (y : List ℕ) (b : Op) (f : Edit y k b) (d : Mo
     after-zero : (o : ℕ) → client.onWrite (nodeIn v) (d .clock) (d .least) k (f .write .epoch) b .answer ≡ client.accepted o → (z : Images) (r : ℕ) → Writes v d y z r
         → r ≡ 0
     after-zero o e = zero-at v (left-intact u v c x 0 i p) counts-after o e
-
-    -- of another shard
-    pub beside-zero : sameKey j k ≡ false → (z : Images) (r : ℕ) → Writes v d y z r → r ≡ 0
-    beside-zero n =
-        after-zero (alone .offset)
-        (beside (nodeIn u) (nodeIn v) (nodeIn (q .left)) (c .clock) (c .least) (d .clock) (d .least) j (e .write .epoch) (f .write .epoch) a b (other .offset)
-        (alone .offset) k n (other .taken .appended) (alone .taken .appended))
 
   -- of the same shard, whose log had at most 1,022 entries
   pub second-zero : (x : List ℕ) (a : Op) (e : Edit x k a) (c : Moment) (v : Images) → Writes u c x v 0 → Intact (u .header) (u .stores) → SpaceForTwo u k
@@ -128,32 +120,3 @@ module _ (u : Images) (i : Intact (u .header) (u .stores)) (k : Key) (x y : List
 
     pub later-searches : SearchedAlike v w
     later-searches = alike-searches v w (turn-intact u i k x y a b e f c d v 0 0 t) (left-intact u w d′ y 0 i s) later-alike
-
--- ---- edits of different shards, whatever their ids
-
-module _ (u : Images) (i : Intact (u .header) (u .stores)) (k j : Key) (x y : List ℕ) (a b : Op) (e : Edit x k a) (f : Edit y j b) (n : sameKey k j ≡ false) where
-  -- no space is asked beside that of each alone
-  pub apart-accepted : (c d : Moment) → Accepts u c x → Accepts u d y → (v : Images) (r₁ r₂ : ℕ) → InTurn u c d x y v r₁ r₂ → (r₁ ≡ 0) × (r₂ ≡ 0)
-  apart-accepted c d p q v r₁ r₂ t =
-      let z = first-zero u k x a e c p i (t .between) r₁ (t .called) in
-      (z, beside-zero u j y b f d q k x a e c (t .between) (subst (Writes u c x (t .between)) z (t .called)) i n v r₂ (t .followed))
-
-  module _ (c d c′ d′ : Moment) (v w : Images) (t : InTurn u c d x y v 0 0) (s : InTurn u c′ d′ y x w 0 0) where
-    -- every shard is the same, with its log
-    pub same-shards : (z : Key) → heldShard (nodeIn v) z ≡ heldShard (nodeIn w) z
-    same-shards =
-        apart (nodeIn u) (nodeIn (t .between)) (nodeIn v) (nodeIn (s .between)) (nodeIn w) k j a b _ _ _ _ _ _ _ _ _ _ _ _ _ _ _ _ n
-        (took u (t .between) c x (t .called) k a e .taken .appended) (took (t .between) v d y (t .followed) j b f .taken .appended)
-        (took u (s .between) c′ y (s .called) j b f .taken .appended) (took (s .between) w d′ x (s .followed) k a e .taken .appended)
-
-    pub apart-searches : SearchedAlike v w
-    apart-searches =
-        alike-searches v w
-        (left-intact (t .between) v d y 0 (left-intact u (t .between) c x 0 i (t .called)) (t .followed))
-        (left-intact (s .between) w d′ x 0 (left-intact u (s .between) c′ y 0 i (s .called)) (s .followed))
-        (record {
-          expiry =
-              took (t .between) v d y (t .followed) j b f .taken .appended .expiry ∙ took u (t .between) c x (t .called) k a e .taken .appended .expiry
-              ∙ sym (took (s .between) w d′ x (s .followed) k a e .taken .appended .expiry ∙ took u (s .between) c′ y (s .called) j b f .taken .appended .expiry);
-          shards = λ z. ap unlogged (same-shards z);
-        })

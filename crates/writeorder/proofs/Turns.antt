@@ -3,7 +3,7 @@
 -- Assumes nothing.
 use Prim.Native.Nat.{ℕ, _+_, _≤_}
 use mathlib.Core.Path.{_≡_, refl, sym, ap, _∙_, subst}
-use mathlib.Core.Bool.{true, false}
+use mathlib.Core.Bool.{false}
 use mathlib.Core.Option.{Option, none, some}
 use native.Mathlib.Omega.{arith}
 use Rattle.model.specs.Keys.{Key, sameKey}
@@ -12,10 +12,10 @@ use Rattle.model.specs.Node.Held.{Held, Node}
 use Rattle.model.specs.Node.Lease.{leased}
 use Rattle.model.specs.Node.Shards.{heldShard, withReplica}
 use Rattle.model.specs.Node.Client.{accepted, onWrite}
-use Rattle.model.proofs.Lists.{some-same, not-both}
+use Rattle.model.proofs.Lists.{some-same}
 use Rattle.model.proofs.Log.Play.{InStep}
 use Rattle.model.proofs.Log.Edits.{opId, swap-appends, later-append, appends-differ}
-use Rattle.model.proofs.Map.Orders.{same-key, key-same}
+use Rattle.model.proofs.Map.Orders.{same-key}
 use Rattle.header.proofs.OfLists.{by-case}
 use Rattle.writeorder.specs.Editors.{vectorsIn, logIn}
 use Rattle.writeorder.proofs.OfNode.{Appended, Admits, longer, admits-after, on-admitted}
@@ -127,34 +127,6 @@ module _ (n p q : Node) (k : Key) (a b : Op) (one : Both n p k a b) where
       (metric-kept (append r a) b ∙ metric-kept r a ∙ sym (metric-kept r b))
       (later-append r a b (one .step) same)
 
--- ---- two shards
-
-key-turned : (k j : Key) → sameKey k j ≡ false → sameKey j k ≡ false
-key-turned k j e =
-    by-case (sameKey j k)
-    (λ t. not-both (sameKey k j) (subst (λ (i : Key). sameKey i j ≡ true) (same-key j k t) (key-same j)) e) (λ t. t)
-
--- edits of different shards, in either order: every shard is the same, with its log
-pub apart : (n p q p′ q′ : Node) (k j : Key) (a b : Op) (c₁ l₁ e₁ o₁ c₂ l₂ e₂ o₂ c₃ l₃ e₃ o₃ c₄ l₄ e₄ o₄ : ℕ) → sameKey k j ≡ false
-    → Appended n p c₁ l₁ k e₁ a o₁ → Appended p q c₂ l₂ j e₂ b o₂ → Appended n p′ c₃ l₃ j e₃ b o₃ → Appended p′ q′ c₄ l₄ k e₄ a o₄
-    → (i : Key) → heldShard q i ≡ heldShard q′ i
-apart n p q p′ q′ k j a b c₁ l₁ e₁ o₁ c₂ l₂ e₂ o₂ c₃ l₃ e₃ o₃ c₄ l₄ e₄ o₄ d x y y′ x′ i =
-    let z = key-turned k j d in
-    by-case (sameKey k i)
-    (λ t.
-    subst (λ (i : Key). heldShard q i ≡ heldShard q′ i) (same-key k i t)
-    (y .others k z ∙ x .after
-    ∙ ap (λ (h : Held). some (withReplica h (append (h .replica) a))) (some-same (sym (x .held) ∙ sym (y′ .others k z) ∙ x′ .held))
-    ∙ sym (x′ .after)))
-    (λ t.
-    by-case (sameKey j i)
-    (λ u.
-    subst (λ (i : Key). heldShard q i ≡ heldShard q′ i) (same-key j i u)
-    (y .after
-    ∙ ap (λ (h : Held). some (withReplica h (append (h .replica) b))) (some-same (sym (y .held) ∙ x .others j d ∙ y′ .held))
-    ∙ sym (y′ .after) ∙ sym (x′ .others j d)))
-    (λ u. y .others i u ∙ x .others i t ∙ sym (y′ .others i u) ∙ sym (x′ .others i t)))
-
 -- ---- space for both
 
 -- What a node accepts it accepts after another Write: the admission reads neither log nor vectors
@@ -168,10 +140,3 @@ module _ (n p q : Node) (c l c′ l′ : ℕ) (k : Key) (d d′ : ℕ) (a b : Op
       admits-after n p c′ l′ d′ (g .shard) (append (g .shard .replica) a) (g .expiry)
       (subst (λ (y : Held). Admits (leased n c′) l′ d′ y) (some-same (sym (j .held) ∙ g .held)) (j .admits)) in
       on-admitted p c′ l′ k d′ b h (g .after) ok (omega (arith, z, g .offset)) ∙ ap accepted (omega (arith, z, g .offset))
-
-  -- of another shard at the offset that it would have alone
-  pub beside : (j : Key) → sameKey k j ≡ false → Appended n p c l k d a o₁ → Appended n q c′ l′ j d′ b o₂ → onWrite p c′ l′ j d′ b .answer ≡ accepted o₂
-  beside j z g s =
-      on-admitted p c′ l′ j d′ b (s .shard) (g .others j z ∙ s .held)
-      (admits-after n p c′ l′ d′ (s .shard) (s .shard .replica) (g .expiry) (s .admits)) (s .room)
-      ∙ ap accepted (sym (s .offset))
