@@ -6,10 +6,7 @@ ghost use Prim.Native.Nat.{_≤_};
 ghost use lib.ListN.{length};
 ghost use Rattle.model.specs.Map.Tables.{emptyMap};
 ghost use Rattle.mapimage.specs.Image.{mapStored};
-ghost use Rattle.mapcalls.specs.Calls.{AppliesTo, Empties, unlentNumber};
-use crate::numbers::verdict_number;
-use mapimage::read_map;
-use mapimage::write_map;
+ghost use Rattle.mapcalls.specs.Calls.{Empties, unlentNumber};
 use rpc::Message;
 
 pub mod lists;
@@ -48,25 +45,4 @@ pub fn unlent_number(request: &[u8]) -> u32
         return 21;
     };
     24
-}
-
-// A request is applied to the map. 0 applied; 1 to 16 rejected, which the map remembers of the client (1, an older command, it does not: no
-// byte changes); 21, 23, 24, 25 refused.
-pub fn apply(map: &mut [u8], request: &[u8]) -> u32
-    ensures { λ r. ⌜ AppliesTo (now (map .entry)) (now (map .exit)) (now (request .entry)) r ⌝ }
-{
-    let lent = read_map(map);
-    if !lent.found {
-        return unlent_number(request);
-    }
-    let settled = apply::apply(lent.map, request);
-    let number = verdict_number(settled.verdict);
-    if number == 1 {
-        return number;
-    }
-    if 16 < number {
-        return number;
-    }
-    write_map(map, settled.map);
-    number
 }

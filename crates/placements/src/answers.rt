@@ -28,7 +28,7 @@ pub fn empty(map: &mut [u8], s: &[u8]) {
 
 // A request, message 01.
 pub fn apply(map: &mut [u8], s: &[u8]) {
-    let n = mapcalls::apply(map, s);
+    let n = applycalls::apply(map, s);
     if n == 0 {
         word(b"applied\n");
         return;
