@@ -44,7 +44,7 @@ pub fn zero_in(s: Spec) -> bool
 }
 
 // Internal: 4: as many lists as shards, each with a node and no more than the replication.
-fn lists_match(p: Placement, replication: u32) -> bool
+pub fn lists_match(p: Placement, replication: u32) -> bool
     requires { ⌜ p .count ≤ 16 ⌝ }
     ensures { λ r. ⌜ r ≡ every (listMatches replication) (viewPlacement p) ⌝ }
 {
