@@ -10,5 +10,4 @@ pub mod Shown
 pub mod Refused
 pub mod WellFormed
 pub mod Calls
-pub mod Dump
 pub mod OwnEpoch
