@@ -1,9 +1,7 @@
 pub mod OfPlaces
 pub mod OfRemember
 pub mod OfSettled
-pub mod OfTaken
 pub mod OfChanged
 pub mod OfNodes
-pub mod OfBench
 pub mod OfCollections
 pub mod OfCall

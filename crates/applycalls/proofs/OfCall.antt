@@ -1,6 +1,6 @@
 -- The whole call: what is refused before the command is looked at, and what settling comes to. Assumes nothing.
 use Prim.Native.Nat.{ℕ, _≤_}
-use mathlib.Core.Path.{_≡_, refl, sym, subst}
+use mathlib.Core.Path.{_≡_, refl, sym, ap, subst, _∙_}
 use mathlib.Core.Bool.{Bool, true, false}
 use mathlib.Core.List.{List, []}
 use mathlib.Core.Option.{none, some}
@@ -16,7 +16,7 @@ use Rattle.state.specs.declared.Refusal.the-variants.{Undecodable, Malformed}
 use Rattle.state.specs.declared.Request.{Request}
 use Rattle.state.specs.declared.ShardKey.{ShardKey}
 use Rattle.state.specs.declared.Verdict.{Verdict}
-use Rattle.requests.specs.Read.{LoadedAll}
+use Rattle.requests.specs.Read.{LoadedAll, Within}
 use Rattle.mapcheck.specs.Lent.{wellFormedLent}
 use Rattle.mapcheck.proofs.Formed.{lent-tables}
 use Rattle.apply.specs.Calls.{AppliesBytes}
@@ -24,6 +24,7 @@ use Rattle.apply.proofs.Ways as ways
 use Rattle.mapimage.specs.Image.{mapAt, mapLent, codesListed}
 use Rattle.mapcalls.specs.Calls.{noted, AppliesTo}
 use Rattle.mapcalls.proofs.OfApply.{unlent-way, unlent-21, unlent-24, kept-way, written-way}
+use Rattle.mapcalls.proofs.OfFormed.{image-formed}
 use Rattle.mapput.specs.Few.{Few}
 use Rattle.applycalls.specs.Settles.{Ready, Settles}
 
@@ -40,9 +41,24 @@ pub room : (s : List ℕ) → mapLent s ≡ true → 26536 ≤ length s
 unfolding mapLent
 room s e = leb-true 26536 (length s) (and-left (leb 26536 (length s)) (codesListed s) e)
 
-few-of : (s : List ℕ) → mapLent s ≡ true → wellFormedLent (mapAt s) ≡ true → Few s
+pub few-of : (s : List ℕ) → mapLent s ≡ true → wellFormedLent (mapAt s) ≡ true → Few s
 unfolding mapAt
 few-of s e w = let t = lent-tables (mapAt s) w in record { long = room s e; nodes = t .nodes; collections = t .collections; shards = t .shards .count; sessions = t .sessions }
+
+-- a map that passed its test (24), and a request within its limits
+pub ready : (s : List ℕ) (q : Request) → mapLent s ≡ true → wellFormedLent (mapAt s) ≡ true → Within q → Ready s q
+ready s q given formed within = record { few = few-of s given formed; settleable = ways.settleable (mapAt s) q within formed }
+
+-- and it passes the test again
+pub settled-formed : (s t : List ℕ) (q : Request) (r : ℕ) → mapLent s ≡ true → wellFormedLent (mapAt s) ≡ true → Settles s t q r
+    → (mapLent t ≡ true) × (wellFormedLent (mapAt t) ≡ true)
+settled-formed s t q r given formed x = go (noted r) refl
+  where
+    go : (b : Bool) → noted r ≡ b → (mapLent t ≡ true) × (wellFormedLent (mapAt t) ≡ true)
+    go false n = subst (λ (u : List ℕ). (mapLent u ≡ true) × (wellFormedLent (mapAt u) ≡ true)) (sym (x .kept n)) (given, formed)
+    go true n =
+        let b = x .written n .becomes (room s given) in
+        (b .lent, ap wellFormedLent (b .held) ∙ image-formed (x .after .map) (x .settles .counted) (x .settles .formed))
 
 module _ (s bytes : List ℕ) where
   pub undecoded-way : decodeRequest bytes ≡ none → AppliesTo s s bytes 21
@@ -65,7 +81,7 @@ module _ (s bytes : List ℕ) where
 
   module _ (q : Request) (c : Called s bytes q) where
     pub ready-for : Ready s q
-    ready-for = record { few = few-of s (c .given) (c .formed); settleable = ways.settleable (mapAt s) q (c .loaded .within refl) (c .formed) }
+    ready-for = ready s q (c .given) (c .formed) (c .loaded .within refl)
 
     module _ (t : List ℕ) (r : ℕ) (x : Settles s t q r) where
       called : AppliesBytes (mapAt s) bytes (x .after)

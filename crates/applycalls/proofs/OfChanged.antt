@@ -18,6 +18,7 @@ use Rattle.model.specs.Map.WellFormed.{shardFits}
 use Rattle.model.specs.declared.Epoch.{Epoch}
 use Rattle.model.proofs.Map.Rows.{every-find}
 use Rattle.model.proofs.Map.WellFormed.{map-parts}
+use Rattle.state.specs.Counted.{ShardsCounted}
 use Rattle.state.specs.Find.{firstAt}
 use Rattle.state.specs.Names.{viewKey, viewAddress}
 use Rattle.state.specs.View.{answerOf, changeOf, changeCommand, commandIn, viewCommand, viewMap, viewPlacement, viewShard, viewShards}
@@ -38,38 +39,42 @@ use Rattle.mapput.specs.Rows.{readAs}
 use Rattle.mapput.proofs.OfWhole.{shards-long}
 use Rattle.mapedits.specs.Becomes.{ShardsBecome}
 use Rattle.mapedits.proofs.OfFrames.{edits-shards}
-use Rattle.applycalls.specs.Settles.{Fresh, Stands}
+use Rattle.applycalls.specs.Settles.{Accepted, Fresh, Stands, Taken}
 use Rattle.applycalls.proofs.OfPlaces.{set-is, shard-none, shard-some, shard-sized}
-use Rattle.applycalls.proofs.OfTaken.{Taken}
 
 pub stands : (s : List ℕ) (q : Request) → Fresh s q → (n hit : ℕ) → n ≡ numberAt 8 s 24
     → hit ≡ firstAt (isShard (viewKey (q .key))) (viewShards (shardsAt s)) → Stands s n hit (q .key)
 unfolding mapAt
 stands s q fr n hit f g = record { few = fr .ready .few; counted = fr .ready .settleable .counted .shards; count = f; found = g }
 
-module _ (s : List ℕ) (q : Request) (fr : Fresh s q) (c : Change) (e : Epoch) (asks : q .command ≡ OfShard c e) (n hit : ℕ) (count : n ≡ numberAt 8 s 24)
-    (found : hit ≡ firstAt (isShard (viewKey (q .key))) (viewShards (shardsAt s))) (v : Verdict)
-    (answered : answerOf v ≡ changeAnswer (viewKey (q .key)) (e .0) (changeOf c) (model.shardAt (viewShards (shardsAt s)) (viewKey (q .key)))) where
+pub shards-counted : (s : List ℕ) (q : Request) → Fresh s q → ShardsCounted (shardsAt s)
+unfolding mapAt
+shards-counted s q fr = fr .ready .settleable .counted .shards
+
+module _ (s : List ℕ) (q : Request) (fr : Fresh s q) (c : Change) (e : Epoch) (asks : q .command ≡ OfShard c e) where
   abbrev m : ShardMap
   m = mapAt s
 
   abbrev few : Few s
   few = fr .ready .few
 
-  abbrev z : Stands s n hit (q .key)
-  z = stands s q fr n hit count found
-
-  answers : answerOf v ≡ changeAnswer (viewKey (q .key)) (e .0) (changeOf c) (model.shardAt (viewMap m .shards) (viewKey (q .key)))
-  unfolding mapAt
-  answers = answered
-
   as-command : (bs : List ℕ) → viewCommand q bs ≡ changeCommand (viewKey (q .key)) (e .0) (changeOf c)
   as-command bs = ap (λ (d : Command). commandIn d (viewKey (q .key)) (viewAddress (q .address)) (viewPlacement (q .placement)) bs) asks
 
-  pub change-decided : Decided m q v
-  change-decided = record { answer = λ bs. answers ∙ sym (decide-of (viewMap m) (viewKey (q .key)) (e .0) (changeOf c)) ∙ ap (model.decide (viewMap m)) (sym (as-command bs)) }
+  pub change-decided : (v : Verdict) → answerOf v ≡ changeAnswer (viewKey (q .key)) (e .0) (changeOf c) (model.shardAt (viewShards (shardsAt s)) (viewKey (q .key)))
+      → Decided m q v
+  unfolding mapAt
+  change-decided v answered =
+      record { answer = λ bs. answered ∙ sym (decide-of (viewMap m) (viewKey (q .key)) (e .0) (changeOf c)) ∙ ap (model.decide (viewMap m)) (sym (as-command bs)) }
 
-  module _ (ok : answerOf v ≡ accepts) where
+  module _ (ok : Accepted s q) (n hit : ℕ) (count : n ≡ numberAt 8 s 24) (found : hit ≡ firstAt (isShard (viewKey (q .key))) (viewShards (shardsAt s))) where
+    abbrev z : Stands s n hit (q .key)
+    z = stands s q fr n hit count found
+
+    accepts-it : changeAnswer (viewKey (q .key)) (e .0) (changeOf c) (model.shardAt (viewShards (shardsAt s)) (viewKey (q .key))) ≡ accepts
+    unfolding mapAt
+    accepts-it = sym (decide-of (viewMap m) (viewKey (q .key)) (e .0) (changeOf c)) ∙ ap (model.decide (viewMap m)) (sym (as-command [])) ∙ ok []
+
     pub hit-inside : hit < n
     unfolding changeAnswer
     hit-inside = go (leb n hit) refl
@@ -78,7 +83,7 @@ module _ (s : List ℕ) (q : Request) (fr : Fresh s q) (c : Change) (e : Epoch) 
         go false f = leb-false n hit f
         go true f =
             let none = shard-none s n hit (q .key) z (leb-true n hit f) in
-            let w : rejects (said.noShard (viewKey (q .key))) ≡ accepts = rw none at (sym answered ∙ ok) in
+            let w : rejects (said.noShard (viewKey (q .key))) ≡ accepts = rw none at accepts-it in
             let y : _≡_ {A = ℕ} 0 1 = cc in absurd (omega arith)
 
     abbrev old : ShardRow
@@ -93,7 +98,7 @@ module _ (s : List ℕ) (q : Request) (fr : Fresh s q) (c : Change) (e : Epoch) 
     takes = record {
       sized = shard-sized s n hit (q .key) z hit-inside;
       fits = every-find shardFits (isShard (viewKey (q .key))) (viewMap m .shards) (viewShard old) (map-parts (viewMap m) (fr .ready .settleable .formed) .2 .2) there;
-      taken = change-accepts (viewMap m) (viewKey (q .key)) (e .0) (changeOf c) (viewShard old) (ap (model.decide (viewMap m)) (sym (as-command [])) ∙ sym (change-decided .answer []) ∙ ok) there;
+      taken = change-accepts (viewMap m) (viewKey (q .key)) (e .0) (changeOf c) (viewShard old) (ap (model.decide (viewMap m)) (sym (as-command [])) ∙ ok []) there;
     }
 
     module _ (new : ShardRow) (is : viewShard new ≡ changed (viewShard old) (changeOf c)) (t : List ℕ) (b : ShardsBecome s t (set (readAs s .shards) hit (viewShard new))) where
@@ -109,11 +114,9 @@ module _ (s : List ℕ) (q : Request) (fr : Fresh s q) (c : Change) (e : Epoch) 
       room : length (set shards hit (viewShard new)) ≤ 64
       room = let k = length-set shards hit (viewShard new) in let l = shards-long s few in let f = few .shards in omega arith
 
-      pub change-taken : Taken s t q v
+      pub change-taken : Taken s t q
       unfolding changeShard
       change-taken = record {
-        decided = change-decided;
-        ok = ok;
         map = setShards (readAs s) (set shards hit (viewShard new));
         edits = edits-shards s t few (set shards hit (viewShard new)) room b;
         is = λ bs.

@@ -1,8 +1,8 @@
--- Create and Drop, over the rows of the collection and of its shards. Assumes nothing.
-use Prim.Native.Nat.{ℕ, _≤_}
-use mathlib.Core.Path.{_≡_, refl, sym, ap, subst, _∙_}
+-- Create and Drop, over the rows of the collection and of its shards, and Bench, which has none. Assumes nothing.
+use Prim.Native.Nat.{ℕ}
+use mathlib.Core.Path.{_≡_, sym, ap, subst, _∙_}
 use mathlib.Core.Bool.{true, cond, not}
-use mathlib.Core.List.{List}
+use mathlib.Core.List.{List, []}
 use Rattle.model.specs.Keys as keys
 use Rattle.model.specs.Keys.{sameName}
 use Rattle.model.specs.Lists.{filter, rising}
@@ -17,7 +17,7 @@ use Rattle.model.proofs.Map.WellFormed.{map-parts}
 use Rattle.state.specs.Names.{viewKey, viewAddress, viewName}
 use Rattle.state.specs.View.{answerOf, commandIn, viewCommand, viewMap, viewPlacement, viewSpec}
 use Rattle.state.specs.declared.Command.{Command}
-use Rattle.state.specs.declared.Command.the-variants.{Create, Drop}
+use Rattle.state.specs.declared.Command.the-variants.{Create, Drop, Bench}
 use Rattle.state.specs.declared.Request.{Request}
 use Rattle.state.specs.declared.Spec.{Spec}
 use Rattle.state.specs.declared.Verdict.{Verdict}
@@ -26,8 +26,8 @@ use Rattle.mapimage.specs.Image.{mapAt}
 use Rattle.mapput.specs.Rows.{readAs}
 use Rattle.mapput.proofs.OfWhole.{read-as}
 use Rattle.mapedits.specs.Edits.{Edits}
-use Rattle.applycalls.specs.Settles.{Fresh}
-use Rattle.applycalls.proofs.OfTaken.{Taken}
+use Rattle.mapedits.proofs.OfFrames.{edits-none}
+use Rattle.applycalls.specs.Settles.{Accepted, Fresh, Taken}
 
 module _ (s : List ℕ) (q : Request) (fr : Fresh s q) where
   abbrev name : keys.Name
@@ -56,15 +56,19 @@ module _ (s : List ℕ) (q : Request) (fr : Fresh s q) where
     abbrev created : tables.Map
     created = setCollections (readAs s) (createdCollections (readAs s) name (viewSpec spec)) (createdShards (readAs s) name (viewPlacement (q .placement)))
 
-    pub create-taken : (v : Verdict) → answerOf v ≡ createAnswer (readAs s) name (viewSpec spec) (viewPlacement (q .placement)) → answerOf v ≡ accepts → (t : List ℕ) → Edits s t created → Taken s t q v
-    unfolding commit
-    create-taken v answered ok t edits = record {
-      decided = create-decided v answered;
-      ok = ok;
-      map = created;
-      edits = edits;
-      is = λ bs. sym (ap (commit (readAs s)) (as-command (Create spec) asks bs));
-    }
+    module _ (ok : Accepted s q) where
+      pub create-accepts : createAnswer (readAs s) name (viewSpec spec) (viewPlacement (q .placement)) ≡ accepts
+      unfolding model.decide
+      create-accepts =
+          decided-as (request.create name (viewSpec spec) (viewPlacement (q .placement))) ∙ sym (ap (model.decide (viewMap (mapAt s))) (as-command (Create spec) asks [])) ∙ ok []
+
+      pub create-taken : (t : List ℕ) → Edits s t created → Taken s t q
+      unfolding commit
+      create-taken t edits = record {
+        map = created;
+        edits = edits;
+        is = λ bs. sym (ap (commit (readAs s)) (as-command (Create spec) asks bs));
+      }
 
   -- ---- Drop
 
@@ -79,12 +83,25 @@ module _ (s : List ℕ) (q : Request) (fr : Fresh s q) where
     dropped =
         setCollections (readAs s) (filter (λ c. not (sameName (c .name) name)) (readAs s .collections)) (filter (λ x. not (sameName (x .key .collection) name)) (readAs s .shards))
 
-    pub drop-taken : (v : Verdict) → answerOf v ≡ cond (hasCollection name (readAs s .collections)) accepts (rejects (noCollection name)) → answerOf v ≡ accepts → (t : List ℕ) → Edits s t dropped → Taken s t q v
+    pub drop-taken : (t : List ℕ) → Edits s t dropped → Taken s t q
     unfolding commit
-    drop-taken v answered ok t edits = record {
-      decided = drop-decided v answered;
-      ok = ok;
+    drop-taken t edits = record {
       map = dropped;
       edits = edits;
       is = λ bs. sym (ap (commit (readAs s)) (as-command Drop asks bs));
+    }
+
+  -- ---- Bench
+
+  module _ (asks : q .command ≡ Bench) where
+    pub bench-decided : (v : Verdict) → answerOf v ≡ accepts → Decided (mapAt s) q v
+    unfolding model.decide
+    bench-decided v ok = record { answer = λ bs. ok ∙ sym (ap (model.decide (viewMap (mapAt s))) (as-command Bench asks bs)) }
+
+    pub bench-taken : Taken s s q
+    unfolding commit
+    bench-taken = record {
+      map = readAs s;
+      edits = edits-none s (fr .ready .few);
+      is = λ bs. sym (ap (commit (readAs s)) (as-command Bench asks bs));
     }

@@ -34,11 +34,10 @@ use Rattle.mapput.specs.Rows.{readAs}
 use Rattle.mapput.proofs.OfWhole.{read-as, nodes-long}
 use Rattle.mapedits.specs.Becomes.{NodesBecome}
 use Rattle.mapedits.proofs.OfFrames.{edits-nodes}
-use Rattle.applycalls.specs.Settles.{Fresh, NodeStands}
+use Rattle.applycalls.specs.Settles.{Accepted, Fresh, NodeStands, Taken}
 use Rattle.applycalls.proofs.OfPlaces.{set-is, node-none}
-use Rattle.applycalls.proofs.OfTaken.{Taken}
 
-module _ (s : List ℕ) (q : Request) (fr : Fresh s q) (n : DataNodeId) (i : ℕ) (v : Verdict) where
+module _ (s : List ℕ) (q : Request) (fr : Fresh s q) (n : DataNodeId) (i : ℕ) where
   abbrev m : ShardMap
   m = mapAt s
 
@@ -50,30 +49,28 @@ module _ (s : List ℕ) (q : Request) (fr : Fresh s q) (n : DataNodeId) (i : ℕ
 
   -- ---- Register
 
-  module _ (asks : q .command ≡ Register n i) (answered : answerOf v ≡ registerAnswer (viewNodes (nodesAt s)) (n .0) i (nodeAt (viewNodes (nodesAt s)) (n .0))) where
+  module _ (asks : q .command ≡ Register n i) where
     register-command : (bs : List ℕ) → viewCommand q bs ≡ request.register (n .0) (viewAddress (q .address)) i
     register-command bs = ap (λ (d : Command). commandIn d (viewKey (q .key)) (viewAddress (q .address)) (viewPlacement (q .placement)) bs) asks
 
-    pub register-decided : Decided m q v
+    pub register-decided : (v : Verdict) → answerOf v ≡ registerAnswer (viewNodes (nodesAt s)) (n .0) i (nodeAt (viewNodes (nodesAt s)) (n .0)) → Decided m q v
     unfolding mapAt model.decide
-    register-decided = record { answer = λ bs. answered ∙ sym (ap (model.decide (viewMap m)) (register-command bs)) }
+    register-decided v answered = record { answer = λ bs. answered ∙ sym (ap (model.decide (viewMap m)) (register-command bs)) }
 
     abbrev new : NodeRow
     new = record { node = n; address = q .address; incarnation = i; alive = true }
 
-    module _ (ok : answerOf v ≡ accepts) where
+    module _ (ok : Accepted s q) where
       pub register-room : length (put nodeBelow (viewNode new) nodes) ≤ 32
       unfolding commit
       register-room =
           subst (λ (x : tables.Map). length (put nodeBelow (viewNode new) (x .nodes)) ≤ 32) (read-as s few)
           (subst (λ (c : request.Command). length (commit (viewMap m) c .nodes) ≤ 32) (register-command [])
-          (commit-fits (viewMap m) (map-parts (viewMap m) (fr .ready .settleable .formed)) (viewCommand q []) (fr .ready .settleable .within) (sym (register-decided .answer []) ∙ ok) .0 .0))
+          (commit-fits (viewMap m) (map-parts (viewMap m) (fr .ready .settleable .formed)) (viewCommand q []) (fr .ready .settleable .within) (ok []) .0 .0))
 
-      pub register-taken : (t : List ℕ) → NodesBecome s t (put nodeBelow (viewNode new) nodes) → Taken s t q v
+      pub register-taken : (t : List ℕ) → NodesBecome s t (put nodeBelow (viewNode new) nodes) → Taken s t q
       unfolding commit
       register-taken t b = record {
-        decided = register-decided;
-        ok = ok;
         map = setNodes (readAs s) (put nodeBelow (viewNode new) nodes);
         edits = edits-nodes s t few (put nodeBelow (viewNode new) nodes) register-room b;
         is = λ bs. sym (ap (commit (readAs s)) (register-command bs));
@@ -81,15 +78,19 @@ module _ (s : List ℕ) (q : Request) (fr : Fresh s q) (n : DataNodeId) (i : ℕ
 
   -- ---- MarkNodeDead
 
-  module _ (asks : q .command ≡ MarkNodeDead n i) (answered : answerOf v ≡ deadAnswer (n .0) i (nodeAt (viewNodes (nodesAt s)) (n .0))) where
+  module _ (asks : q .command ≡ MarkNodeDead n i) where
     dead-command : (bs : List ℕ) → viewCommand q bs ≡ request.markDead (n .0) i
     dead-command bs = ap (λ (d : Command). commandIn d (viewKey (q .key)) (viewAddress (q .address)) (viewPlacement (q .placement)) bs) asks
 
-    pub dead-decided : Decided m q v
+    pub dead-decided : (v : Verdict) → answerOf v ≡ deadAnswer (n .0) i (nodeAt (viewNodes (nodesAt s)) (n .0)) → Decided m q v
     unfolding mapAt model.decide
-    dead-decided = record { answer = λ bs. answered ∙ sym (ap (model.decide (viewMap m)) (dead-command bs)) }
+    dead-decided v answered = record { answer = λ bs. answered ∙ sym (ap (model.decide (viewMap m)) (dead-command bs)) }
 
-    module _ (ok : answerOf v ≡ accepts) (count hit : ℕ) (z : NodeStands s count hit (n .0)) where
+    module _ (ok : Accepted s q) (count hit : ℕ) (z : NodeStands s count hit (n .0)) where
+      dead-accepts : deadAnswer (n .0) i (nodeAt (viewNodes (nodesAt s)) (n .0)) ≡ accepts
+      unfolding mapAt model.decide
+      dead-accepts = sym (ap (model.decide (viewMap m)) (dead-command [])) ∙ ok []
+
       pub dead-inside : hit < numberAt 8 s 8
       unfolding deadAnswer
       dead-inside = go (leb count hit) refl
@@ -98,7 +99,7 @@ module _ (s : List ℕ) (q : Request) (fr : Fresh s q) (n : DataNodeId) (i : ℕ
           go false f = let l = leb-false count hit f in let e = z .count in omega arith
           go true f =
               let none = node-none s count hit (n .0) z (leb-true count hit f) in
-              let w : rejects (said.notAtIncarnation (n .0) i) ≡ accepts = rw none at (sym answered ∙ ok) in
+              let w : rejects (said.notAtIncarnation (n .0) i) ≡ accepts = rw none at dead-accepts in
               let y : _≡_ {A = ℕ} 0 1 = cc in absurd (omega arith)
 
       module _ (row : NodeRow) (is : viewNode row ≡ dead (viewNode (rows.nodeAt s (40 + 96 * hit)))) where
@@ -108,11 +109,9 @@ module _ (s : List ℕ) (q : Request) (fr : Fresh s q) (n : DataNodeId) (i : ℕ
         marked-is : marked ≡ update (isNode (n .0)) dead nodes
         marked-is = set-is (numberAt 8 s 8) (rows.nodeAt s) 96 40 noNode 32 (few .nodes) viewNode (isNode (n .0)) hit (z .found) dead-inside dead (viewNode row) is
 
-        pub dead-taken : (t : List ℕ) → NodesBecome s t marked → Taken s t q v
+        pub dead-taken : (t : List ℕ) → NodesBecome s t marked → Taken s t q
         unfolding commit
         dead-taken t b = record {
-          decided = dead-decided;
-          ok = ok;
           map = setNodes (readAs s) marked;
           edits = edits-nodes s t few marked (let k = length-set nodes hit (viewNode row) in let l = nodes-long s few in let f = few .nodes in omega arith) b;
           is = λ bs. ap (setNodes (readAs s)) marked-is ∙ sym (ap (commit (readAs s)) (dead-command bs));

@@ -1,7 +1,7 @@
 -- The ways of a request through a map's image: older, repeated, of a 65th client, applied, rejected, refused. Of any command. Assumes nothing.
 use Prim.Native.Nat.{ℕ, _+_, _*_, _≤_, _<_}
 use mathlib.Core.Path.{_≡_, refl, sym, ap, subst, _∙_}
-use mathlib.Core.Bool.{Bool, true, false, cond}
+use mathlib.Core.Bool.{true, false, cond}
 use mathlib.Core.List.{List, []}
 use mathlib.Core.Option.{none, some}
 use lib.ListN.{length, length-map}
@@ -22,23 +22,18 @@ use Rattle.state.specs.Counted.{rowCounted}
 use Rattle.state.specs.View.{answerIn, answerOf, refusalOf, rejectionOf, viewCommand, viewRequest, viewMap, viewSession, viewSessions, sessionOf}
 use Rattle.state.specs.declared.Answer.{Answer}
 use Rattle.state.specs.declared.Answer.the-variants.{Done, Refused}
-use Rattle.state.specs.declared.Command.{Command}
-use Rattle.state.specs.declared.Command.the-variants.{Bench}
 use Rattle.state.specs.declared.Outcome.{Outcome}
 use Rattle.state.specs.declared.Outcome.the-variants.{Applied, Rejected}
 use Rattle.state.specs.declared.Refusal.{Refusal}
 use Rattle.state.specs.declared.Refusal.the-variants.{Undecodable, NoRoom, Malformed, LastEpoch}
 use Rattle.state.specs.declared.Rejection.{Rejection}
-use Rattle.state.specs.declared.Rejection.the-variants.{Older}
 use Rattle.state.specs.declared.Request.{Request}
 use Rattle.state.specs.declared.SessionRow.{SessionRow}
 use Rattle.state.specs.declared.ShardMap.{ShardMap}
 use Rattle.state.specs.declared.Verdict.{Verdict}
 use Rattle.commands.specs.Decided.{Decided}
-use Rattle.commands.proofs.OfCommand.{notBench, sets-by}
 use Rattle.settle.specs.Applied.{Settleable, SettledAs}
-use Rattle.settle.proofs.OfApply.{kept, settled, applied-place, applied-map, rejected-place, rejected-map, refused-map, changes, unseen-new, unseen-later}
-use Rattle.image.specs.Codes.{outcomeCoded}
+use Rattle.settle.proofs.OfApply.{settle-answer, kept, settled, applied-place, applied-map, rejected-place, rejected-map, refused-map, changes, unseen-new, unseen-later}
 use Rattle.image.specs.Shape.{items}
 use Rattle.image.proofs.Images.{length-items}
 use Rattle.maprows.specs.Rows.{sessionAt}
@@ -46,7 +41,6 @@ use Rattle.mapimage.specs.Image.{sessionsAt, mapAt, MapWrites}
 use Rattle.mapimage.proofs.Back.{Fits}
 use Rattle.mapcalls.specs.Calls.{noted}
 use Rattle.mapcalls.proofs.Kept.{Now, decide-now}
-use Rattle.mapcalls.proofs.OfNumbers.{code-number}
 use Rattle.mapput.specs.Few.{Few}
 use Rattle.mapput.specs.Rows.{shardRows, readAs}
 use Rattle.mapput.proofs.OfWhole.{read-as, fits}
@@ -54,74 +48,55 @@ use Rattle.mapedits.specs.Edits.{Within, Edits}
 use Rattle.mapedits.specs.Other.{withSessions, withVersion}
 use Rattle.mapedits.proofs.OfCover.{within-any}
 use Rattle.mapedits.proofs.OfFrames.{rows-counted, tables-counted, written-over}
-use Rattle.applycalls.specs.Settles.{Ready, Fresh, Known, Writes, Room, Noted, Settles, takesEffect}
+use Rattle.applycalls.specs.Settles.{Ready, Fresh, Known, Accepted, Answers, Keeps, Decides, Taken, Writes, Room, Noted, Settles, takesEffect}
 use Rattle.applycalls.proofs.OfPlaces.{session-some, session-none}
 
-pub seq-is : (s : List ℕ) (p : ℕ) → sessionAt s p .seq ≡ numberAt 8 s (p + 8)
-unfolding sessionAt
-seq-is s p = refl
+-- ---- what is decided
+
+pub now-answers : (s : List ℕ) (q : Request) → Fresh s q → (v : Verdict) → Decided (mapAt s) q v → Answers s q v
+now-answers s q fr v d bs =
+    d .answer bs ∙ sym (settle-answer (viewMap (mapAt s)) (viewRequest q bs) _) ∙ ap (λ (x : model.Applied). x .answer) (sym (fr .decided bs))
+
+pub answers-now : (s : List ℕ) (q : Request) → Fresh s q → (v : Verdict) → Answers s q v → Decided (mapAt s) q v
+answers-now s q fr v h = record {
+  answer = λ bs. h bs ∙ ap (λ (x : model.Applied). x .answer) (fr .decided bs) ∙ settle-answer (viewMap (mapAt s)) (viewRequest q bs) _;
+}
+
+pub decides-now : (s : List ℕ) (q : Request) → Fresh s q → (v : Verdict) → Decided (mapAt s) q v → Decides s q (record { verdict = v; fresh = true })
+decides-now s q fr v d = record { answer = now-answers s q fr v d; fresh = λ _. fr; told = λ e. not-both true refl e }
+
+pub decides-told : (s : List ℕ) (q : Request) (v : Verdict) → Keeps s q (answerOf v) → Decides s q (record { verdict = v; fresh = false })
+decides-told s q v k = record {
+  answer = λ bs. sym (ap (λ (x : model.Applied). x .answer) (k bs));
+  fresh = λ e. not-both false e refl;
+  told = λ _. k;
+}
+
+-- an answer by its name
+pub keeps-as : (s : List ℕ) (q : Request) (a b : tables.Answer) → b ≡ a → Keeps s q a → Keeps s q b
+keeps-as s q a b e k = subst (Keeps s q) (sym e) k
 
 -- ---- a client that the map knows
 
-module _ (s : List ℕ) (q : Request) (rd : Ready s q) (place : ℕ) (found : place ≡ firstAt (isClient (q .client)) (viewSessions (sessionsAt s)))
-    (inside : place < numberAt 8 s 32) where
+module _ (s : List ℕ) (q : Request) (place : ℕ) (k : Known s q place) where
   abbrev row : SessionRow
   row = sessionAt s (21416 + 80 * place)
 
   present : model.sessionAt (viewMap (mapAt s) .sessions) (q .client) ≡ some (viewSession row)
   unfolding mapAt
-  present = session-some s (rd .few .sessions) (q .client) place found inside
+  present = session-some s (k .ready .few .sessions) (q .client) place (k .found) (k .inside)
 
-  pub older-way : q .seq < row .seq → Settles s s q 1
-  older-way lt =
-      let v : Verdict = record { answer = Done (Rejected Older); key = q .key } in
-      record {
-        after = record { verdict = v; map = mapAt s };
-        settles = kept (mapAt s) q (rd .settleable) v (rejects said.older) refl (λ bs. older-seq (viewMap (mapAt s)) (viewRequest q bs) (viewSession row) present lt);
-        answer = refl;
-        written = λ n. not-both (noted 1) n refl;
-        kept = λ _. refl;
-      }
+  pub older-keeps : q .seq < row .seq → Keeps s q (rejects said.older)
+  older-keeps lt bs = older-seq (viewMap (mapAt s)) (viewRequest q bs) (viewSession row) present lt
 
-  pub next-way : row .seq < q .seq → Fresh s q
-  next-way lt = record {
-    ready = rd;
+  pub equal-keeps : q .seq ≡ row .seq → Keeps s q (tables.outcome (viewSession row .outcome))
+  equal-keeps e bs = equal-seq (viewMap (mapAt s)) (viewRequest q bs) (viewSession row) present e
+
+  pub next-fresh : row .seq < q .seq → Fresh s q
+  next-fresh lt = record {
+    ready = k .ready;
     decided = λ bs. next-seq (viewMap (mapAt s)) (viewRequest q bs) (viewSession row) present lt;
     unseen = unseen-later (mapAt s) q (viewSession row) present lt;
-  }
-
-module _ (s : List ℕ) (q : Request) (place : ℕ) (k : Known s q place) (o : Outcome) (same : o ≡ sessionAt s (21416 + 80 * place) .outcome) (r : ℕ)
-    (code : r ≡ outcomeCoded o .code) where
-  abbrev old : SessionRow
-  old = sessionAt s (21416 + 80 * place)
-
-  abbrev again : Verdict
-  again = record { answer = Done (old .outcome); key = old .key }
-
-  repeats : SettledAs (mapAt s) q (record { verdict = again; map = mapAt s })
-  repeats =
-      kept (mapAt s) q (k .ready .settleable) again (tables.outcome (viewSession old .outcome)) refl
-      (λ bs. equal-seq (viewMap (mapAt s)) (viewRequest q bs) (viewSession old) (present s q (k .ready) place (k .found) (k .inside)) (k .same))
-
-  number : r ≡ reasonNumber (answerOf again)
-  number = code ∙ ap (λ (x : Outcome). outcomeCoded x .code) same ∙ code-number (old .outcome) (viewKey (old .key))
-
-  pub repeated-kept : noted r ≡ false → Settles s s q r
-  repeated-kept n = record {
-    after = record { verdict = again; map = mapAt s };
-    settles = repeats;
-    answer = number;
-    written = λ w. not-both (noted r) w n;
-    kept = λ _. refl;
-  }
-
-  pub repeated-written : noted r ≡ true → (t : List ℕ) → MapWrites s t (mapAt s) → Settles s t q r
-  repeated-written n t w = record {
-    after = record { verdict = again; map = mapAt s };
-    settles = repeats;
-    answer = number;
-    written = λ _. w;
-    kept = λ z. not-both (noted r) n z;
   }
 
 -- ---- a client that the map does not know
@@ -137,23 +112,38 @@ module _ (s : List ℕ) (q : Request) (rd : Ready s q) (place : ℕ) (found : pl
       ap (λ (x : tables.Map). length (x .sessions)) (read-as s (rd .few)) ∙ length-map (items (numberAt 8 s 32) (sessionAt s) 80 21416) viewSession
       ∙ length-items (numberAt 8 s 32) (sessionAt s) 80 21416
 
-  pub full-way : 64 ≤ numberAt 8 s 32 → Settles s s q 23
-  full-way h =
-      let v : Verdict = record { answer = Refused NoRoom; key = q .key } in
-      let l = sessions-are in
-      record {
-        after = record { verdict = v; map = mapAt s };
-        settles = kept (mapAt s) q (rd .settleable) v (tables.refused said.noRoom) refl (λ bs. full-clients (viewMap (mapAt s)) (viewRequest q bs) absent (omega arith));
-        answer = refl;
-        written = λ n. not-both (noted 23) n refl;
-        kept = λ _. refl;
-      }
+  pub full-keeps : 64 ≤ numberAt 8 s 32 → Keeps s q (tables.refused said.noRoom)
+  full-keeps h bs = let l = sessions-are in full-clients (viewMap (mapAt s)) (viewRequest q bs) absent (omega arith)
 
-  pub new-way : numberAt 8 s 32 < 64 → Fresh s q
-  new-way h = let l = sessions-are in record {
+  pub new-fresh : numberAt 8 s 32 < 64 → Fresh s q
+  new-fresh h = let l = sessions-are in record {
     ready = rd;
     decided = λ bs. new-client (viewMap (mapAt s)) (viewRequest q bs) absent (omega arith);
     unseen = unseen-new (mapAt s) q absent;
+  }
+
+-- ---- told again
+
+module _ (s : List ℕ) (q : Request) (rd : Ready s q) (v : Verdict) (k : Keeps s q (answerOf v)) (r : ℕ) (number : r ≡ reasonNumber (answerOf v)) where
+  repeats : SettledAs (mapAt s) q (record { verdict = v; map = mapAt s })
+  repeats = kept (mapAt s) q (rd .settleable) v (answerOf v) refl k
+
+  pub repeated-kept : noted r ≡ false → Settles s s q r
+  repeated-kept n = record {
+    after = record { verdict = v; map = mapAt s };
+    settles = repeats;
+    answer = number;
+    written = λ w. not-both (noted r) w n;
+    kept = λ _. refl;
+  }
+
+  pub repeated-written : noted r ≡ true → (t : List ℕ) → MapWrites s t (mapAt s) → Settles s t q r
+  repeated-written n t w = record {
+    after = record { verdict = v; map = mapAt s };
+    settles = repeats;
+    answer = number;
+    written = λ _. w;
+    kept = λ z. not-both (noted r) n z;
   }
 
 -- ---- what is remembered
@@ -168,13 +158,6 @@ remembers : (s : List ℕ) (few : Few s) (q : Request) (o : tables.Outcome) (ver
 unfolding remembered
 remembers s few q o version after e =
     e ∙ ap (λ (x : tables.Map). withVersion (withSessions x (put sessionBelow (record { client = q .client; seq = q .seq; outcome = o }) (x .sessions))) version) (sym (read-as s few))
-
--- every command but Bench sets the version
-pub sets-index : (q : Request) (c : Command) (old : ℕ) → q .command ≡ c → notBench c ≡ true → q .index ≡ cond (setsVersion (viewCommand q [])) (q .index) old
-sets-index q c old e f = sym (ap (λ (b : Bool). cond b (q .index) old) (sets-by q (q .command) ∙ ap notBench e ∙ f))
-
-pub sets-none : (q : Request) (old : ℕ) → q .command ≡ Bench → old ≡ cond (setsVersion (viewCommand q [])) (q .index) old
-sets-none q old e = sym (ap (λ (b : Bool). cond b (q .index) old) (sets-by q (q .command) ∙ ap notBench e))
 
 -- ---- what was written over an image that a command had changed
 
@@ -202,6 +185,9 @@ effect-taken (tables.outcome tables.applied) e = refl
 effect-taken (tables.outcome (tables.rejected why)) e = absurd (let z : _≡_ {A = ℕ} 0 1 = cc in omega arith)
 effect-taken (tables.refused why) e = absurd (let z : _≡_ {A = ℕ} 0 1 = cc in omega arith)
 
+pub effect-accepted : (s : List ℕ) (q : Request) (v : Verdict) → Decided (mapAt s) q v → takesEffect (answerOf v) ≡ true → Accepted s q
+effect-accepted s q v d e bs = sym (d .answer bs) ∙ effect-taken (answerOf v) e
+
 -- ---- a request that is decided now
 
 module _ (s : List ℕ) (q : Request) (fr : Fresh s q) (v : Verdict) (d : Decided (mapAt s) q v) where
@@ -217,17 +203,22 @@ module _ (s : List ℕ) (q : Request) (fr : Fresh s q) (v : Verdict) (d : Decide
   counted-rows : every rowCounted (shardRows s) ≡ true
   counted-rows = rows-counted s few (S .counted)
 
-  -- ---- applied: what a command's own edit of the bytes must show
+  -- ---- applied
 
-  module _ (ok : answerOf v ≡ accepts) (t : List ℕ) (x : tables.Map) (edit : Edits s t x) (is : (bs : List ℕ) → x ≡ commit (readAs s) (viewCommand q bs)) where
+  module _ (ok : answerOf v ≡ accepts) (t : List ℕ) (k : Taken s t q) where
+    abbrev edit : Edits s t (k .map)
+    edit = k .edits
+
     done : (bs : List ℕ) → viewMap (mapAt t) ≡ commit (viewMap m) (viewCommand q bs)
-    done bs = read-as t (edit .after .few) ∙ edit .after .view ∙ is bs ∙ ap (λ (y : tables.Map). commit y (viewCommand q bs)) (sym (read-as s few))
+    done bs = read-as t (edit .after .few) ∙ edit .after .view ∙ k .is bs ∙ ap (λ (y : tables.Map). commit y (viewCommand q bs)) (sym (read-as s few))
 
-    pub applied-room : Room t (q .client) (q .seq) (answerOf v)
-    applied-room =
-        subst (Room t (q .client) (q .seq)) (sym ok)
-        (subst (λ (y : tables.Map). length (put sessionBelow (sessionOf q Applied (v .key)) (y .sessions)) ≤ 64) (read-as t (edit .after .few))
-        (applied-place m q S (fr .decided) v d Applied (v .key) ok refl (mapAt t) (done [])))
+    pub applied-room : Few t × Room t (q .client) (q .seq) (answerOf v)
+    applied-room = (
+      edit .after .few,
+      subst (Room t (q .client) (q .seq)) (sym ok)
+          (subst (λ (y : tables.Map). length (put sessionBelow (sessionOf q Applied (v .key)) (y .sessions)) ≤ 64) (read-as t (edit .after .few))
+          (applied-place m q S (fr .decided) v d Applied (v .key) ok refl (mapAt t) (done []))),
+    )
 
     written-as : (version : ℕ) → version ≡ cond (setsVersion (viewCommand q [])) (q .index) (numberAt 8 s 0) → (u : List ℕ)
         → Noted t (q .client) (q .seq) u accepts version → Settles s u q 0
@@ -244,7 +235,7 @@ module _ (s : List ℕ) (q : Request) (fr : Fresh s q) (v : Verdict) (d : Decide
               (λ bs same. absurd (changes m q tables.applied bs (fr .unseen) same))
               (tables-counted (w .edited) (w .few) (w .counted (edit .after .counted counted-rows)));
           answer = sym (ap reasonNumber ok);
-          written = λ _. over-written s t u x few edit _ version w;
+          written = λ _. over-written s t u (k .map) few edit _ version w;
           kept = λ f. not-both (noted 0) refl f;
         }
 

@@ -1,31 +1,32 @@
 -- A request on a map's image, in place. Definitions only: the map after is what bytes are read as, and no function makes it.
-use Prim.Native.Nat.{ℕ, _+_, _*_, _≤_, _<_}
+use Prim.Native.Nat.{ℕ, _≤_, _<_}
 use mathlib.Core.Path.{_≡_}
 use mathlib.Core.Bool.{Bool, true, false}
 use mathlib.Core.List.{List}
 use lib.ListN.{length}
 use Rattle.model.specs.Lists.{every, put}
 use Rattle.model.specs.Layout.Format.{Bytes, numberAt}
-use Rattle.model.specs.Map.Apply.{isClient, isShard, sessionBelow}
+use Rattle.model.specs.Map.Apply.{isClient, isShard, sessionBelow, apply, commit, decide}
 use Rattle.model.specs.Map.Calls.{reasonNumber}
+use Rattle.model.specs.Map.Change.{accepts}
 use Rattle.model.specs.Map.Create.{isNode}
 use Rattle.model.specs.Map.Tables as tables
 use Rattle.state.specs.Names.{viewKey}
 use Rattle.state.specs.Find.{firstAt}
 use Rattle.state.specs.Counted.{rowCounted, ShardsCounted}
-use Rattle.state.specs.View.{answerOf, viewNodes, viewSessions, viewShards}
+use Rattle.state.specs.View.{answerOf, viewCommand, viewMap, viewNodes, viewRequest, viewSessions, viewShards}
 use Rattle.state.specs.declared.Request.{Request}
 use Rattle.state.specs.declared.ShardKey.{ShardKey}
+use Rattle.state.specs.declared.Verdict.{Verdict}
 use Rattle.settle.specs.Applied.{Settleable, DecidedNow, Unseen, SettledAs}
 use Rattle.settle.specs.declared.Settled.{Settled}
-use Rattle.maprows.specs.Rows.{sessionAt}
 use Rattle.mapimage.specs.Image.{mapAt, nodesAt, shardsAt, sessionsAt, MapWrites}
 use Rattle.mapcalls.specs.Calls.{noted}
 use Rattle.mapput.specs.Few.{Few}
 use Rattle.mapput.specs.Rows.{shardRows, readAs}
+use Rattle.mapedits.specs.Edits.{Edits}
 use Rattle.mapedits.specs.Other.{withSessions, withVersion}
-use Rattle.applycalls.specs.declared.turn.Turn.{Turn}
-use Rattle.applycalls.specs.declared.turn.Turn.the-variants.{Now, Again, Told}
+use Rattle.applycalls.specs.declared.Decision.{Decision}
 
 -- ---- what is asked for
 
@@ -40,12 +41,15 @@ pub record Fresh (s : List ℕ) (q : Request) : Type 0 where
   pub decided : DecidedNow (mapAt s) q
   pub unseen : Unseen (mapAt s) q
 
--- a repetition, and where its client's session stands
+-- of a client that the map knows, and where its session stands
 pub record Known (s : List ℕ) (q : Request) (place : ℕ) : Type 0 where
   pub ready : Ready s q
   pub found : place ≡ firstAt (isClient (q .client)) (viewSessions (sessionsAt s))
   pub inside : place < numberAt 8 s 32
-  pub same : q .seq ≡ sessionAt s (21416 + 80 * place) .seq
+
+-- the command takes effect
+abbrev pub Accepted : List ℕ → Request → Type 0
+Accepted s q = (padding : List ℕ) → decide (viewMap (mapAt s)) (viewCommand q padding) ≡ accepts
 
 -- where the key's shard stands, in a table of which each row is within its arrays
 pub record Stands (s : List ℕ) (n hit : ℕ) (key : ShardKey) : Type 0 where
@@ -60,7 +64,28 @@ pub record NodeStands (s : List ℕ) (n hit node : ℕ) : Type 0 where
   pub count : n ≡ numberAt 8 s 8
   pub found : hit ≡ firstAt (isNode node) (viewNodes (nodesAt s))
 
+-- ---- what is decided
+
+-- the verdict is the answer of the definition, whatever the bytes of a Bench
+abbrev pub Answers : List ℕ → Request → Verdict → Type 0
+Answers s q v = (padding : List ℕ) → answerOf v ≡ apply (viewMap (mapAt s)) (viewRequest q padding) .answer
+
+-- an answer that leaves the map as it was
+abbrev pub Keeps : List ℕ → Request → tables.Answer → Type 0
+Keeps s q a = (padding : List ℕ) → apply (viewMap (mapAt s)) (viewRequest q padding) ≡ record { answer = a; map = viewMap (mapAt s) }
+
+pub record Decides (s : List ℕ) (q : Request) (d : Decision) : Type 0 where
+  pub answer : Answers s q (d .verdict)
+  pub fresh : d .fresh ≡ true → Fresh s q
+  pub told : d .fresh ≡ false → Keeps s q (answerOf (d .verdict))
+
 -- ---- what is written
+
+-- what an accepted command makes of the bytes, before its outcome is remembered: they are read as the map after
+pub record Taken (s t : List ℕ) (q : Request) : Type 0 where
+  pub map : tables.Map
+  pub edits : Edits s t map
+  pub is : (padding : List ℕ) → map ≡ commit (readAs s) (viewCommand q padding)
 
 -- a map of model is written over an image: bytes are read as it, its shards within their arrays where they were, and these are written back
 pub record Writes (s t : List ℕ) (x : tables.Map) : Type 0 where
@@ -96,22 +121,12 @@ pub record Settles (s t : List ℕ) (q : Request) (r : ℕ) : Type 0 where
   pub written : noted r ≡ true → MapWrites s t (after .map)
   pub kept : noted r ≡ false → t ≡ s
 
--- whether a request is decided now, or told again, or told a number at once
-abbrev pub Turned : List ℕ → Request → Turn → Type 0
-Turned s q Now = Fresh s q
-Turned s q (Again place) = Known s q place
-Turned s q (Told r) = Settles s s q r
-
--- whatever else the request asks for
-abbrev pub Turns : List ℕ → (client seq : ℕ) → Turn → Type 0
-Turns s client seq w = (q : Request) → Ready s q → q .client ≡ client → q .seq ≡ seq → Turned s q w
-
--- the outcome that stands at a place, told again
-abbrev pub Repeats : List ℕ → List ℕ → (place r : ℕ) → Type 0
-Repeats s t place r = (q : Request) → Known s q place → Settles s t q r
-
 -- the answers that take effect
 abbrev pub takesEffect : tables.Answer → Bool
 takesEffect (tables.outcome tables.applied) = true
 takesEffect (tables.outcome (tables.rejected why)) = false
 takesEffect (tables.refused why) = false
+
+-- an answer that left the map as it was, told again
+abbrev pub Repeats : List ℕ → List ℕ → Verdict → (r : ℕ) → Type 0
+Repeats s t v r = (q : Request) → Ready s q → Keeps s q (answerOf v) → Settles s t q r

@@ -3,7 +3,7 @@ ghost use mathlib.Core.Path.{_≡_};
 ghost use Prim.Native.Nat.{_+_, _*_, _<_};
 ghost use Rattle.model.specs.Map.Apply.{changeAnswer, shardAt};
 ghost use Rattle.model.specs.Map.Change.{changed};
-ghost use Rattle.state.specs.Counted.{Sized};
+ghost use Rattle.state.specs.Counted.{ShardsCounted, Sized};
 ghost use Rattle.state.specs.Names.{viewKey};
 ghost use Rattle.state.specs.View.{viewShard, viewShards, answerOf, changeOf};
 ghost use Rattle.changes.specs.Taken.{Takes};
@@ -15,6 +15,8 @@ use changes::of_shard::changed_row;
 use changes::of_shard::decide_change;
 use mapbytes::layout::SHARD;
 use mapbytes::layout::SHARDS;
+use mapbytes::layout::SHARDS_USED;
+use mapbytes::place::shard_place;
 use maprows::shards::shard_at;
 use model::Epoch;
 use state::Change;
@@ -25,7 +27,7 @@ use state::Verdict;
 use state::answers::rejected;
 
 // 9, 10, then the change's own; the key's shard is at place `hit`, if there is one.
-pub fn answer_at(
+fn answer_at(
     map: &[u8],
     count: usize,
     hit: usize,
@@ -45,6 +47,16 @@ pub fn answer_at(
         return rejected(Rejection::OtherEpoch(own, epoch), key);
     }
     decide_change(row, c)
+}
+
+// The same of the row that the key names.
+pub fn change_answer(map: &[u8], key: ShardKey, epoch: Epoch, c: Change) -> Verdict
+    requires { ⌜ Few (now map) × ShardsCounted (shardsAt (now map)) ⌝ }
+    ensures { λ v. ⌜ answerOf v ≡ changeAnswer (viewKey key) (epoch .0) (changeOf c) (shardAt (viewShards (shardsAt (now (map .entry)))) (viewKey key)) ⌝ }
+{
+    let count = num::get8(map, SHARDS_USED) as usize;
+    let hit = shard_place(map, count, key);
+    answer_at(map, count, hit, key, epoch, c)
 }
 
 // The row at a place, after a change that it takes.

@@ -1,20 +1,28 @@
-// Apply over a map's image, in place (paper 01, 'The shard map', and 'Who is turned down').
+// Apply over a map's image, in place (paper 01, 'The shard map', and 'Who is turned down'): a request is decided from the bytes before any is
+// written, and what was decided is then carried out.
 ghost use Rattle.mapcalls.specs.Calls.{AppliesTo};
 use crate::settled::settle;
 use mapbytes::formed::is_formed;
 use mapbytes::lent::is_lent;
 use requests::load::load;
 use rpc::Message;
+use state::Verdict;
 
 mod answers;
-mod bench;
 mod changed;
-mod collections;
+pub mod decided;
 mod nodes;
 mod remember;
-mod settled;
+pub mod settled;
+mod taken;
 mod tell;
-mod turn;
+
+// What a request is answered, with the operands of its text, and whether its command is decided now: if not, it is older, a repetition, or
+// of a 65th client.
+pub struct Decision {
+    pub verdict: Verdict,
+    pub fresh: bool,
+}
 
 // 21, 24, then the sessions and the command.
 pub fn apply(map: &mut [u8], request: &[u8]) -> u32

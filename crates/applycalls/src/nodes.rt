@@ -5,13 +5,11 @@ ghost use Rattle.model.specs.Map.Create.{nodeAt};
 ghost use Rattle.state.specs.View.{answerOf, viewNodes};
 ghost use Rattle.state.specs.declared.Command.the-variants as command;
 ghost use Rattle.mapimage.specs.Image.{nodesAt};
-ghost use Rattle.applycalls.specs.Settles.{Fresh, NodeStands, Settles};
-use crate::tell::takes_effect;
-use crate::tell::tell;
+ghost use Rattle.mapput.specs.Few.{Few};
+ghost use Rattle.applycalls.specs.Settles.{Accepted, Fresh, Taken};
 use mapbytes::layout::NODE;
 use mapbytes::layout::NODES;
 use mapbytes::layout::NODES_USED;
-use mapbytes::layout::VERSION;
 use mapbytes::place::node_place;
 use mapedits::nodes::node_put;
 use mapedits::nodes::node_set;
@@ -30,17 +28,13 @@ use state::answers::rejected;
 // Where a node's row has its incarnation.
 const INCARNATION: usize = 8;
 
-// 7, 23; the node's row is at place `hit`, if there is one.
-fn register_answer(
-    map: &[u8],
-    count: usize,
-    hit: usize,
-    node: DataNodeId,
-    incarnation: u64,
-) -> Verdict
-    requires { ⌜ NodeStands (now map) count hit (node .0) ⌝ }
+// 7, 23.
+pub fn register_answer(map: &[u8], node: DataNodeId, incarnation: u64) -> Verdict
+    requires { ⌜ Few (now map) ⌝ }
     ensures { λ v. ⌜ answerOf v ≡ registerAnswer (viewNodes (nodesAt (now (map .entry)))) (node .0) incarnation (nodeAt (viewNodes (nodesAt (now (map .entry)))) (node .0)) ⌝ }
 {
+    let count = num::get8(map, NODES_USED) as usize;
+    let hit = node_place(map, count, node.0);
     if hit < count {
         let known = num::get8(map, NODES + NODE * hit + INCARNATION);
         if incarnation <= known {
@@ -55,10 +49,12 @@ fn register_answer(
 }
 
 // 8.
-fn dead_answer(map: &[u8], count: usize, hit: usize, node: DataNodeId, incarnation: u64) -> Verdict
-    requires { ⌜ NodeStands (now map) count hit (node .0) ⌝ }
+pub fn dead_answer(map: &[u8], node: DataNodeId, incarnation: u64) -> Verdict
+    requires { ⌜ Few (now map) ⌝ }
     ensures { λ v. ⌜ answerOf v ≡ deadAnswer (node .0) incarnation (nodeAt (viewNodes (nodesAt (now (map .entry)))) (node .0)) ⌝ }
 {
+    let count = num::get8(map, NODES_USED) as usize;
+    let hit = node_place(map, count, node.0);
     if hit < count {
         if num::get8(map, NODES + NODE * hit + INCARNATION) == incarnation {
             return applied();
@@ -68,17 +64,10 @@ fn dead_answer(map: &[u8], count: usize, hit: usize, node: DataNodeId, incarnati
 }
 
 // The node is alive at the address and the incarnation.
-pub fn register(map: &mut [u8], r: Request, node: DataNodeId, incarnation: u64) -> u32
-    requires { ⌜ Fresh (now map) r × (r .command ≡ command.Register node incarnation) ⌝ }
-    ensures { λ n. ⌜ Settles (now (map .entry)) (now (map .exit)) r n ⌝ }
+pub fn register(map: &mut [u8], r: Request, node: DataNodeId, incarnation: u64)
+    requires { ⌜ Fresh (now map) r × Accepted (now map) r × (r .command ≡ command.Register node incarnation) ⌝ }
+    ensures { λ _. ⌜ Taken (now (map .entry)) (now (map .exit)) r ⌝ }
 {
-    let count = num::get8(map, NODES_USED) as usize;
-    let hit = node_place(map, count, node.0);
-    let verdict = register_answer(map, count, hit, node, incarnation);
-    if !takes_effect(verdict) {
-        let version = num::get8(map, VERSION);
-        return tell(map, r.client, r.seq, verdict, version);
-    }
     let address = r.address;
     let row = NodeRow {
         node: node,
@@ -87,23 +76,16 @@ pub fn register(map: &mut [u8], r: Request, node: DataNodeId, incarnation: u64) 
         alive: true,
     };
     node_put(map, row);
-    tell(map, r.client, r.seq, verdict, r.index)
 }
 
 // The node's row says that it is dead.
-pub fn mark_dead(map: &mut [u8], r: Request, node: DataNodeId, incarnation: u64) -> u32
-    requires { ⌜ Fresh (now map) r × (r .command ≡ command.MarkNodeDead node incarnation) ⌝ }
-    ensures { λ n. ⌜ Settles (now (map .entry)) (now (map .exit)) r n ⌝ }
+pub fn mark_dead(map: &mut [u8], r: Request, node: DataNodeId, incarnation: u64)
+    requires { ⌜ Fresh (now map) r × Accepted (now map) r × (r .command ≡ command.MarkNodeDead node incarnation) ⌝ }
+    ensures { λ _. ⌜ Taken (now (map .entry)) (now (map .exit)) r ⌝ }
 {
     let count = num::get8(map, NODES_USED) as usize;
     let hit = node_place(map, count, node.0);
-    let verdict = dead_answer(map, count, hit, node, incarnation);
-    if !takes_effect(verdict) {
-        let version = num::get8(map, VERSION);
-        return tell(map, r.client, r.seq, verdict, version);
-    }
     let mut row = node_at(map, NODES + NODE * hit);
     row.alive = false;
     node_set(map, hit, row);
-    tell(map, r.client, r.seq, verdict, r.index)
 }
