@@ -1,1 +1,2 @@
 pub mod OfWords
+pub mod OfCall

@@ -10,12 +10,18 @@ use lib.Dec.{leb}
 use lib.Seq.{sets}
 use Rattle.model.specs.Refusals.{undecodable, noRoom, malformed, numberOf}
 use Rattle.model.specs.Layout.Request.{Request, decodeRequest}
-use Rattle.words.specs.Calls.{shortBuffer, AppliedInWords, wordedNumber}
+use Rattle.words.specs.Calls.{shortBuffer, AppliedInWords, inWords, wordedNumber}
+use Rattle.state.specs.View.{viewMap}
+use Rattle.state.specs.declared.ShardMap.{ShardMap}
 use Rattle.wording.specs.declared.Text.{Text}
+use Rattle.apply.specs.Calls.{applyLent}
 use Rattle.mapimage.specs.Image.{mapAt, mapLent}
 use Rattle.mapcalls.specs.Calls.{AppliesImage}
-use Rattle.applywords.specs.Calls.{asked}
 use Rattle.asked.specs.Answer.{answerLent, numberPut}
+
+-- what the definition makes of the call, with room for so many bytes of text
+abbrev pub asked : ShardMap → (bytes : List ℕ) → (room : ℕ) → AppliedInWords
+asked m bytes room = inWords (viewMap m) (applyLent m (decodeRequest bytes)) room
 
 -- apply's own definition in words, on the map that the bytes are read as
 abbrev pub toldOf : (s bytes x : List ℕ) → AppliedInWords

@@ -2,15 +2,21 @@
 // the text and 8 bytes for its length. What an answer says stands in specs/Calls.antt.
 ghost use Prim.Native.Nat.{_≤_};
 ghost use lib.ListN.{length};
+ghost use Rattle.applycalls.specs.Settles.{Ready};
 ghost use Rattle.wordcalls.specs.Calls.{AppliesInWordsTo, Tells};
-use applywords::decide_in_words;
+ghost use Rattle.wordcalls.specs.Settled.{SettlesInWords};
+use applycalls::decided::decided;
+use applycalls::settled::carry_out;
 use asked::answer::put_number;
+use mapbytes::formed::is_formed;
+use mapbytes::lent::is_lent;
 use mapcalls::numbers::verdict_number;
-use mapcalls::unlent_number;
-use mapimage::read_map;
-use mapimage::write_map;
+use requests::load::load;
+use rpc::Message;
+use state::Request;
 use wording::Text;
 use wording::put_text;
+use wording::text_of;
 
 // The text and its length, where there is room for the length; without it no byte changes.
 fn tell(text: &mut [u8], answer: &mut [u8], words: Text) -> bool
@@ -24,31 +30,42 @@ fn tell(text: &mut [u8], answer: &mut [u8], words: Text) -> bool
     true
 }
 
+// A request on a map that passed its test. All is decided before a byte is written: the answer and its text, 27, then 23.
+fn settle_in_words(map: &mut [u8], r: Request, text: &mut [u8], answer: &mut [u8]) -> u32
+    requires { ⌜ Ready (now map) r ⌝ }
+    ensures { λ n. ⌜ SettlesInWords (now (map .entry)) (now (map .exit)) r (now (text .entry)) (now (text .exit)) (now (answer .entry)) (now (answer .exit)) n ⌝ }
+{
+    let d = decided(map, r);
+    let verdict = d.verdict;
+    let words = text_of(verdict);
+    if text.len() < words.len {
+        return 27;
+    }
+    let number = verdict_number(verdict);
+    if 16 < number {
+        return number;
+    }
+    if !tell(text, answer, words) {
+        return 23;
+    }
+    carry_out(map, r, d)
+}
+
 // A request is applied to the map. 0 applied; 1 to 16 rejected; then 27 where the text is longer than `text`, which the map does not
 // remember; then 23 where `answer` has no 8 bytes. 21, 23, 24 and 25 as apply answers them, whatever the buffers.
 pub fn apply_words(map: &mut [u8], request: &[u8], text: &mut [u8], answer: &mut [u8]) -> u32
     ensures { λ r. ⌜ AppliesInWordsTo (now (map .entry)) (now (map .exit)) (now (request .entry)) (now (text .entry)) (now (text .exit)) (now (answer .entry)) (now (answer .exit)) r ⌝ }
 {
-    let lent = read_map(map);
-    if !lent.found {
-        return unlent_number(request);
+    let message = rpc::decode(request);
+    let Message::Request(p) = message else {
+        return 21;
+    };
+    if !is_lent(map) {
+        return 24;
     }
-    let d = decide_in_words(lent.map, request, text.len());
-    if d.short {
-        return 27;
+    if !is_formed(map) {
+        return 24;
     }
-    let number = verdict_number(d.verdict);
-    if 16 < number {
-        return number;
-    }
-    let words = d.text;
-    if !tell(text, answer, words) {
-        return 23;
-    }
-    if number == 1 {
-        return number;
-    }
-    let next = d.map;
-    write_map(map, next);
-    number
+    let r = load(request, p);
+    settle_in_words(map, r, text, answer)
 }
