@@ -1,4 +1,4 @@
--- Rows moved up one by one, and the row of a shard that begins. Assumes nothing.
+-- A row opened in a header, and the row of a shard that begins. Assumes nothing.
 use Prim.Native.Nat.{ℕ, zero, suc, _+_, _-_, _*_, _^_, _≤_, _<_}
 use mathlib.Core.Path.{_≡_, refl, sym, ap, subst, _∙_}
 use mathlib.Core.Bool.{Bool, true, false}
@@ -22,6 +22,9 @@ use Rattle.state.specs.Names.{viewKey}
 use Rattle.header.specs.declared.Kept.{Kept}
 use Rattle.header.specs.Grow.{belowKey}
 use Rattle.header.proofs.OfLists.{by-case}
+use Rattle.moves.specs.Moved.{Moved}
+use Rattle.moves.proofs.OfBytes.{Same, value-same}
+use Rattle.moves.proofs.OfMoves.{moved-front, moved-past, moved-same}
 use Rattle.image.specs.Shape.{Value, u32, u64, word, value, items, Good, Stored}
 use Rattle.image.specs.Parts.{keyF, keyValue, keyAt, keyBytes}
 use Rattle.image.proofs.OfCodes.{flag-back, replicas-back}
@@ -32,29 +35,9 @@ use Rattle.headerput.proofs.OfBack.{kept-good, good, kept-past}
 use Rattle.headerset.specs.Row.{Outside, RowBecomes, alignedSet}
 use Rattle.headerset.proofs.OfParts.{Part, whole, first, second, part-set, take-before, take-short, value-before, drop-past}
 use Rattle.headerset.proofs.OfSet.{peer-back, stored-outside, row-then, row-as}
-use Rattle.headergrow.specs.Begun.{rowAt, MovedUp, Opened, begunHeld, begunSet}
+use Rattle.headergrow.specs.Begun.{Opened, begunSet}
 
--- ---- a row that is written is read again
-
-peers-back : (l : List Peer) → map peerOf (map peerValue l) ≡ l
-peers-back [] = refl
-peers-back (x ∷ l) = rw (peer-back x, peers-back l)
-
-role-back : (r : Role) → roleOf (roleValue r) ≡ r
-role-back Backup = refl
-role-back (Primary e o) = refl
-
-row-read : (s t : List ℕ) (p : ℕ) (x : Kept) → KeptFits x → p + 1280 ≤ length s → Stored s t p (keptBytes x) 1280 → keptAt t p ≡ x
-unfolding keptAt keptBytes
-row-read s t p x g room k =
-    let at : Part keptF keptF = whole in
-    let e : p ≡ p + 0 = omega arith in
-    ap keptOf (part-set at s t p (keptValue x) g room (rw e at k))
-    ∙ (rw (metric-of (x .held .metric), flag-back (x .held .own), role-back (x .held .role), replicas-back (x .held .replicas), peers-back (x .held .peers)))
-
-row-fits : (s : List ℕ) (p : ℕ) → Bytes s → KeptFits (keptAt s p)
-unfolding keptAt
-row-fits s p b = kept-good (value keptF s p) (good s b keptF p)
+-- ---- rows read where they stand
 
 pub row-before : (s t : List ℕ) (q : ℕ) → take q t ≡ take q s → (p : ℕ) → p + 1280 ≤ q → keptAt t p ≡ keptAt s p
 unfolding keptAt
@@ -64,46 +47,24 @@ pub below-key : (s : List ℕ) (p : ℕ) (k : Key) → belowKey k (keptAt s p) �
 unfolding keptAt keyAt
 below-key s p k = refl
 
--- ---- moved up
+-- ---- a row opened
 
-pub moved-none : (s : List ℕ) (count : ℕ) → MovedUp s s count count
-moved-none s count = record { long = refl; front = refl; above = λ j le lt. absurd (omega arith); past = refl }
-
-pub moved-step : (s out m : List ℕ) (count k j : ℕ) → 10288 ≤ length s → count < 8 → k ≤ count → j + 1 ≡ k → Bytes out → MovedUp s out count k
-    → (x : Kept) → x ≡ keptAt out (48 + 1280 * j) → Stored out m (48 + 1280 * (j + 1)) (keptBytes x) 1280 → MovedUp s m count j
-moved-step s out m count k j room few most e bytes d x is put =
-    let n = d .long in
-    let z : 48 + 1280 * (k + 1) ≡ 48 + 1280 * (j + 1) + 1280 = omega arith in
-    let here : keptAt m (48 + 1280 * (j + 1)) ≡ keptAt s (48 + 1280 * j) =
-    row-read out m (48 + 1280 * (j + 1)) x (subst KeptFits (sym is) (row-fits out (48 + 1280 * j) bytes)) (omega arith) put
-    ∙ is ∙ row-before s out (48 + 1280 * (k + 1)) (d .front) (48 + 1280 * j) (omega arith) in
-    let back : drop (48 + 1280 * (j + 1) + 1280) m ≡ drop (48 + 1280 * (j + 1) + 1280) out = drop-after put (omega arith) in
-    record {
-      long = ap length (put .image) ∙ length-sets out (48 + 1280 * (j + 1)) (keptBytes x) ∙ d .long;
-      front = take-before put ∙ take-short s out (48 + 1280 * (k + 1)) (48 + 1280 * (j + 1)) (omega arith) (d .front);
-      above = λ i le lt.
-          by-case (eqb i j)
-          (λ q. let w = eqb-true i j q in subst (λ (y : ℕ). rowAt m (y + 1) ≡ rowAt s y) (sym w) here)
-          (λ q.
-          let w = eqb-false i j q in
-          let up : k ≤ i = omega (arith, w) in
-          kept-past m out (48 + 1280 * (i + 1)) (drop-past m out (48 + 1280 * (j + 1) + 1280) (48 + 1280 * (i + 1)) (omega arith) back)
-          ∙ d .above i up lt);
-      past = drop-past m out (48 + 1280 * (j + 1) + 1280) (48 + 1280 * (count + 1)) (omega arith) back ∙ d .past;
-    }
+row-same : (s t : List ℕ) (p q : ℕ) → Same s p t q 1280 → keptAt s p ≡ keptAt t q
+unfolding keptAt
+row-same s t p q e = ap keptOf (value-same s t keptF p q e)
 
 -- the count first, then the rows
-pub opened : (s a t : List ℕ) (at count : ℕ) → 10288 ≤ length s → at ≤ count → count < 8 → Stored s a 24 (bytesOf 8 (count + 1)) 8 → MovedUp a t count at
-    → Opened s t at count
+pub opened : (s a t : List ℕ) (at count : ℕ) → 10288 ≤ length s → at ≤ count → count < 8 → Stored s a 24 (bytesOf 8 (count + 1)) 8
+    → Moved a t (48 + 1280 * at) (48 + 1280 * at + 1280) (8 * (160 * (count - at))) → Opened s t at count
 opened s a t at count room le few k d =
     let na : length a ≡ length s = ap length (k .image) ∙ length-sets s 24 (bytesOf 8 (count + 1)) in
     let front : take 24 a ≡ take 24 s = take-before k in
     let back : drop 32 a ≡ drop 32 s = drop-after k (omega arith) in
-    let head : (w p : ℕ) → p + w ≤ 48 → numberAt w t p ≡ numberAt w a p =
-    λ w p h. value-before t a (48 + 1280 * (at + 1)) (d .front) (word w) p (omega arith) in
     let low : (w p : ℕ) → p + w ≤ 24 → numberAt w a p ≡ numberAt w s p = λ w p h. value-before a s 24 front (word w) p h in
     let high : (w p : ℕ) → 32 ≤ p → numberAt w a p ≡ numberAt w s p = λ w p h. value-past (word w) a s p (drop-past a s 32 p h back) in
     let rows : (p : ℕ) → 32 ≤ p → keptAt a p ≡ keptAt s p = λ p h. kept-past a s p (drop-past a s 32 p h back) in
+    let head : (w p : ℕ) → p + w ≤ 48 → numberAt w t p ≡ numberAt w a p =
+    λ w p h. value-before t a (48 + 1280 * at + 1280) (moved-front d) (word w) p (omega arith) in
     let count-is : value u64 a 24 ≡ count + 1 =
     (let whole-word : Part u64 u64 = whole in part-set whole-word s a 24 (count + 1) (omega arith) (omega arith) k) in
     record {
@@ -114,9 +75,13 @@ opened s a t at count room le few k d =
       shards = head 8 24 (omega arith) ∙ count-is;
       code = head 4 36 (omega arith) ∙ high 4 36 (omega arith);
       end = head 8 40 (omega arith) ∙ high 8 40 (omega arith);
-      below = λ j lt. row-before a t (48 + 1280 * (at + 1)) (d .front) (48 + 1280 * j) (omega arith) ∙ rows (48 + 1280 * j) (omega arith);
-      above = λ j ge lt. d .above j ge lt ∙ rows (48 + 1280 * j) (omega arith);
-      past = d .past ∙ drop-past a s 32 (48 + 1280 * (count + 1)) (omega arith) back;
+      below = λ j lt. row-before a t (48 + 1280 * at + 1280) (moved-front d) (48 + 1280 * j) (omega arith) ∙ rows (48 + 1280 * j) (omega arith);
+      above = λ j ge lt.
+          let p : 48 + 1280 * at + 1280 + 1280 * (j - at) ≡ 48 + 1280 * (j + 1) = omega arith in
+          let q : 48 + 1280 * at + 1280 * (j - at) ≡ 48 + 1280 * j = omega arith in
+          let same : Same t (48 + 1280 * (j + 1)) a (48 + 1280 * j) 1280 = rw (p, q) at (moved-same d (1280 * (j - at)) 1280 (omega arith)) in
+          row-same t a (48 + 1280 * (j + 1)) (48 + 1280 * j) same ∙ rows (48 + 1280 * j) (omega arith);
+      past = moved-past d (48 + 1280 * (count + 1)) (omega arith) ∙ drop-past a s 32 (48 + 1280 * (count + 1)) (omega arith) back;
     }
 
 -- ---- the row of a shard that begins

@@ -21,14 +21,8 @@ use Rattle.headerimage.specs.Becomes.{HeaderWrites}
 abbrev pub rowAt : List ℕ → ℕ → Kept
 rowAt s j = keptAt s (48 + 1280 * j)
 
--- of `count` rows those from place k on are read one place up; those below it, and all that is no row, are as they were
-pub record MovedUp (s t : List ℕ) (count k : ℕ) : Type 0 where
-  pub long : length t ≡ length s
-  pub front : take (48 + 1280 * (k + 1)) t ≡ take (48 + 1280 * (k + 1)) s
-  pub above : (j : ℕ) → k ≤ j → j < count → rowAt t (j + 1) ≡ rowAt s j
-  pub past : drop (48 + 1280 * (count + 1)) t ≡ drop (48 + 1280 * (count + 1)) s
-
--- .. and the header counts one more: the row at place `at` is free
+-- of `count` rows those from place `at` on are read one place up, those below it are as they were, and the header counts one more: the row at
+-- place `at` is free
 pub record Opened (s t : List ℕ) (at count : ℕ) : Type 0 where
   pub long : length t ≡ length s
   pub id : numberAt 8 t 0 ≡ numberAt 8 s 0

@@ -1,20 +1,25 @@
-// The rows of a header moved up where a shard is put in, and the row of a shard that begins.
+// A row opened in a header, those from there on moved up, and the row of a shard that begins.
 ghost use mathlib.Core.Path.{_≡_};
 ghost use Prim.Native.Nat.{_+_, _≤_, _<_};
 ghost use lib.ListN.{length};
 ghost use Rattle.headerrows.specs.Rows.{keptAt};
 ghost use Rattle.headerset.specs.Row.{RowBecomes};
-ghost use Rattle.headergrow.specs.Begun.{MovedUp, Opened, begunSet};
-use headerrows::held::kept_at;
-use headerrows::held::put_kept;
+ghost use Rattle.headergrow.specs.Begun.{Opened, begunSet};
 use headerset::set::set_aligned;
 use image::codes::metric_code;
 use image::keys::put_key;
 use model::Metric;
+use moves::move_up;
 use state::ShardKey;
 
-// Where the header counts its rows, and where a row has its slot, how many replicas, and its metric.
+// Where the header counts its rows, where they begin, the bytes and the words of one, and where a row has its slot, how many replicas, and its metric.
 const SHARDS: usize = 24;
+
+const ROWS: usize = 48;
+
+const ROW: usize = 1280;
+
+const WORDS: usize = 160;
 
 const SLOT: usize = 48;
 
@@ -22,26 +27,14 @@ const HOLDERS: usize = 80;
 
 const METRIC: usize = 96;
 
-// The rows from place `at` on, each one place up.
-fn move_up(out: &mut [u8], at: usize, count: usize)
-    requires { ⌜ (10288 ≤ length (now out)) × (at ≤ count) × (count < 8) ⌝ }
-    ensures { λ _. ⌜ MovedUp (now (out .entry)) (now (out .exit)) count at ⌝ }
-{
-    let mut k = count;
-    while at < k {
-        k -= 1;
-        let x = kept_at(out, 48 + 1280 * k);
-        put_kept(out, 48 + 1280 * (k + 1), x);
-    }
-}
-
 // A row more, which is free at place `at`.
 pub fn open_row(out: &mut [u8], at: usize, count: usize)
     requires { ⌜ (10288 ≤ length (now out)) × (at ≤ count) × (count < 8) ⌝ }
     ensures { λ _. ⌜ Opened (now (out .entry)) (now (out .exit)) at count ⌝ }
 {
     num::put8(out, SHARDS, (count + 1) as u64);
-    move_up(out, at, count);
+    let row = ROWS + ROW * at;
+    move_up(out, row, row + ROW, WORDS * (count - at));
 }
 
 // A shard with no entries, of which no replica and no peer is known. What the row held of them is past those in use.

@@ -27,7 +27,7 @@ use Rattle.mapput.specs.Few.{Few}
 use Rattle.mapput.specs.Rows.{collectionRows, readAs}
 use Rattle.mapput.proofs.OfTidy.{rows-used}
 use Rattle.mapput.proofs.OfWhole.{collections-long, collection-same}
-use Rattle.mapedits.specs.Moved.{Moved}
+use Rattle.moves.specs.Moved.{Moved}
 use Rattle.mapedits.specs.Becomes.{CollectionsBecome}
 use Rattle.mapedits.proofs.OfPut.{in-place}
 use Rattle.mapedits.proofs.OfTypes.{collection-back}

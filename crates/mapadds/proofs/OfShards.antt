@@ -30,7 +30,7 @@ use Rattle.mapput.specs.Few.{Few}
 use Rattle.mapput.specs.Rows.{shardRows, readAs}
 use Rattle.mapput.proofs.OfTidy.{rows-used}
 use Rattle.mapput.proofs.OfWhole.{shards-long, shard-same}
-use Rattle.mapedits.specs.Moved.{Moved}
+use Rattle.moves.specs.Moved.{Moved}
 use Rattle.mapedits.specs.Becomes.{ShardsBecome}
 use Rattle.mapedits.proofs.OfPut.{over, in-long, in-place}
 use Rattle.mapedits.proofs.OfTable.{insertAt, put-in}

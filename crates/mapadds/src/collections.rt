@@ -14,8 +14,8 @@ use mapbytes::layout::COLLECTION;
 use mapbytes::layout::COLLECTIONS;
 use mapbytes::layout::COLLECTIONS_USED;
 use mapbytes::room::collection_room;
-use mapedits::moves::move_up;
 use maprows::collections::put_collection;
+use moves::move_up;
 use state::CollectionRow;
 
 const COLLECTION_WORDS: usize = 7;

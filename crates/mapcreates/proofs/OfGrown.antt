@@ -13,7 +13,7 @@ use Rattle.newshards.proofs.OfList.{open-shards, shards-end, shards-least}
 use Rattle.mapput.specs.Few.{Few}
 use Rattle.mapput.specs.Rows.{readAs}
 use Rattle.mapedits.specs.Becomes.{Apart, ShardsBecome}
-use Rattle.mapedits.proofs.OfSets.{apart-self, apart-then, apart-more}
+use Rattle.mapedits.proofs.OfApart.{apart-self, apart-then, apart-more}
 use Rattle.mapedits.proofs.OfFrames.{after-shards}
 
 module _ (s : List ℕ) (name : Name) (v : Placement) where

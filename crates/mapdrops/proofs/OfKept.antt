@@ -27,11 +27,11 @@ use Rattle.mapbytes.proofs.OfRows.{item-at}
 use Rattle.mapimage.specs.Image.{noCollection, noShard}
 use Rattle.mapput.specs.Few.{Few}
 use Rattle.mapput.specs.Rows.{readAs}
-use Rattle.mapput.proofs.OfBytes.{Same, items-same}
+use Rattle.moves.proofs.OfBytes.{Same, items-same}
 use Rattle.mapput.proofs.OfWhole.{collection-same, shard-same}
-use Rattle.mapedits.specs.Moved.{Moved}
+use Rattle.moves.specs.Moved.{Moved}
 use Rattle.mapedits.specs.Becomes.{Apart, CollectionsBecome, ShardsBecome}
-use Rattle.mapedits.proofs.OfSets.{sets-below, sets-behind}
+use Rattle.moves.proofs.OfMoves.{sets-below, sets-behind}
 use Rattle.mapedits.proofs.OfTable.{counted}
 
 filter-in : {A : Type 0} (p : A → Bool) (x : A) (l : List A) → p x ≡ true → filter p (x ∷ l) ≡ x ∷ filter p l

@@ -11,7 +11,7 @@ use image::keys::name_at;
 use mapbytes::layout::COLLECTION;
 use mapbytes::layout::COLLECTIONS;
 use mapbytes::layout::COLLECTIONS_USED;
-use mapedits::moves::move_down;
+use moves::move_down;
 use state::Name;
 use state::names::same_name;
 

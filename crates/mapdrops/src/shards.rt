@@ -11,7 +11,7 @@ use image::keys::name_at;
 use mapbytes::layout::SHARD;
 use mapbytes::layout::SHARDS;
 use mapbytes::layout::SHARDS_USED;
-use mapedits::moves::move_down;
+use moves::move_down;
 use state::Name;
 use state::names::same_name;
 

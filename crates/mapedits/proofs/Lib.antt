@@ -1,4 +1,4 @@
-pub mod OfSets
+pub mod OfApart
 pub mod OfTable
 pub mod OfTypes
 pub mod OfPut

@@ -23,7 +23,7 @@ use Rattle.mapimage.specs.Image.{headImage, mapStored}
 use Rattle.mapimage.proofs.Back.{NodeFits, CollectionFits, ShardFits, SessionFits, Fits}
 use Rattle.mapedits.specs.Becomes.{Apart}
 use Rattle.mapedits.specs.Edits.{Within}
-use Rattle.mapedits.proofs.OfSets.{sets-below, sets-behind, sets-in}
+use Rattle.moves.proofs.OfMoves.{sets-below, sets-behind, sets-in}
 
 pub within-self : (s : List ℕ) (a b c d : ℕ) → Within s s a b c d
 within-self s a b c d = record { long = refl; nodes = λ i h k. refl; collections = λ i h k. refl; shards = λ i h k. refl; sessions = λ i h. refl }

@@ -22,13 +22,13 @@ use Rattle.mapimage.proofs.OfImage.{written-long}
 use Rattle.mapimage.proofs.Back.{Fits, becomes}
 use Rattle.mapput.specs.Few.{Few}
 use Rattle.mapput.specs.Rows.{nodeRows, collectionRows, shardRows, sessionRows, readAs}
-use Rattle.mapput.proofs.OfBytes.{Same, number-same, items-same}
+use Rattle.moves.proofs.OfBytes.{Same, number-same, items-same}
 use Rattle.mapput.proofs.OfTidy.{rows-used}
 use Rattle.mapput.proofs.OfWhole.{node-same, collection-same, shard-same, session-same}
 use Rattle.mapedits.specs.Becomes.{NodesBecome, CollectionsBecome, ShardsBecome, SessionsBecome}
 use Rattle.mapedits.specs.Edits.{Within, After, Edits}
 use Rattle.mapedits.specs.Other.{withSessions, withVersion}
-use Rattle.mapedits.proofs.OfSets.{sets-behind}
+use Rattle.moves.proofs.OfMoves.{sets-behind}
 use Rattle.mapedits.proofs.OfTable.{counted}
 use Rattle.mapedits.proofs.OfCover.{within-self, within-then, within-nodes, within-collections, within-shards, cover}
 

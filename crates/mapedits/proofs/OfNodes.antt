@@ -23,7 +23,7 @@ use Rattle.mapput.specs.Few.{Few}
 use Rattle.mapput.specs.Rows.{nodeRows, readAs}
 use Rattle.mapput.proofs.OfTidy.{rows-used}
 use Rattle.mapput.proofs.OfWhole.{node-same, nodes-long}
-use Rattle.mapedits.specs.Moved.{Moved}
+use Rattle.moves.specs.Moved.{Moved}
 use Rattle.mapedits.specs.Becomes.{NodesBecome, Apart}
 use Rattle.mapedits.proofs.OfPut.{over, in-long, in-place}
 use Rattle.mapedits.proofs.OfTable.{put-over}

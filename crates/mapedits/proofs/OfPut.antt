@@ -14,8 +14,8 @@ use Rattle.state.proofs.Tables.{map-insert, map-set}
 use Rattle.image.specs.Shape.{Stored, items}
 use Rattle.image.proofs.Images.{length-items}
 use Rattle.mapbytes.proofs.OfRows.{item-at}
-use Rattle.mapput.proofs.OfBytes.{Same}
-use Rattle.mapedits.specs.Moved.{Moved}
+use Rattle.moves.proofs.OfBytes.{Same}
+use Rattle.moves.specs.Moved.{Moved}
 use Rattle.mapedits.specs.Becomes.{Apart}
 use Rattle.mapedits.proofs.OfTable.{Rows, insertAt, insert-long, put-over, put-in}
 

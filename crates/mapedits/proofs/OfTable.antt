@@ -15,10 +15,11 @@ use Rattle.image.specs.Shape.{Stored, items}
 use Rattle.image.proofs.Back.{drop-sets}
 use Rattle.image.proofs.Images.{length-items, row-room}
 use Rattle.mapbytes.proofs.OfRows.{item-at}
-use Rattle.mapput.proofs.OfBytes.{Same, number-same}
-use Rattle.mapedits.specs.Moved.{Moved}
+use Rattle.moves.proofs.OfBytes.{Same, number-same}
+use Rattle.moves.specs.Moved.{Moved}
 use Rattle.mapedits.specs.Becomes.{Apart}
-use Rattle.mapedits.proofs.OfSets.{sets-below, sets-behind, apart-then, apart-more, apart-stored, apart-moved, apart-count}
+use Rattle.moves.proofs.OfMoves.{sets-below, sets-behind}
+use Rattle.mapedits.proofs.OfApart.{apart-then, apart-more, apart-stored, apart-moved, apart-count}
 
 abbrev pub insertAt : {A : Type 0} → List A → ℕ → A → List A
 insertAt l i x = take i l ++ x ∷ drop i l

@@ -28,7 +28,7 @@ use Rattle.mapput.specs.Few.{Few}
 use Rattle.mapput.specs.Rows.{shardRows, readAs}
 use Rattle.mapput.proofs.OfTidy.{rows-used}
 use Rattle.mapput.proofs.OfWhole.{shard-same, session-same}
-use Rattle.mapedits.specs.Moved.{Moved}
+use Rattle.moves.specs.Moved.{Moved}
 use Rattle.mapedits.specs.Becomes.{SessionsBecome, ShardsBecome, Apart}
 use Rattle.mapedits.proofs.OfPut.{over, in-long, in-place}
 use Rattle.mapedits.proofs.OfTable.{put-over}

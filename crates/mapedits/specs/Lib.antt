@@ -1,4 +1,3 @@
-pub mod Moved
 pub mod Becomes
 pub mod Edits
 pub mod Other

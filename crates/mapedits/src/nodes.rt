@@ -13,12 +13,12 @@ ghost use Rattle.mapbytes.specs.Places.{NodesCount};
 ghost use Rattle.mapput.specs.Few.{Few};
 ghost use Rattle.mapput.specs.Rows.{readAs};
 ghost use Rattle.mapedits.specs.Becomes.{NodesBecome};
-use crate::moves::move_up;
 use mapbytes::layout::NODE;
 use mapbytes::layout::NODES;
 use mapbytes::layout::NODES_USED;
 use mapbytes::room::node_room;
 use maprows::nodes::put_node;
+use moves::move_up;
 use state::NodeRow;
 
 const NODE_WORDS: usize = 12;

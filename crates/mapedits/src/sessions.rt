@@ -12,12 +12,12 @@ ghost use Rattle.mapbytes.specs.Places.{SessionsCount};
 ghost use Rattle.mapput.specs.Few.{Few};
 ghost use Rattle.mapput.specs.Rows.{readAs};
 ghost use Rattle.mapedits.specs.Becomes.{SessionsBecome};
-use crate::moves::move_up;
 use mapbytes::layout::SESSION;
 use mapbytes::layout::SESSIONS;
 use mapbytes::layout::SESSIONS_USED;
 use mapbytes::room::session_room;
 use maprows::sessions::put_session;
+use moves::move_up;
 use state::SessionRow;
 
 const SESSION_WORDS: usize = 10;

@@ -1,4 +1,3 @@
-pub mod OfBytes
 pub mod OfGood
 pub mod OfTidy
 pub mod OfWhole

@@ -9,7 +9,7 @@ use Rattle.model.specs.Layout.Format.{concatMap}
 use Rattle.image.specs.Shape.{items, Stored, inUse, rowsAt}
 use Rattle.image.proofs.Images.{put-step, put-end, length-items, map-items}
 use Rattle.mapbytes.proofs.OfRows.{item-at, used-all}
-use Rattle.mapput.proofs.OfBytes.{drop-on, drop-after}
+use Rattle.moves.proofs.OfBytes.{drop-on, drop-after}
 
 module _ {A : Type 0} (put : A → List ℕ) (w base : ℕ) (no : A) (s : List ℕ) (l : List A) where
   -- the first i are there, and behind them all is as it was

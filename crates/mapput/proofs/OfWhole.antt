@@ -23,7 +23,7 @@ use Rattle.mapimage.proofs.OfImage.{written-long}
 use Rattle.mapimage.proofs.Back.{NodeFits, CollectionFits, ShardFits, SessionFits, Fits, becomes}
 use Rattle.mapput.specs.Few.{Few}
 use Rattle.mapput.specs.Rows.{nodeRows, collectionRows, shardRows, sessionRows, readAs}
-use Rattle.mapput.proofs.OfBytes.{Same, value-same, items-same, past, drop-far}
+use Rattle.moves.proofs.OfBytes.{Same, value-same, items-same, past, drop-far}
 use Rattle.mapput.proofs.OfGood.{items-all, good, node-of, collection-of, shard-of, session-of}
 use Rattle.mapput.proofs.OfTidy.{rows-used}
 

@@ -14,7 +14,7 @@ use Rattle.mapforms.specs.Canon.{imageSession}
 use Rattle.mapimage.specs.Image.{noSession}
 use Rattle.mapput.proofs.OfTidy.{Done, done-start, done-step, done-end, Tidy, tidy-long, tidy-row, tidy-all}
 use Rattle.mapput.proofs.OfWhole.{session-same}
-use Rattle.mapput.proofs.OfBytes.{past}
+use Rattle.moves.proofs.OfBytes.{past}
 use Rattle.mapput.proofs.sessions_tidied.Statement.{statement}
 use Rattle.mapput.proofs.sessions_tidied.Tie as tie
 

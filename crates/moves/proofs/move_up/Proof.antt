@@ -1,4 +1,4 @@
--- `moves::move_up` meets its contract. Assumes nothing.
+-- `move_up` meets its contract. Assumes nothing.
 use borrow.Author.Needs.{needs}
 use native.Mathlib.Omega.{arith}
 use mathlib.Core.Path.{_≡_, refl, sym, _∙_, ap}
@@ -6,9 +6,9 @@ use mathlib.Core.List.{List, [], _∷_, _++_}
 use Prim.Native.Nat.{ℕ, _+_, _-_, _*_, _≤_, _<_}
 use lib.ListN.{length, getD, take, drop, set}
 use Rattle.model.specs.Layout.Format.{Bytes}
-use Rattle.mapedits.proofs.OfSets.{Up, up-start, up-step, up-end}
-use Rattle.mapedits.proofs.moves.move_up.Statement.{statement}
-use Rattle.mapedits.proofs.moves.move_up.Tie as tie
+use Rattle.moves.proofs.OfMoves.{Up, up-start, up-step, up-end}
+use Rattle.moves.proofs.move_up.Statement.{statement}
+use Rattle.moves.proofs.move_up.Tie as tie
 
 abbrev Inv-loop : tie.InvT-loop
 Inv-loop out₀ from to words i₀ out i = Up out₀ from to words out i × (i ≤ words) × (from ≤ to) × (to + 8 * words ≤ length out₀) × Bytes out

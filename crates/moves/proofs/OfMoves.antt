@@ -1,19 +1,17 @@
 -- What a store and a move leave of each byte. Assumes nothing.
-use Prim.Native.Nat.{ℕ, zero, suc, _+_, _-_, _*_, _≤_, _<_}
+use Prim.Native.Nat.{ℕ, zero, suc, _+_, _-_, _*_, _≤_, _<_, min}
 use mathlib.Core.Path.{_≡_, refl, sym, ap, _∙_}
 use mathlib.Core.Bool.{Bool, true, false}
 use mathlib.Core.List.{List, [], _∷_, _++_}
 use lib.Dec.{ltb}
 use borrow.Author.Tests.{ltb-true, ltb-false}
-use lib.ListN.{length, getD, drop, set, length-set, List·getD-append}
-use lib.Seq.{sets, length-sets, getD-drop, getD-set-same, getD-set-other}
+use lib.ListN.{length, getD, take, drop, set, length-set, length-take, length-drop, List·getD-append}
+use lib.Seq.{sets, length-sets, getD-take, getD-drop, getD-set-same, getD-set-other, ext-getD}
 use native.Mathlib.Omega.{arith}
 use Rattle.model.specs.Layout.Format.{Bytes, numberAt, bytesOf}
 use Rattle.model.proofs.LayoutLaws.Bytes.{bytes-number, length-bytes}
-use Rattle.image.specs.Shape.{Stored}
-use Rattle.mapput.proofs.OfBytes.{Same}
-use Rattle.mapedits.specs.Moved.{Moved}
-use Rattle.mapedits.specs.Becomes.{Apart}
+use Rattle.moves.specs.Moved.{Moved}
+use Rattle.moves.proofs.OfBytes.{Same}
 
 pub sets-below : (s : List ℕ) (at : ℕ) (b : List ℕ) (i : ℕ) → i < at → getD (sets s at b) i 0 ≡ getD s i 0
 sets-below s at [] i h = refl
@@ -130,47 +128,21 @@ module _ (s : List ℕ) (from to n : ℕ) where
             x ∙ u .below (from + k) (omega arith)
         go k a h false e = let more = ltb-false k (8 * i + 8) e in after (to + k) (omega arith) ∙ u .moved k (omega arith) h
 
--- ---- apart from a count and a table
+-- ---- what a move leaves: all before it, all behind it, and what it moved
 
-pub apart-self : (s : List ℕ) (x lo hi : ℕ) → Apart s s x lo hi
-apart-self s x lo hi = record { long = refl; below = λ i h. refl; between = λ i a b. refl; behind = λ i h. refl }
+pub moved-front : {s t : List ℕ} {from to n : ℕ} → Moved s t from to n → take to t ≡ take to s
+moved-front {s} {t} {from} {to} m =
+    let l = length-take to t in
+    ext-getD 0 (take to t) (take to s) (length-take to t ∙ ap (λ (k : ℕ). min to k) (m .long) ∙ sym (length-take to s))
+    (λ i h. let lt : i < to = omega arith in getD-take to t i 0 lt ∙ m .below i lt ∙ sym (getD-take to s i 0 lt))
 
-pub apart-then : {s t u : List ℕ} {x lo hi : ℕ} → Apart s t x lo hi → Apart t u x lo hi → Apart s u x lo hi
-apart-then a b = record {
-  long = b .long ∙ a .long;
-  below = λ i h. b .below i h ∙ a .below i h;
-  between = λ i p q. b .between i p q ∙ a .between i p q;
-  behind = λ i h. b .behind i h ∙ a .behind i h;
-}
+pub moved-past : {s t : List ℕ} {from to n : ℕ} → Moved s t from to n → (p : ℕ) → to + n ≤ p → drop p t ≡ drop p s
+moved-past {s} {t} m p ge =
+    ext-getD 0 (drop p t) (drop p s) (length-drop p t ∙ ap (λ (k : ℕ). k - p) (m .long) ∙ sym (length-drop p s))
+    (λ i h. getD-drop p t i 0 ∙ m .behind (p + i) (omega arith) ∙ sym (getD-drop p s i 0))
 
-pub apart-more : {s t : List ℕ} {x lo hi : ℕ} (more : ℕ) → hi ≤ more → Apart s t x lo hi → Apart s t x lo more
-apart-more more h a = record { long = a .long; below = a .below; between = a .between; behind = λ i k. a .behind i (omega arith) }
-
-pub apart-stored : {s t : List ℕ} {at : ℕ} {b : List ℕ} {w : ℕ} (x lo hi : ℕ) → Stored s t at b w → x ≤ lo → lo ≤ at → at + w ≤ hi → Apart s t x lo hi
-apart-stored {s} {t} {at} {b} {w} x lo hi p o h k =
-    let l = p .long in
-    let below : (i : ℕ) → i < at → getD t i 0 ≡ getD s i 0 = λ i lt. ap (λ (u : List ℕ). getD u i 0) (p .image) ∙ sets-below s at b i lt in
-    record {
-      long = ap length (p .image) ∙ length-sets s at b;
-      below = λ i lt. below i (omega arith);
-      between = λ i ge lt. below i (omega arith);
-      behind = λ i ge. ap (λ (u : List ℕ). getD u i 0) (p .image) ∙ sets-behind s at b i (omega arith);
-    }
-
-pub apart-moved : {s t : List ℕ} {from to n : ℕ} (x lo hi : ℕ) → Moved s t from to n → x ≤ lo → lo ≤ to → to + n ≤ hi → Apart s t x lo hi
-apart-moved x lo hi m o h k = record {
-  long = m .long;
-  below = λ i lt. m .below i (omega arith);
-  between = λ i ge lt. m .below i (omega arith);
-  behind = λ i ge. m .behind i (omega arith);
-}
-
-pub apart-count : {s t : List ℕ} (v x lo hi : ℕ) → t ≡ sets s x (bytesOf 8 v) → x + 8 ≤ hi → Apart s t x lo hi
-apart-count {s} {t} v x lo hi e h =
-    let l = length-bytes 8 v in
-    record {
-      long = ap length e ∙ length-sets s x (bytesOf 8 v);
-      below = λ i lt. ap (λ (u : List ℕ). getD u i 0) e ∙ sets-below s x (bytesOf 8 v) i lt;
-      between = λ i ge lt. ap (λ (u : List ℕ). getD u i 0) e ∙ sets-behind s x (bytesOf 8 v) i (omega arith);
-      behind = λ i ge. ap (λ (u : List ℕ). getD u i 0) e ∙ sets-behind s x (bytesOf 8 v) i (omega arith);
-    }
+pub moved-same : {s t : List ℕ} {from to n : ℕ} → Moved s t from to n → (k w : ℕ) → k + w ≤ n → Same t (to + k) s (from + k) w
+moved-same {s} {t} {from} {to} m k w h i lt =
+    let l : to + k + i ≡ to + (k + i) = omega arith in
+    let r : from + k + i ≡ from + (k + i) = omega arith in
+    rw (l, r) (m .moved (k + i) (omega arith))

@@ -1,8 +1,8 @@
-// Words of 8 bytes moved within an image, where the two places may overlap: up from the back, down from the front.
+// Words of 8 bytes moved within an image, where the two places may overlap: up from the back, down from the front. Internal.
 ghost use mathlib.Core.Path.{_≡_};
 ghost use Prim.Native.Nat.{_+_, _*_, _≤_};
 ghost use lib.ListN.{length};
-ghost use Rattle.mapedits.specs.Moved.{Moved};
+ghost use Rattle.moves.specs.Moved.{Moved};
 
 pub fn move_up(out: &mut [u8], from: usize, to: usize, words: usize)
     requires { ⌜ (from ≤ to) × (to + 8 * words ≤ length (now out)) ⌝ }

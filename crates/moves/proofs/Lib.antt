@@ -1,0 +1,2 @@
+pub mod OfBytes
+pub mod OfMoves
