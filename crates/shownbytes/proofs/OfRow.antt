@@ -89,7 +89,7 @@ none-new f before (p ∷ l) =
     let q : (before ++ (p ∷ [])) ++ l ≡ before ++ (p ∷ l) = append-assoc before (p ∷ []) l in
     rw there (ap (λ (o : List Peer). collect (show.isNew o) f l) (sym q) ∙ none-new f (before ++ (p ∷ [])) l)
 
-starts-none : (k : Key) (e : ℕ) (metric : Metric) (l : List Peer) → show.starts k e metric l l ≡ []
+pub starts-none : (k : Key) (e : ℕ) (metric : Metric) (l : List Peer) → show.starts k e metric l l ≡ []
 unfolding show.starts
 starts-none k e metric l = none-new (show.workerFor k e metric) [] l
 
@@ -128,7 +128,7 @@ module _ (me : ℕ) (i : ShardInfo) (metric : Metric) (h : held.Held) (same : h 
 
 -- ---- and by the tests
 
-leader-is : (l : Leader) (me : ℕ) → leaderIs l me ≡ show.isPrimary (leaderOf l) me
+pub leader-is : (l : Leader) (me : ℕ) → leaderIs l me ≡ show.isPrimary (leaderOf l) me
 leader-is Nobody me = refl
 leader-is (At n) me = refl
 
