@@ -89,7 +89,7 @@ opened s a t at count room le few k d =
 abbrev keySet : Kept → ShardKey → Kept
 keySet x key = record { key = key; slot = x .slot; stored = x .stored; held = x .held }
 
-abbrev slotSet : Kept → ℕ → Kept
+abbrev pub slotSet : Kept → ℕ → Kept
 slotSet x slot = record { key = x .key; slot = slot; stored = x .stored; held = x .held }
 
 abbrev holdersSet : Kept → ℕ → Kept
@@ -139,7 +139,7 @@ module _ (s t : List ℕ) (p : ℕ) (room : p + 1280 ≤ length s) where
         row = ap keptOf (part-set at s t p (keyValue key) g room (rw e at k));
       }
 
-  slot-set : (n : ℕ) → n < 256 ^ 8 → Stored s t (p + 48) (bytesOf 8 n) 8 → RowBecomes s t p (slotSet (keptAt s p) n)
+  pub slot-set : (n : ℕ) → n < 256 ^ 8 → Stored s t (p + 48) (bytesOf 8 n) 8 → RowBecomes s t p (slotSet (keptAt s p) n)
   unfolding keptAt
   slot-set n small k =
       let at : Part keptF u64 = first (first (second whole)) in

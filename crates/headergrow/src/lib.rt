@@ -13,8 +13,8 @@ use model::Epoch;
 use model::Metric;
 use state::ShardKey;
 
-mod places;
-mod rows;
+pub mod places;
+pub mod rows;
 
 // Where the rows begin, the bytes of one, and where the header counts them (docs/IMAGES.md).
 const ROWS: usize = 48;

@@ -1,3 +1,4 @@
 pub mod OfFresh
 pub mod OfShow
 pub mod OfQuiet
+pub mod OfChange

@@ -38,10 +38,10 @@ use Rattle.showcalls.proofs.OfFresh.{over}
 -- ---- what is put
 
 -- a refusal leaves every buffer as it was
-abbrev refused : ℕ → Node → NodeShown
+abbrev pub refused : ℕ → Node → NodeShown
 refused k n = record { answer = S.Refused k; starts = []; count = 0; node = n }
 
-refused-put : (s p a : List ℕ) (n : Node) (k : ℕ) → ShowPut s s p p a a (refused k n) k
+pub refused-put : (s p a : List ℕ) (n : Node) (k : ℕ) → ShowPut s s p p a a (refused k n) k
 refused-put s p a n k = shown-as s p a (refused k n) (S.Refused k) refl refl (λ d. not-both false d refl)
 
 -- no worker starts

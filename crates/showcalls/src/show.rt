@@ -13,16 +13,16 @@ ghost use Rattle.headercalls.specs.Shows.{Shows};
 ghost use Rattle.showcalls.specs.Shown.{MapFormed, Quietly, TakesAt, ShowsAt};
 use crate::fresh::put_fresh;
 use asked::answer::put_number;
-use headercalls::show::put_shown;
 use headerimage::is_lent;
-use headerimage::read_header;
 use headerset::back::put_back;
 use headerset::version::put_version;
 use mapbytes::layout::NODES_USED;
 use mapbytes::layout::VERSION;
+use rpcput::put::put_bytes;
 use shown::dead::dead_in;
-use shown::starting::take_map;
 use shownbytes::quiet::is_quiet;
+use shownwalk::put::put_rows;
+use shownwalk::walk::make_rows;
 
 // Where a header has them.
 const ID: usize = 0;
@@ -71,21 +71,36 @@ fn note(header: &mut [u8], count: usize, version: u64, answer: &mut [u8]) -> u32
     0
 }
 
-// Internal: a map that changes what is held.
-fn change(header: &mut [u8], map: &[u8], starts: &mut [u8], answer: &mut [u8]) -> u32
-    requires { ⌜ (headerLent (now header) ≡ true) × (formedNode (nodeAt (now header)) ≡ true) × MapFormed (now map) ⌝ }
+// Internal: a map that changes what is held: the rows after and the workers to start are made first, in buffers of their own. 23 if a ninth shard
+// would be held, or a 33rd worker needed, or an output is too short; nothing is written then.
+fn change(header: &mut [u8], count: usize, map: &[u8], starts: &mut [u8], answer: &mut [u8]) -> u32
+    requires { ⌜ Counts (now header) count × (formedNode (nodeAt (now header)) ≡ true) × MapFormed (now map) ⌝ }
     ensures { λ r. ⌜ TakesAt (now (header .entry)) (now (header .exit)) (now (map .entry)) (now (starts .entry)) (now (starts .exit))
         (now (answer .entry)) (now (answer .exit)) r ⌝ }
 {
-    let lent = read_header(header);
-    let n = lent.node;
-    let a = take_map(n, map);
-    put_shown(header, a, starts, answer)
+    let mut rows = [0u8; 10240];
+    let mut workers = [0u8; 13824];
+    let made = make_rows(header, count, map, &mut rows, &mut workers);
+    if made.full {
+        return 23;
+    }
+    let many = made.workers;
+    let size = 54 * many;
+    if starts.len() < size {
+        return 23;
+    }
+    if !put_number(answer, many as u64) {
+        return 23;
+    }
+    put_bytes(starts, 0, &workers[..size]);
+    let version = num::get8(map, VERSION);
+    put_rows(header, &rows, made.count, version);
+    0
 }
 
 // Internal: a map that is taken.
 fn take(header: &mut [u8], count: usize, map: &[u8], starts: &mut [u8], answer: &mut [u8]) -> u32
-    requires { ⌜ (headerLent (now header) ≡ true) × Counts (now header) count × (formedNode (nodeAt (now header)) ≡ true) × MapFormed (now map) ⌝ }
+    requires { ⌜ Counts (now header) count × (formedNode (nodeAt (now header)) ≡ true) × MapFormed (now map) ⌝ }
     ensures { λ r. ⌜ TakesAt (now (header .entry)) (now (header .exit)) (now (map .entry)) (now (starts .entry)) (now (starts .exit))
         (now (answer .entry)) (now (answer .exit)) r ⌝ }
 {
@@ -93,7 +108,7 @@ fn take(header: &mut [u8], count: usize, map: &[u8], starts: &mut [u8], answer: 
     if is_quiet(header, count, map) {
         return note(header, count, version, answer);
     }
-    change(header, map, starts, answer)
+    change(header, count, map, starts, answer)
 }
 
 // Internal: an older version is ignored; a node listed dead starts over; any other map is taken.

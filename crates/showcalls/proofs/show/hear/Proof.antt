@@ -61,7 +61,7 @@ returns-2 : tie.Need-returns-2
 returns-2 c = let a = (c .before .before .before .before .before .before .before .before .before .before .before .before .before .before .before .before .before .before .before .before .before .before .before .before .args) in let g = (c .before .before .before .before .before .before .before .before .before .before .before .before .before .before .before .before .before .get82) .ensures in let h = (c .before .before .before .before .before .before .before .before .before .before .before .before .before .before .before .get83) .ensures in let ge = (c .before .before .before .before .before .before .before .before .before .before .before .before .before .before .if1) .left in hear-dead (a .header .now) (a .map .now) (a .fresh) ((c .before .before .before .before .before .before .before .before .before .before .before .before .before .before .before .before .before .before .before .before .before .before .before .before .pre) .1) (omega arith) ((c .before .before .before .before .before .before .before .before .before .before .before .before .get84) .result) ((c .before .before .before .before .before .before .before .before .before .before .get85) .result) ((c .before .before .before .before .before .before .before .before .before .before .before .before .get84) .ensures) ((c .before .before .before .before .before .before .before .before .before .before .get85) .ensures) ((c .before .before .before .before .before .before .before .before .dead-in) .result) ((c .before .before .before .before .before .before .before .before .dead-in) .ensures) ((c .before .before .before .before .before .before .before .if2) .taken) _ (a .starts .now) (a .answer .now) _ _ ((c .before .before .before .before .start-over) .ensures)
 
 take-requires : tie.Need-take-requires
-take-requires c κs = let s = (c .before .before .before .before .before .before .before .before .before .before .before .before .before .before .before .before .before .before .before .before .args) .header .now in let l = lent-long s ((c .before .before .before .before .before .before .before .before .before .before .before .before .before .before .before .before .before .before .before .before .pre) .0) in let w = header-few (nodeAt s) ((c .before .before .before .before .before .before .before .before .before .before .before .before .before .before .before .before .before .before .before .before .pre) .1) in let k = counted s in let e = (c .before .before .before .before .before .before .before .before .before .before .before .before .before .before .get8) .ensures in ((c .before .before .before .before .before .before .before .before .before .before .before .before .before .before .before .before .before .before .before .before .pre) .0, (l, omega arith, sym e), (c .before .before .before .before .before .before .before .before .before .before .before .before .before .before .before .before .before .before .before .before .pre) .1, (c .before .before .before .before .before .before .before .before .before .before .before .before .before .before .before .before .before .before .before .before .pre) .2)
+take-requires c κs = let s = (c .before .before .before .before .before .before .before .before .before .before .before .before .before .before .before .before .before .before .before .before .args) .header .now in let l = lent-long s ((c .before .before .before .before .before .before .before .before .before .before .before .before .before .before .before .before .before .before .before .before .pre) .0) in let w = header-few (nodeAt s) ((c .before .before .before .before .before .before .before .before .before .before .before .before .before .before .before .before .before .before .before .before .pre) .1) in let k = counted s in let e = (c .before .before .before .before .before .before .before .before .before .before .before .before .before .before .get8) .ensures in ((l, omega arith, sym e), (c .before .before .before .before .before .before .before .before .before .before .before .before .before .before .before .before .before .before .before .before .pre) .1, (c .before .before .before .before .before .before .before .before .before .before .before .before .before .before .before .before .before .before .before .before .pre) .2)
 
 same-length-5 : tie.Need-same-length-5
 same-length-5 c = search needs

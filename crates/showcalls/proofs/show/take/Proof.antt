@@ -15,13 +15,13 @@ use Rattle.showcalls.proofs.show.take.Statement.{statement}
 use Rattle.showcalls.proofs.show.take.Tie as tie
 
 get8-requires : tie.Need-get8-requires
-get8-requires c κs = let p = (c .before .before .before .before .pre) .3 .long in omega arith
+get8-requires c κs = let p = (c .before .before .before .before .pre) .2 .long in omega arith
 
 is-quiet-requires : tie.Need-is-quiet-requires
-is-quiet-requires c κs = ((c .before .before .before .before .before .before .pre) .1, (c .before .before .before .before .before .before .pre) .2, (c .before .before .before .before .before .before .pre) .3 .long, (c .before .before .before .before .before .before .pre) .3 .tables)
+is-quiet-requires c κs = ((c .before .before .before .before .before .before .pre) .0, (c .before .before .before .before .before .before .pre) .1, (c .before .before .before .before .before .before .pre) .2 .long, (c .before .before .before .before .before .before .pre) .2 .tables)
 
 note-requires : tie.Need-note-requires
-note-requires c κs = (c .before .before .before .before .before .before .before .before .before .before .pre) .1
+note-requires c κs = (c .before .before .before .before .before .before .before .before .before .before .pre) .0
 
 same-length : tie.Need-same-length
 same-length c = search needs
@@ -30,10 +30,10 @@ same-length-2 : tie.Need-same-length-2
 same-length-2 c = search needs
 
 returns : tie.Need-returns
-returns c = record { after = noStarts (versionSet (nodeAt ((c .before .before .before .before .before .before .before .before .before .before .before .before .before .before .before .args) .header .now)) ((c .before .before .before .before .before .before .before .before .before .before .get8) .result)); call = quiet-taken (nodeAt ((c .before .before .before .before .before .before .before .before .before .before .before .before .before .before .before .args) .header .now)) (mapAt ((c .before .before .before .before .before .before .before .before .before .before .before .before .before .before .before .args) .map .now)) ((c .before .before .before .before .before .before .before .before .before .before .before .before .before .before .before .pre) .2) ((c .before .before .before .before .before .before .before .before .is-quiet) .ensures ((c .before .before .before .before .before .before .before .if1) .taken)) ((c .before .before .before .before .before .before .before .before .before .before .get8) .result) ((c .before .before .before .before .before .before .before .before .before .before .get8) .ensures ∙ sym (version-is ((c .before .before .before .before .before .before .before .before .before .before .before .before .before .before .before .args) .map .now))); put = (c .before .before .before .before .note) .ensures ((c .before .before .before .before .before .before .before .before .before .before .before .before .before .before .before .args) .starts .now) }
+returns c = record { after = noStarts (versionSet (nodeAt ((c .before .before .before .before .before .before .before .before .before .before .before .before .before .before .before .args) .header .now)) ((c .before .before .before .before .before .before .before .before .before .before .get8) .result)); call = quiet-taken (nodeAt ((c .before .before .before .before .before .before .before .before .before .before .before .before .before .before .before .args) .header .now)) (mapAt ((c .before .before .before .before .before .before .before .before .before .before .before .before .before .before .before .args) .map .now)) ((c .before .before .before .before .before .before .before .before .before .before .before .before .before .before .before .pre) .1) ((c .before .before .before .before .before .before .before .before .is-quiet) .ensures ((c .before .before .before .before .before .before .before .if1) .taken)) ((c .before .before .before .before .before .before .before .before .before .before .get8) .result) ((c .before .before .before .before .before .before .before .before .before .before .get8) .ensures ∙ sym (version-is ((c .before .before .before .before .before .before .before .before .before .before .before .before .before .before .before .args) .map .now))); put = (c .before .before .before .before .note) .ensures ((c .before .before .before .before .before .before .before .before .before .before .before .before .before .before .before .args) .starts .now) }
 
 change-requires : tie.Need-change-requires
-change-requires c κs = ((c .before .before .before .before .before .before .before .before .before .before .before .pre) .0, (c .before .before .before .before .before .before .before .before .before .before .before .pre) .2, (c .before .before .before .before .before .before .before .before .before .before .before .pre) .3)
+change-requires c κs = (c .before .before .before .before .before .before .before .before .before .before .before .pre)
 
 same-length-3 : tie.Need-same-length-3
 same-length-3 c = search needs

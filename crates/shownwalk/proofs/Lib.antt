@@ -1,0 +1,4 @@
+pub mod OfRow
+pub mod OfWalk
+pub mod OfSlots
+pub mod OfPut
