@@ -7,8 +7,8 @@ use intake::LONGEST;
 use intake::Said;
 use intake::drain::drain;
 use intake::input::refill;
+use intake::start::start;
 use lines::print::print;
-use requests::start::empty_map;
 
 fn print_all(said: Said)
     requires { ⌜ said .count ≤ 328 ⌝ }
@@ -22,10 +22,10 @@ fn print_all(said: Said)
 }
 
 // Nothing says that an input ends, so the turns are counted down, from a number that no run uses up.
-fn run(buf: &mut [u8])
-    requires { ⌜ length (now buf) ≤ 8192 ⌝ }
+fn run(map: &mut [u8], buf: &mut [u8])
+    requires { ⌜ (26536 ≤ length (now map)) × (length (now buf) ≤ 8192) ⌝ }
 {
-    let mut map = empty_map();
+    start(map);
     let mut n: usize = 0;
     let mut turns = u64::MAX;
     while 0 < turns {
@@ -41,14 +41,13 @@ fn run(buf: &mut [u8])
         if more <= rest {
             return;
         }
-        let next = done.map;
-        map = next;
         n = more;
         turns -= 1;
     }
 }
 
 fn main() {
+    let mut map = [0u8; 26536];
     let mut buf = [0u8; 8192];
-    run(&mut buf);
+    run(&mut map, &mut buf);
 }

@@ -8,31 +8,15 @@ use mathlib.Core.Option.{Option, none, some}
 use native.Mathlib.Omega.{arith}
 use lib.ListN.{length}
 use Rattle.model.specs.Map.Tables as tables
-use Rattle.model.specs.Map.Apply.{Applied, apply}
-use Rattle.model.specs.Map.Calls.{Line, wordOf, reasonNumber, lineOf, applyCall, requestsFrom, requestsIn, endIn, linesFor, mapAfter}
-use Rattle.model.specs.Map.WellFormed.{wellFormedMap}
+use Rattle.model.specs.Map.Calls.{Line, lineOf, applyCall, requestsFrom, requestsIn, endIn, linesFor, mapAfter}
 use Rattle.model.specs.Layout.Request as request
 use Rattle.model.specs.Layout.Parts.{whenever}
-use Rattle.state.specs.View.{answerOf, viewMap, viewRequest}
-use Rattle.state.specs.declared.ShardMap.{ShardMap}
-use Rattle.state.specs.declared.Verdict.{Verdict}
+use Rattle.state.specs.View.{viewRequest}
 use Rattle.requests.specs.Read.{LoadedAt}
 use Rattle.requests.specs.declared.Loaded.{Loaded}
-use Rattle.lines.specs.Words.{viewLine, lineFor}
-use Rattle.intake.specs.Stream.{Stepped}
-use Rattle.intake.specs.declared.Answered.{Answered}
-
--- 24 is not answered of a map that passes
-pub call-is : (m : tables.Map) (r : request.Request) → wellFormedMap m ≡ true → applyCall m r ≡ apply m r
-unfolding applyCall
-call-is m r e = rw e
-
--- the line of an answer and a version, where they are those of the call
-pub line-is : (index : ℕ) (w : Verdict) (version : ℕ) (a : Applied) → answerOf w ≡ a .answer → version ≡ a .map .version
-    → lineFor index w version ≡ lineOf index a
-line-is index w version a p q =
-    ap (λ (x : tables.Answer). record { index = index; word = wordOf x; reason = reasonNumber x; version = version }) p
-    ∙ ap (λ (n : ℕ). record { index = index; word = wordOf (a .answer); reason = reasonNumber (a .answer); version = n }) q
+use Rattle.lines.specs.Words.{viewLine}
+use Rattle.lines.specs.declared.Line as own
+use Rattle.intake.specs.Stream.{mapIn, Stepped}
 
 -- those that are read from a place on, applied to m behind the lines ls, come to what all of them come to, applied to m₀
 pub record Left (s : List ℕ) (m₀ m : tables.Map) (ls : List Line) (t : List request.Request × ℕ) : Type 0 where
@@ -91,10 +75,10 @@ module _ (s : List ℕ) (at : ℕ) (l : Loaded) (h : LoadedAt s at l) where
   there : l .found ≡ true → request.requestAt s at ≡ some (viewRequest (l .request) (h .padding), l .next)
   there e = h .read ∙ ap (λ (b : Bool). whenever b (viewRequest (l .request) (h .padding), l .next)) e
 
-  pub stepped-on : (m₀ : tables.Map) (m : ShardMap) (ls : List Line) (d : Answered) → l .found ≡ true → Going s m₀ (viewMap m) at ls → Stepped m (l .request) d
-      → Going s m₀ (viewMap (d .map)) (l .next) (ls ++ (viewLine (d .line) ∷ []))
-  stepped-on m₀ m ls d e g t =
+  pub stepped-on : (m₀ : tables.Map) (u v : List ℕ) (ls : List Line) (x : own.Line) → l .found ≡ true → Going s m₀ (mapIn u) at ls → Stepped u v (l .request) x
+      → Going s m₀ (mapIn v) (l .next) (ls ++ (viewLine x ∷ []))
+  stepped-on m₀ u v ls x e g t =
       let r = viewRequest (l .request) (h .padding) in
-      let w = going-on s m₀ (viewMap m) ls at r (l .next) (h .passes e) (h .inside e) g (there e) in
-      subst (λ (z : tables.Map). Going s m₀ z (l .next) (ls ++ (viewLine (d .line) ∷ []))) (sym (t .map (h .padding)))
-      (subst (λ (x : Line). Going s m₀ (applyCall (viewMap m) r .map) (l .next) (ls ++ (x ∷ []))) (sym (t .line (h .padding))) w)
+      let w = going-on s m₀ (mapIn u) ls at r (l .next) (h .passes e) (h .inside e) g (there e) in
+      subst (λ (z : tables.Map). Going s m₀ z (l .next) (ls ++ (viewLine x ∷ []))) (sym (t .map (h .padding)))
+      (subst (λ (y : Line). Going s m₀ (applyCall (mapIn u) r .map) (l .next) (ls ++ (y ∷ []))) (sym (t .line (h .padding))) w)

@@ -1,40 +1,45 @@
--- Paper 01, 'Program applymap': what the code is held to by model's definition of it. Definitions only.
+-- Paper 01, 'Program applymap': what the code is held to by model's definition of it, of the maps that the image's bytes are read as at entry
+-- and at exit. Definitions only.
 use Prim.Native.Nat.{ℕ, _≤_}
 use mathlib.Core.Path.{_≡_}
-use mathlib.Core.Bool.{true}
 use mathlib.Core.List.{List, map}
 use lib.ListN.{length, take}
+use Rattle.model.specs.Map.Tables as tables
+use Rattle.model.specs.Map.Tables.{emptyMap}
 use Rattle.model.specs.Map.Calls as calls
 use Rattle.model.specs.Map.Calls.{applyCall, lineOf, requestsIn, endIn, linesFor, mapAfter}
-use Rattle.model.specs.Map.WellFormed.{wellFormedMap}
-use Rattle.state.specs.Counted.{TablesCounted}
 use Rattle.state.specs.View.{viewMap, viewRequest}
 use Rattle.state.specs.declared.Request.{Request}
-use Rattle.state.specs.declared.ShardMap.{ShardMap}
+use Rattle.mapimage.specs.Image.{mapAt}
+use Rattle.mapintact.specs.Calls.{Intact}
 use Rattle.lines.specs.Words.{viewLine}
-use Rattle.intake.specs.declared.Answered.{Answered}
+use Rattle.lines.specs.declared.Line.{Line}
 use Rattle.intake.specs.declared.Said.{Said}
 use Rattle.intake.specs.declared.Drained.{Drained}
 
--- a map that passes the 24 test
-pub record Sound (m : ShardMap) : Type 0 where
-  pub counted : TablesCounted m
-  pub formed : wellFormedMap (viewMap m) ≡ true
+-- the map that an image's bytes are read as
+abbrev pub mapIn : List ℕ → tables.Map
+mapIn s = viewMap (mapAt s)
+
+-- 'starts from an empty map'
+pub record Starts (t : List ℕ) : Type 0 where
+  pub intact : Intact t
+  pub map : mapIn t ≡ emptyMap
 
 -- one request: the line and the map are those of the definition, whatever the bytes of a Bench
-pub record Stepped (m : ShardMap) (r : Request) (s : Answered) : Type 0 where
-  pub line : (bs : List ℕ) → viewLine (s .line) ≡ lineOf (r .index) (applyCall (viewMap m) (viewRequest r bs))
-  pub map : (bs : List ℕ) → viewMap (s .map) ≡ applyCall (viewMap m) (viewRequest r bs) .map
-  pub sound : Sound (s .map)
+pub record Stepped (s t : List ℕ) (r : Request) (l : Line) : Type 0 where
+  pub line : (bs : List ℕ) → viewLine l ≡ lineOf (r .index) (applyCall (mapIn s) (viewRequest r bs))
+  pub map : (bs : List ℕ) → mapIn t ≡ applyCall (mapIn s) (viewRequest r bs) .map
+  pub intact : Intact t
 
 abbrev pub viewSaid : Said → List calls.Line
 viewSaid t = map viewLine (take (t .count) (t .items))
 
 -- the bytes at hand: the lines of the requests that stand there, the map after them, and the place after the last
-pub record DrainedAs (m : ShardMap) (s : List ℕ) (d : Drained) : Type 0 where
-  pub sound : Sound (d .map)
+pub record DrainedAs (s t bytes : List ℕ) (d : Drained) : Type 0 where
+  pub intact : Intact t
   pub count : d .said .count ≤ 328
-  pub lines : viewSaid (d .said) ≡ linesFor (viewMap m) (requestsIn s)
-  pub map : viewMap (d .map) ≡ mapAfter (viewMap m) (requestsIn s)
-  pub place : d .at ≡ endIn s
-  pub inside : d .at ≤ length s
+  pub lines : viewSaid (d .said) ≡ linesFor (mapIn s) (requestsIn bytes)
+  pub map : mapIn t ≡ mapAfter (mapIn s) (requestsIn bytes)
+  pub place : d .at ≡ endIn bytes
+  pub inside : d .at ≤ length bytes

@@ -1,21 +1,20 @@
 // The requests that stand in the bytes at hand, one after the other.
 ghost use Prim.Native.Nat.{_≤_};
 ghost use lib.ListN.{length};
-ghost use Rattle.intake.specs.Stream.{Sound, DrainedAs};
+ghost use Rattle.mapintact.specs.Calls.{Intact};
+ghost use Rattle.intake.specs.Stream.{DrainedAs};
 use crate::Drained;
 use crate::Said;
 use crate::step::step;
 use lines::Line;
 use lines::Word;
 use requests::request_at;
-use state::ShardMap;
 
 // Each is applied until none stands there whole. A request has 25 bytes at least, so there is a place for every line.
-pub fn drain(map: ShardMap, s: &[u8]) -> Drained
-    requires { ⌜ (Sound map) × (length (now s) ≤ 8192) ⌝ }
-    ensures { λ r. ⌜ DrainedAs map (now (s .entry)) r ⌝ }
+pub fn drain(map: &mut [u8], s: &[u8]) -> Drained
+    requires { ⌜ (Intact (now map)) × (length (now s) ≤ 8192) ⌝ }
+    ensures { λ r. ⌜ DrainedAs (now (map .entry)) (now (map .exit)) (now (s .entry)) r ⌝ }
 {
-    let mut m = map;
     let mut at: usize = 0;
     let mut items = [Line {
         index: 0,
@@ -31,19 +30,12 @@ pub fn drain(map: ShardMap, s: &[u8]) -> Drained
                 items: items,
                 count: n,
             };
-            return Drained {
-                map: m,
-                at: at,
-                said: said,
-            };
+            return Drained { at: at, said: said };
         }
         let r = read.request;
-        let done = step(m, r);
-        let l = done.line;
+        let l = step(map, r);
         items[n] = l;
         n += 1;
-        let next = done.map;
-        m = next;
         at = read.next;
     }
 }

@@ -1,22 +1,18 @@
 // One request applied to a map that passed the 24 test; what it makes of the map passes again.
 ghost use Rattle.requests.specs.Read.{Within};
-ghost use Rattle.intake.specs.Stream.{Sound, Stepped};
-use crate::Answered;
+ghost use Rattle.mapintact.specs.Calls.{Intact};
+ghost use Rattle.intake.specs.Stream.{Stepped};
+use applycalls::settled::settle;
+use lines::Line;
 use lines::line_of;
-use settle::settle;
+use mapbytes::layout::VERSION;
 use state::Request;
-use state::ShardMap;
 
-pub fn step(map: ShardMap, r: Request) -> Answered
-    requires { ⌜ (Sound map) × (Within r) ⌝ }
-    ensures { λ s. ⌜ Stepped map r s ⌝ }
+pub fn step(map: &mut [u8], r: Request) -> Line
+    requires { ⌜ (Intact (now map)) × (Within r) ⌝ }
+    ensures { λ l. ⌜ Stepped (now (map .entry)) (now (map .exit)) r l ⌝ }
 {
-    let done = settle(map, r);
-    let next = done.map;
-    let verdict = done.verdict;
-    let said = line_of(r.index, verdict, next.version);
-    Answered {
-        map: next,
-        line: said,
-    }
+    let number = settle(map, r);
+    let version = num::get8(map, VERSION);
+    line_of(r.index, number, version)
 }

@@ -1,34 +1,26 @@
--- Paper 01, 'Program applymap': what a line says of an answer. Definitions only.
+-- Paper 01, 'Program applymap': what a line says of an answer, which the code has as its number. Definitions only.
 use Prim.Native.Nat.{ℕ}
 use mathlib.Core.Path.{_≡_}
-use Rattle.model.specs.Keys as keys
-use Rattle.model.specs.Refusals.{reasonOf}
+use Rattle.model.specs.Map.Apply.{Applied}
 use Rattle.model.specs.Map.Calls as calls
-use Rattle.state.specs.View.{answerOf, rejectionOf}
-use Rattle.state.specs.declared.Rejection.{Rejection}
-use Rattle.state.specs.declared.Verdict.{Verdict}
+use Rattle.model.specs.Map.Calls.{reasonNumber, wordOf, lineOf}
+use Rattle.model.specs.Map.Tables as tables
 use Rattle.lines.specs.declared.Word.{Word}
-use Rattle.lines.specs.declared.Word.the-variants.{Applied, Rejected, Refused}
-use Rattle.lines.specs.declared.Said.{Said}
+use Rattle.lines.specs.declared.Word.the-variants as word
 use Rattle.lines.specs.declared.Line.{Line}
 
 abbrev pub wordIn : Word → calls.Word
-wordIn Applied = calls.wasApplied
-wordIn Rejected = calls.wasRejected
-wordIn Refused = calls.wasRefused
+wordIn word.Applied = calls.wasApplied
+wordIn word.Rejected = calls.wasRejected
+wordIn word.Refused = calls.wasRefused
 
--- the number of a rejection, whatever name or key stands beside it
-pub record Reason (r : Rejection) (n : ℕ) : Type 0 where
-  pub is : (k : keys.Key) → n ≡ reasonOf (rejectionOf r k)
-
--- the word and the reason of an answer
-pub record SaidAs (v : Verdict) (s : Said) : Type 0 where
-  pub word : wordIn (s .word) ≡ calls.wordOf (answerOf v)
-  pub reason : s .reason ≡ calls.reasonNumber (answerOf v)
+-- the word of every answer with that number
+pub record WordFor (n : ℕ) (w : Word) : Type 0 where
+  pub is : (a : tables.Answer) → n ≡ reasonNumber a → wordIn w ≡ wordOf a
 
 abbrev pub viewLine : Line → calls.Line
 viewLine l = record { index = l .index; word = wordIn (l .word); reason = l .reason; version = l .version }
 
--- the line of an answer, with the version of the map afterwards
-abbrev pub lineFor : ℕ → Verdict → ℕ → calls.Line
-lineFor index v version = record { index = index; word = calls.wordOf (answerOf v); reason = calls.reasonNumber (answerOf v); version = version }
+-- the line of every answer with that number, and with that version of the map afterwards
+pub record LineFor (index n version : ℕ) (l : Line) : Type 0 where
+  pub is : (a : Applied) → n ≡ reasonNumber (a .answer) → version ≡ a .map .version → viewLine l ≡ lineOf index a

@@ -1,4 +1,4 @@
--- Laws of counting: the rows of an array that pass, one after the other; shard by shard; and the row of an id in a table. Assumes nothing.
+-- Laws of counting: the rows of an array that pass, one after the other; the row of an id in a table; a line for each row. Assumes nothing.
 use mathlib.Core.Path.{_≡_, refl, sym, ap, _∙_}
 use mathlib.Core.Bool.{Bool, true, false, cond, not}
 use mathlib.Core.List.{List, [], _∷_, _++_, map}
@@ -78,17 +78,6 @@ known-as p v xs n at le e = go (ltb at n) refl
     go : (b : Bool) → ltb at n ≡ b → b ≡ any p (map v (take n xs))
     go true q = sym (found-any p (map v (take n xs)) (omega (arith, ltb-true at n q, e, used-size v xs n le)))
     go false q = sym (missed-any p (map v (take n xs)) (omega (arith, ltb-false at n q, e, used-size v xs n le)))
-
--- ---- shard by shard
-
--- the next of those that are left to count
-pub next-counted {ℓ} : {A : Type ℓ} (f : A → ℕ) (g : List A → ℕ) → ((x : A) (xs : List A) → g (x ∷ xs) ≡ f x + g xs) → (l : List A) (i t m : ℕ) (x : A)
-    → drop i l ≡ x ∷ drop (i + 1) l → t ≡ m + g (drop i l) → t ≡ (m + f x) + g (drop (i + 1) l)
-next-counted f g more l i t m x e inv = omega (arith, inv, ap g e, more x (drop (i + 1) l))
-
--- none is left
-pub all-counted {ℓ} : {A : Type ℓ} (g : List A → ℕ) → g [] ≡ 0 → (l : List A) (i t m : ℕ) → length l ≤ i → t ≡ m + g (drop i l) → m ≡ t
-all-counted g none l i t m h inv = omega (arith, inv, ap g (drop-of-length-le l {i = i} h), none)
 
 -- ---- a line for each row
 

@@ -3,14 +3,14 @@ use Prim.Native.Nat.{ℕ, _≤_}
 use mathlib.Core.Path.{_≡_}
 use mathlib.Core.Bool.{cond}
 use mathlib.Core.List.{List, map}
-use mathlib.Core.Option.{Option, none, some}
 use lib.ListN.{take}
 use Rattle.sheet.specs.Sheet as sheet
 use Rattle.sheet.specs.Sheet.{sheetOf}
+use Rattle.model.specs.Lists.{_and_}
 use Rattle.model.specs.Refusals as said
 use Rattle.state.specs.View.{viewMap, refusalOf}
-use Rattle.state.specs.declared.ShardMap.{ShardMap}
 use Rattle.mapcheck.specs.Lent.{wellFormedLent}
+use Rattle.mapimage.specs.Image.{mapAt, mapLent}
 use Rattle.loads.specs.declared.Load.{Load}
 use Rattle.loads.specs.declared.Loads.{Loads}
 use Rattle.loads.specs.declared.SheetOf.{SheetOf}
@@ -44,6 +44,6 @@ answerAs (Refused r) s = notMade (refusalOf r)
 abbrev pub answerOf : SheetAnswer → Answer
 answerOf a = answerAs (a .how) (a .sheet)
 
--- 24 of a malformed map; then the sheet
-unfoldable pub sheetLent : ShardMap → Answer
-sheetLent m = cond (wellFormedLent m) (made (sheetOf (viewMap m))) (notMade said.malformed)
+-- 24 of a buffer that lends no map, and of a malformed map; then the sheet
+unfoldable pub sheetLent : List ℕ → Answer
+sheetLent s = cond (mapLent s and wellFormedLent (mapAt s)) (made (sheetOf (viewMap (mapAt s)))) (notMade said.malformed)

@@ -1,65 +1,36 @@
-// Internal: the replica records of one shard.
+// Internal: the replica records of one shard whose node the table lacks.
 ghost use mathlib.Core.Path.{_≡_};
-ghost use Prim.Native.Nat.{_≤_};
-ghost use lib.ListN.{length};
+ghost use Prim.Native.Nat.{_+_, _≤_};
+ghost use lib.ListN.{length, take};
 ghost use Rattle.model.specs.Lists.{any};
 ghost use Rattle.model.specs.Map.Create.{isNode};
-ghost use Rattle.model.specs.Map.Place.{onNode};
 ghost use Rattle.sheet.specs.Sheet.{unknownOn};
-ghost use Rattle.state.specs.View.{viewHolders, viewNodes};
-use model::DataNodeId;
-use state::Holders;
-use state::Nodes;
-use state::node_table::node_at;
+ghost use Rattle.state.specs.View.{viewNodes};
+ghost use Rattle.image.specs.Parts.{replicasAt};
+ghost use Rattle.mapimage.specs.Image.{nodesAt};
+ghost use Rattle.mapbytes.specs.Places.{NodesCount};
+use mapbytes::place::node_place;
 
-// All of them.
-pub fn records_on(h: Holders) -> u64
-    requires { ⌜ h .count ≤ 8 ⌝ }
-    ensures { λ r. ⌜ (r ≡ length (viewHolders h)) × (r ≤ 8) ⌝ }
+// How long a record is.
+const REPLICA: usize = 16;
+
+fn is_known(s: &[u8], nodes: usize, node: u64) -> bool
+    requires { ⌜ NodesCount (now s) nodes ⌝ }
+    ensures { λ r. ⌜ r ≡ any (isNode node) (viewNodes (nodesAt (now (s .entry)))) ⌝ }
 {
-    h.count as u64
+    node_place(s, nodes, node) < nodes
 }
 
-// Those that name the node. One that is listed twice counts twice.
-pub fn on_node(h: Holders, node: DataNodeId) -> u64
-    requires { ⌜ h .count ≤ 8 ⌝ }
-    ensures { λ r. ⌜ (r ≡ onNode (node .0) (viewHolders h)) × (r ≤ 8) ⌝ }
+// Of the records from `at` on: records, not ids.
+pub fn unknown_on(s: &[u8], at: usize, held: usize, nodes: usize) -> u64
+    requires { ⌜ (at + 128 ≤ length (now s)) × (held ≤ 8) × NodesCount (now s) nodes ⌝ }
+    ensures { λ r. ⌜ (r ≡ unknownOn (viewNodes (nodesAt (now (s .entry)))) (take held (replicasAt (now (s .entry)) at))) × (r ≤ 8) ⌝ }
 {
-    let count = h.count;
     let mut n: u64 = 0;
     let mut i: usize = 0;
-    while i < count {
-        let row = h.items[i];
-        if row.node.0 == node.0 {
-            n += 1;
-            i += 1;
-        } else {
-            i += 1;
-        }
-    }
-    n
-}
-
-fn is_known(nodes: Nodes, node: DataNodeId) -> bool
-    requires { ⌜ nodes .count ≤ 32 ⌝ }
-    ensures { λ r. ⌜ r ≡ any (isNode (node .0)) (viewNodes nodes) ⌝ }
-{
-    let at = node_at(nodes, node);
-    at < nodes.count
-}
-
-// Those whose node the table lacks: records, not ids.
-pub fn unknown_on(h: Holders, nodes: Nodes) -> u64
-    requires { ⌜ (h .count ≤ 8) × (nodes .count ≤ 32) ⌝ }
-    ensures { λ r. ⌜ (r ≡ unknownOn (viewNodes nodes) (viewHolders h)) × (r ≤ 8) ⌝ }
-{
-    let count = h.count;
-    let mut n: u64 = 0;
-    let mut i: usize = 0;
-    while i < count {
-        let row = h.items[i];
-        let id = row.node;
-        if is_known(nodes, id) {
+    while i < held {
+        let node = num::get8(s, at + REPLICA * i);
+        if is_known(s, nodes, node) {
             i += 1;
         } else {
             n += 1;

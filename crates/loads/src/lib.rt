@@ -1,18 +1,22 @@
 // The load sheet (paper 02, 2.4): how many replica records name each node of a map, how many name a node that the map does not know, and how many
-// there are. What an answer says stands in specs/Answers.antt.
+// there are, counted in the bytes of the map's image. What an answer says stands in specs/Answers.antt.
 ghost use mathlib.Core.Path.{_≡_};
+ghost use Rattle.model.specs.Refusals.{malformed};
 ghost use Rattle.sheet.specs.Sheet.{sheetOf};
-ghost use Rattle.state.specs.Counted.{TablesCounted};
 ghost use Rattle.state.specs.View.{viewMap};
-ghost use Rattle.loads.specs.Answers.{SheetAs, answerOf, sheetLent};
+ghost use Rattle.mapimage.specs.Image.{mapAt};
+ghost use Rattle.placebytes.specs.Loads.{Used};
+ghost use Rattle.loads.specs.Answers.{SheetAs, answerOf, notMade, sheetLent};
 use crate::lines::lines;
 use crate::lines::no_lines;
 use crate::shards::records_in;
 use crate::shards::unknown_in;
-use mapcheck::well_formed;
+use mapbytes::formed::is_formed;
+use mapbytes::layout::NODES_USED;
+use mapbytes::layout::SHARDS_USED;
+use mapbytes::lent::is_lent;
 use model::DataNodeId;
 use state::Refusal;
-use state::ShardMap;
 
 mod holders;
 mod lines;
@@ -49,13 +53,15 @@ pub struct SheetAnswer {
 }
 
 // Internal: of a map that passed the 24 test.
-pub fn sheet_of(m: ShardMap) -> SheetOf
-    requires { ⌜ TablesCounted m ⌝ }
-    ensures { λ r. ⌜ SheetAs (sheetOf (viewMap m)) r ⌝ }
+pub fn sheet_of(map: &[u8]) -> SheetOf
+    requires { ⌜ Used (now map) ⌝ }
+    ensures { λ r. ⌜ SheetAs (sheetOf (viewMap (mapAt (now (map .entry))))) r ⌝ }
 {
-    let lines = lines(m.nodes, m.shards);
-    let unknown = unknown_in(m.shards, m.nodes);
-    let total = records_in(m.shards);
+    let nodes = num::get8(map, NODES_USED) as usize;
+    let shards = num::get8(map, SHARDS_USED) as usize;
+    let lines = lines(map, nodes, shards);
+    let unknown = unknown_in(map, nodes, shards);
+    let total = records_in(map, shards);
     SheetOf {
         lines: lines,
         unknown: unknown,
@@ -63,22 +69,32 @@ pub fn sheet_of(m: ShardMap) -> SheetOf
     }
 }
 
-pub fn sheet(m: ShardMap) -> SheetAnswer
-    ensures { λ r. ⌜ answerOf r ≡ sheetLent m ⌝ }
+fn refused() -> SheetAnswer
+    ensures { λ r. ⌜ answerOf r ≡ notMade malformed ⌝ }
 {
-    if !well_formed(m) {
-        let none = no_lines();
-        let empty = SheetOf {
-            lines: none,
-            unknown: 0,
-            total: 0,
-        };
-        return SheetAnswer {
-            how: Sheeting::Refused(Refusal::Malformed),
-            sheet: empty,
-        };
+    let none = no_lines();
+    let empty = SheetOf {
+        lines: none,
+        unknown: 0,
+        total: 0,
+    };
+    SheetAnswer {
+        how: Sheeting::Refused(Refusal::Malformed),
+        sheet: empty,
     }
-    let made = sheet_of(m);
+}
+
+// 24 for a buffer that lends no map, and for a malformed map.
+pub fn sheet(map: &[u8]) -> SheetAnswer
+    ensures { λ r. ⌜ answerOf r ≡ sheetLent (now (map .entry)) ⌝ }
+{
+    if !is_lent(map) {
+        return refused();
+    }
+    if !is_formed(map) {
+        return refused();
+    }
+    let made = sheet_of(map);
     SheetAnswer {
         how: Sheeting::Made,
         sheet: made,

@@ -2,16 +2,19 @@
 ghost use mathlib.Core.Path.{_≡_};
 ghost use mathlib.Core.List.{map};
 ghost use Prim.Native.Nat.{_≤_};
+ghost use Rattle.model.specs.Layout.Format.{numberAt};
 ghost use Rattle.sheet.specs.Sheet.{loadedOf};
 ghost use Rattle.state.specs.Counted.{ShardsCounted};
 ghost use Rattle.state.specs.View.{viewNodes, viewShards};
+ghost use Rattle.mapimage.specs.Image.{nodesAt, shardsAt};
+ghost use Rattle.mapbytes.specs.Places.{NodesCount};
 ghost use Rattle.loads.specs.Answers.{viewLoads};
 use crate::Load;
 use crate::Loads;
-use crate::shards::records_of;
+use mapbytes::layout::NODE;
+use mapbytes::layout::NODES;
 use model::DataNodeId;
-use state::Nodes;
-use state::Shards;
+use placebytes::replicas::replicas_of;
 
 pub fn no_lines() -> Loads
     ensures { λ r. ⌜ r .count ≡ 0 ⌝ }
@@ -25,25 +28,26 @@ pub fn no_lines() -> Loads
     }
 }
 
-pub fn lines(nodes: Nodes, shards: Shards) -> Loads
-    requires { ⌜ (nodes .count ≤ 32) × ShardsCounted shards ⌝ }
-    ensures { λ r. ⌜ (viewLoads r ≡ map (loadedOf (viewShards shards)) (viewNodes nodes)) × (r .count ≤ 32) ⌝ }
+pub fn lines(s: &[u8], nodes: usize, shards: usize) -> Loads
+    requires { ⌜ (NodesCount (now s) nodes) × (numberAt 8 (now s) 24 ≡ shards) × ShardsCounted (shardsAt (now s)) ⌝ }
+    ensures { λ r. ⌜ (viewLoads r ≡ map (loadedOf (viewShards (shardsAt (now (s .entry))))) (viewNodes (nodesAt (now (s .entry))))) × (r .count ≤ 32) ⌝ }
 {
-    let count = nodes.count;
     let mut items = [Load {
         node: DataNodeId(0),
         count: 0,
     }; 32];
     let mut i: usize = 0;
-    while i < count {
-        let row = nodes.items[i];
-        let id = row.node;
-        let n = records_of(shards, id);
-        items[i] = Load { node: id, count: n };
+    while i < nodes {
+        let id = num::get8(s, NODES + NODE * i);
+        let n = replicas_of(s, shards, id);
+        items[i] = Load {
+            node: DataNodeId(id),
+            count: n,
+        };
         i += 1;
     }
     Loads {
         items: items,
-        count: count,
+        count: nodes,
     }
 }

@@ -2,44 +2,41 @@
 // node, by rising id, how many name a node that the map does not know, and how many there are.
 ghost use Prim.Native.Nat.{_≤_};
 ghost use lib.ListN.{length};
-ghost use Rattle.intake.specs.Stream.{Sound};
+ghost use Rattle.mapintact.specs.Calls.{Intact};
 use intake::LONGEST;
 use intake::drain::drain;
 use intake::input::refill;
+use intake::start::start;
 use lines::words::line;
 use lines::words::number;
 use loads::Load;
 use loads::Loads;
 use loads::SheetOf;
 use loads::sheet_of;
-use requests::start::empty_map;
-use state::ShardMap;
 
-// The map after the last request. Nothing says that an input ends, so the turns are counted down, from a number that no run uses up.
-fn last_map(buf: &mut [u8]) -> ShardMap
-    requires { ⌜ length (now buf) ≤ 8192 ⌝ }
-    ensures { λ r. ⌜ Sound r ⌝ }
+// The image becomes that of the map after the last request. Nothing says that an input ends, so the turns are counted down, from a number that no run
+// uses up.
+fn last_map(map: &mut [u8], buf: &mut [u8])
+    requires { ⌜ (26536 ≤ length (now map)) × (length (now buf) ≤ 8192) ⌝ }
+    ensures { λ _. ⌜ Intact (now (map .exit)) ⌝ }
 {
-    let mut map = empty_map();
+    start(map);
     let mut n: usize = 0;
     let mut turns = u64::MAX;
     while 0 < turns {
         let done = drain(map, &buf[..n]);
-        let next = done.map;
-        map = next;
         let at = done.at;
         let rest = n - at;
         if LONGEST <= rest {
-            return map;
+            return;
         }
         let more = refill(buf, at, n);
         if more <= rest {
-            return map;
+            return;
         }
         n = more;
         turns -= 1;
     }
-    map
 }
 
 // The id, a blank and the count.
@@ -70,8 +67,9 @@ fn print_sheet(s: SheetOf)
 }
 
 fn main() {
+    let mut map = [0u8; 26536];
     let mut buf = [0u8; 8192];
-    let m = last_map(&mut buf);
-    let s = sheet_of(m);
+    last_map(&mut map, &mut buf);
+    let s = sheet_of(&map);
     print_sheet(s);
 }

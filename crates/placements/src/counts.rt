@@ -4,8 +4,8 @@ use lines::parts::first;
 use lines::words::line;
 use lines::words::number;
 use lines::words::word;
-use mapcheck::well_formed;
-use mapimage::read_map;
+use mapbytes::formed::is_formed;
+use mapbytes::lent::is_lent;
 use model::Metric;
 use rpcw::fit::text_fits;
 use state::Spec;
@@ -36,12 +36,14 @@ fn walked(map: &[u8], name: &[u8], spec: Spec, ids: &[u8], each: u64, total: u64
     if !text_fits(name, 32) {
         return;
     }
-    let lent = read_map(map);
-    if !well_formed(lent.map) {
+    if !is_lent(map) {
+        return;
+    }
+    if !is_formed(map) {
         return;
     }
     let key = key_named(name, 0);
-    let w = walk(lent.map, key.collection, spec, ids, each, total);
+    let w = walk(map, key.collection, spec, ids, each, total);
     word(b"walked");
     number(w.accepted);
     number(w.two);

@@ -2,16 +2,18 @@
 // starts from an empty map; its requests are applied as program `applymap` applies them (paper 01), with a line for each,
 // behind that of a rejected one its text (paper 02, 2.1), and then the whole map is printed, which tells more than its
 // version. stdin is oracle/stored/streams/all.in, stdout all.out: what the oracle printed of the Rust's map, in the Rust's
-// own words. The map is crate settle's, the texts are crate wording's; this program shows them.
-ghost use Rattle.state.specs.Counted.{TablesCounted};
+// own words. The map is a byte image, and the call crate wordcalls'; this program shows the rows.
+ghost use Prim.Native.Nat.{_≤_};
+ghost use lib.ListN.{length};
+ghost use Rattle.mapput.specs.Few.{Few};
 use drain::drain;
+use intake::start::start;
 use lines::words::number;
+use mapbytes::layout::VERSION;
 use nodes::collections;
 use nodes::nodes;
-use requests::start::empty_map;
 use sessions::sessions;
 use shards::shards;
-use state::ShardMap;
 
 mod drain;
 mod nodes;
@@ -21,26 +23,31 @@ mod shards;
 mod words;
 
 // Each table by rising key, as it stands in the map.
-fn show(m: ShardMap)
-    requires { ⌜ TablesCounted m ⌝ }
+fn show(map: &[u8])
+    requires { ⌜ Few (now map) ⌝ }
 {
     io::write_all(1, b"version");
-    number(m.version);
+    number(num::get8(map, VERSION));
     io::write_all(1, b"\n");
-    let a = m.nodes;
-    nodes(a);
-    let b = m.collections;
-    collections(b);
-    let c = m.shards;
-    shards(c);
-    let d = m.sessions;
-    sessions(d);
+    nodes(map);
+    collections(map);
+    shards(map);
+    sessions(map);
     io::write_all(1, b"end\n");
 }
 
+// The requests of a stream on an empty map, and that map.
+fn replay(map: &mut [u8], s: &[u8])
+    requires { ⌜ 26536 ≤ length (now map) ⌝ }
+{
+    start(map);
+    drain(map, s);
+    show(map);
+}
+
 fn stream(s: &[u8]) {
-    let m = drain(empty_map(), s);
-    show(m);
+    let mut map = [0u8; 26536];
+    replay(&mut map, s);
 }
 
 // The length that the first four bytes spell.

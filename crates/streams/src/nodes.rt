@@ -1,14 +1,21 @@
-// The nodes and the collections of a map, a line for each.
+// The nodes and the collections of a map, a line for each row of its image.
 ghost use Prim.Native.Nat.{_≤_};
+ghost use Rattle.mapput.specs.Few.{Few};
 use crate::words::byte;
 use crate::words::name;
 use lines::words::number;
+use mapbytes::layout::COLLECTION;
+use mapbytes::layout::COLLECTIONS;
+use mapbytes::layout::COLLECTIONS_USED;
+use mapbytes::layout::NODE;
+use mapbytes::layout::NODES;
+use mapbytes::layout::NODES_USED;
+use maprows::collections::collection_at;
+use maprows::nodes::node_at;
 use model::Metric;
 use state::Address;
 use state::CollectionRow;
-use state::Collections;
 use state::NodeRow;
-use state::Nodes;
 
 fn address_bytes(a: Address, n: usize)
     requires { ⌜ n ≤ 64 ⌝ }
@@ -53,13 +60,13 @@ fn node(row: NodeRow) {
     io::write_all(1, b"\n");
 }
 
-pub fn nodes(t: Nodes)
-    requires { ⌜ t .count ≤ 32 ⌝ }
+pub fn nodes(map: &[u8])
+    requires { ⌜ Few (now map) ⌝ }
 {
-    let count = t.count;
+    let count = num::get8(map, NODES_USED) as usize;
     let mut i: usize = 0;
     while i < count {
-        let row = t.items[i];
+        let row = node_at(map, NODES + NODE * i);
         node(row);
         i += 1;
     }
@@ -85,13 +92,13 @@ fn collection(row: CollectionRow) {
     io::write_all(1, b"\n");
 }
 
-pub fn collections(t: Collections)
-    requires { ⌜ t .count ≤ 16 ⌝ }
+pub fn collections(map: &[u8])
+    requires { ⌜ Few (now map) ⌝ }
 {
-    let count = t.count;
+    let count = num::get8(map, COLLECTIONS_USED) as usize;
     let mut i: usize = 0;
     while i < count {
-        let row = t.items[i];
+        let row = collection_at(map, COLLECTIONS + COLLECTION * i);
         collection(row);
         i += 1;
     }

@@ -1,23 +1,31 @@
-// The line of a request, behind that of a rejected one its text (paper 02, 2.1), as crate wording writes it.
-use lines::Line;
+// A request applied with its text (paper 02, 2.1), and its line.
+ghost use Rattle.mapintact.specs.Calls.{Intact};
+use lines::line_of;
 use lines::parts::first;
 use lines::print::put;
-use state::Verdict;
-use wording::text_of;
+use mapbytes::layout::VERSION;
+use wordcalls::apply_words;
 
-fn says(v: Verdict) {
-    let t = text_of(v);
-    let n = t.len;
+// Behind the line of a rejected one its text; any other has none.
+fn told(text: &[u8; 108], answer: &[u8; 8]) {
+    let n = num::get8(answer, 0) as usize;
     if n == 0 {
         return;
     }
-    let bytes = t.bytes;
     io::write_all(1, b" ");
-    io::write_all(1, first(&bytes, n));
+    io::write_all(1, first(text, n));
 }
 
-pub fn print(l: Line, v: Verdict) {
-    put(l);
-    says(v);
+// No text is longer than 108 bytes.
+pub fn says(map: &mut [u8], index: u64, request: &[u8])
+    requires { ⌜ Intact (now map) ⌝ }
+    ensures { λ _. ⌜ Intact (now (map .exit)) ⌝ }
+{
+    let mut text = [0u8; 108];
+    let mut answer = [0u8; 8];
+    let number = apply_words(map, request, &mut text, &mut answer);
+    let version = num::get8(map, VERSION);
+    put(line_of(index, number, version));
+    told(&text, &answer);
     io::write_all(1, b"\n");
 }

@@ -1,15 +1,18 @@
 // The sessions of a map, a line for each: what is remembered of a client, with the operands of a rejection.
-ghost use Prim.Native.Nat.{_≤_};
+ghost use Rattle.mapput.specs.Few.{Few};
 use crate::words::key;
 use crate::words::name;
-use lines::reason;
+use image::codes::outcome_coded;
 use lines::words::number;
+use mapbytes::layout::SESSION;
+use mapbytes::layout::SESSIONS;
+use mapbytes::layout::SESSIONS_USED;
+use maprows::sessions::session_at;
 use model::DataNodeId;
 use model::Epoch;
 use state::Outcome;
 use state::Rejection;
 use state::SessionRow;
-use state::Sessions;
 use state::ShardKey;
 
 fn collection_of(k: ShardKey) {
@@ -55,7 +58,7 @@ fn outcome(o: Outcome, k: ShardKey) {
             io::write_all(1, b" applied");
         }
         Outcome::Rejected(r) => {
-            number(reason(r));
+            number(outcome_coded(o).code as u64);
             operands(r, k);
         }
     }
@@ -71,13 +74,13 @@ fn session(row: SessionRow) {
     io::write_all(1, b"\n");
 }
 
-pub fn sessions(t: Sessions)
-    requires { ⌜ t .count ≤ 64 ⌝ }
+pub fn sessions(map: &[u8])
+    requires { ⌜ Few (now map) ⌝ }
 {
-    let count = t.count;
+    let count = num::get8(map, SESSIONS_USED) as usize;
     let mut i: usize = 0;
     while i < count {
-        let row = t.items[i];
+        let row = session_at(map, SESSIONS + SESSION * i);
         session(row);
         i += 1;
     }

@@ -1,12 +1,15 @@
 // The shards of a map, a line for each: the replicas in their order, the in-sync set by rising id.
-ghost use Prim.Native.Nat.{_≤_};
+ghost use Rattle.mapput.specs.Few.{Few};
 use crate::words::key;
 use lines::words::number;
+use mapbytes::layout::SHARD;
+use mapbytes::layout::SHARDS;
+use mapbytes::layout::SHARDS_USED;
+use maprows::shards::shard_at;
 use state::Holders;
 use state::InSync;
 use state::Primary;
 use state::ShardRow;
-use state::Shards;
 
 fn primary(p: Primary) {
     match p {
@@ -61,13 +64,13 @@ fn shard(row: ShardRow) {
     io::write_all(1, b"\n");
 }
 
-pub fn shards(t: Shards)
-    requires { ⌜ t .count ≤ 64 ⌝ }
+pub fn shards(map: &[u8])
+    requires { ⌜ Few (now map) ⌝ }
 {
-    let count = t.count;
+    let count = num::get8(map, SHARDS_USED) as usize;
     let mut i: usize = 0;
     while i < count {
-        let row = t.items[i];
+        let row = shard_at(map, SHARDS + SHARD * i);
         shard(row);
         i += 1;
     }

@@ -1,14 +1,13 @@
 // All placements one after the other, each asked of Create. A list is a number in digits 1 to as many as there are ids, a placement one in digits 1
 // to as many as there are lists: so each is met once, the shortest first.
 ghost use Prim.Native.Nat.{_≤_};
-ghost use Rattle.state.specs.Counted.{TablesCounted};
-use creating::create_answer;
-use lines::said_of;
+ghost use Rattle.mapintact.specs.Calls.{Intact};
+use mapcalls::numbers::verdict_number;
+use mapcreates::answer::create_answer;
 use model::DataNodeId;
 use state::Name;
 use state::NodeList;
 use state::Placement;
-use state::ShardMap;
 use state::Spec;
 
 // How many ended how.
@@ -102,11 +101,11 @@ fn placement_at(ids: &[u8], each: u64, n: u64) -> Placement
     }
 }
 
-fn one_if(said: u64, n: u64) -> u64 {
+fn one_if(said: u32, n: u32) -> u64 {
     if said == n { 1 } else { 0 }
 }
 
-fn with(w: Ended, said: u64) -> Ended {
+fn with(w: Ended, said: u32) -> Ended {
     Ended {
         accepted: std::num::wrapping_add_u64(w.accepted, one_if(said, 0)),
         two: std::num::wrapping_add_u64(w.two, one_if(said, 2)),
@@ -117,8 +116,8 @@ fn with(w: Ended, said: u64) -> Ended {
     }
 }
 
-pub fn walk(m: ShardMap, name: Name, spec: Spec, ids: &[u8], each: u64, total: u64) -> Ended
-    requires { ⌜ TablesCounted m ⌝ }
+pub fn walk(map: &[u8], name: Name, spec: Spec, ids: &[u8], each: u64, total: u64) -> Ended
+    requires { ⌜ Intact (now map) ⌝ }
 {
     let mut w = Ended {
         accepted: 0,
@@ -131,9 +130,8 @@ pub fn walk(m: ShardMap, name: Name, spec: Spec, ids: &[u8], each: u64, total: u
     let mut i: u64 = 0;
     while i < total {
         let p = placement_at(ids, each, i);
-        let v = create_answer(m, name, spec, p);
-        let said = said_of(v);
-        let more = with(w, said.reason);
+        let v = create_answer(map, name, spec, p);
+        let more = with(w, verdict_number(v));
         w = more;
         i += 1;
     }

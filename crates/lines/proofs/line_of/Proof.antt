@@ -1,13 +1,14 @@
--- The word and the reason are those that are said of the answer. Assumes nothing.
+-- The word is that of the number, which is the reason. Assumes nothing.
 use borrow.Author.Needs.{needs}
+use Rattle.lines.proofs.OfNumbers.{line-for}
 use Rattle.lines.proofs.line_of.Statement.{statement}
 use Rattle.lines.proofs.line_of.Tie as tie
 
-said-of-requires : tie.Need-said-of-requires
-said-of-requires c κs = search needs
+word-of-requires : tie.Need-word-of-requires
+word-of-requires c κs = search needs
 
 returns : tie.Need-returns
-returns c = rw (c .said-of .ensures .word, c .said-of .ensures .reason)
+returns c = line-for _ _ _ _ (c .word-of .ensures)
 
 pub line-of-spec : {M : Type 1} → statement M
-line-of-spec = tie.close (tie.spec said-of-requires returns)
+line-of-spec = tie.close (tie.spec word-of-requires returns)

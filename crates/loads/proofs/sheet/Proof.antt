@@ -6,27 +6,35 @@ use mathlib.Core.List.{List, [], _∷_, _++_}
 use Prim.Native.Nat.{ℕ, _+_, _-_, _*_, _≤_, _<_}
 use lib.ListN.{length, getD, take, drop, set}
 use borrow.Author.Tests.{not-true, not-false}
-use Rattle.mapcheck.proofs.Formed.{lent-tables}
-use Rattle.loads.specs.Answers.{Answer, made, sheetLent}
+use Rattle.placebytes.proofs.OfRows.{lent-long, used-of}
+use Rattle.loads.specs.Answers.{made}
+use Rattle.loads.proofs.OfSheet.{not-lent, not-formed, sheeted}
 use Rattle.loads.proofs.sheet.Statement.{statement}
 use Rattle.loads.proofs.sheet.Tie as tie
 
-well-formed-requires : tie.Need-well-formed-requires
-well-formed-requires c κs = search needs
+is-lent-requires : tie.Need-is-lent-requires
+is-lent-requires c κs = search needs
 
-no-lines-requires : tie.Need-no-lines-requires
-no-lines-requires c κs = search needs
+refused-requires : tie.Need-refused-requires
+refused-requires c κs = search needs
 
 returns : tie.Need-returns
-unfolding sheetLent
-returns c = let e = sym ((c .before .before .well-formed) .ensures) ∙ not-true _ ((c .before .if1) .taken) in rw e
+returns c = (c .refused) .ensures ∙ not-lent ((c .before .before .before .before .args) .map .now) (sym ((c .before .before .is-lent) .ensures) ∙ not-true _ ((c .before .if1) .taken))
 
-sheet-of-requires : tie.Need-sheet-of-requires
-sheet-of-requires c κs = lent-tables ((c .before .before .args) .m) (sym ((c .before .well-formed) .ensures) ∙ not-false _ ((c .if1) .left))
+is-formed-requires : tie.Need-is-formed-requires
+is-formed-requires c κs = lent-long ((c .before .before .before .args) .map .now) (sym ((c .before .is-lent) .ensures) ∙ not-false _ ((c .if1) .left))
+
+refused-requires-2 : tie.Need-refused-requires-2
+refused-requires-2 c κs = search needs
 
 returns-2 : tie.Need-returns-2
-unfolding sheetLent
-returns-2 c = let e = sym ((c .before .before .well-formed) .ensures) ∙ not-false _ ((c .before .if1) .left) in rw e (ap made ((c .sheet-of) .ensures .same))
+returns-2 c = (c .refused2) .ensures ∙ not-formed ((c .before .before .before .before .before .before .args) .map .now) (sym ((c .before .before .before .before .is-lent) .ensures) ∙ not-false _ ((c .before .before .before .if1) .left)) (sym ((c .before .before .is-formed) .ensures) ∙ not-true _ ((c .before .if2) .taken))
+
+sheet-of-requires : tie.Need-sheet-of-requires
+sheet-of-requires c κs = used-of ((c .before .before .before .before .before .args) .map .now) (sym ((c .before .before .before .is-lent) .ensures) ∙ not-false _ ((c .before .before .if1) .left)) (sym ((c .before .is-formed) .ensures) ∙ not-false _ ((c .if2) .left))
+
+returns-3 : tie.Need-returns-3
+returns-3 c = ap made ((c .sheet-of) .ensures .same) ∙ sheeted ((c .before .before .before .before .before .before .args) .map .now) (sym ((c .before .before .before .before .is-lent) .ensures) ∙ not-false _ ((c .before .before .before .if1) .left)) (sym ((c .before .before .is-formed) .ensures) ∙ not-false _ ((c .before .if2) .left))
 
 pub sheet-spec : {M : Type 1} → statement M
-sheet-spec = tie.close (tie.spec well-formed-requires no-lines-requires returns sheet-of-requires returns-2)
+sheet-spec = tie.close (tie.spec is-lent-requires refused-requires returns is-formed-requires refused-requires-2 returns-2 sheet-of-requires returns-3)

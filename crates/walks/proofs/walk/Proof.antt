@@ -5,14 +5,16 @@ use mathlib.Core.Path.{_≡_, refl, sym, _∙_, ap}
 use mathlib.Core.List.{List, [], _∷_, _++_}
 use Prim.Native.Nat.{ℕ, _+_, _-_, _*_, _≤_, _<_}
 use lib.ListN.{length, getD, take, drop, set}
+use Rattle.applycalls.proofs.OfCall.{few-of}
+use Rattle.walks.proofs.Rises.{shards-rise}
 use Rattle.walks.proofs.walk.Statement.{statement}
 use Rattle.walks.proofs.walk.Tie as tie
 
 abbrev Inv-loop : tie.InvT-loop
-Inv-loop m name spec ids each total w₀ i₀ w i = Unit {0}
+Inv-loop map name spec ids each total w₀ i₀ w i = Unit {0}
 
 abbrev μ-loop : tie.MeasureT-loop
-μ-loop m name spec ids each total w₀ i₀ w i = total - i
+μ-loop map name spec ids each total w₀ i₀ w i = total - i
 
 loop-holds : tie.Need-loop-holds Inv-loop μ-loop
 loop-holds c = tt
@@ -21,10 +23,13 @@ placement-at-requires : tie.Need-placement-at-requires Inv-loop μ-loop
 placement-at-requires c κs = search needs
 
 create-answer-requires : tie.Need-create-answer-requires Inv-loop μ-loop
-create-answer-requires c κs = ((c .before .before .before .before .pre), (c .placement-at) .ensures)
+create-answer-requires c κs =
+    let i = c .before .before .before .before .before .pre in
+    let few = few-of _ (i .lent) (i .formed) in
+    (few, shards-rise _ i few, (c .placement-at) .ensures)
 
-said-of-requires : tie.Need-said-of-requires Inv-loop μ-loop
-said-of-requires c κs = search needs
+verdict-number-requires : tie.Need-verdict-number-requires Inv-loop μ-loop
+verdict-number-requires c κs = search needs
 
 with-requires : tie.Need-with-requires Inv-loop μ-loop
 with-requires c κs = search needs
@@ -42,4 +47,4 @@ returns : tie.Need-returns Inv-loop μ-loop
 returns c = search needs
 
 pub walk-spec : {M : Type 1} → statement M
-walk-spec = tie.close (tie.spec Inv-loop μ-loop loop-holds placement-at-requires create-answer-requires said-of-requires with-requires add-i loop-less loop-again returns)
+walk-spec = tie.close (tie.spec Inv-loop μ-loop loop-holds placement-at-requires create-answer-requires verdict-number-requires with-requires add-i loop-less loop-again returns)

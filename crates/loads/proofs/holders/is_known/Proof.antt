@@ -5,20 +5,23 @@ use mathlib.Core.Path.{_≡_, refl, sym, _∙_, ap}
 use mathlib.Core.List.{List, [], _∷_, _++_}
 use Prim.Native.Nat.{ℕ, _+_, _-_, _*_, _≤_, _<_}
 use lib.ListN.{length, getD, take, drop, set}
-use mathlib.Core.Bool.{true, false}
-use Rattle.model.specs.Lists.{any, lead}
 use Rattle.model.specs.Map.Create.{isNode}
-use Rattle.state.specs.View.{viewNode, viewNodes}
-use Rattle.state.proofs.Tables.{of-field}
+use Rattle.model.specs.Layout.Format.{numberAt}
+use Rattle.state.specs.View.{viewNode}
+use Rattle.maprows.specs.Rows.{nodeAt}
+use Rattle.mapimage.specs.Image.{noNode, nodesAt}
+use Rattle.mapbytes.proofs.OfRows.{rows-long}
 use Rattle.loads.proofs.Counting.{known-as}
+use lib.Dec.{ltb}
 use Rattle.loads.proofs.holders.is_known.Statement.{statement}
 use Rattle.loads.proofs.holders.is_known.Tie as tie
 
-node-at-requires : tie.Need-node-at-requires
-node-at-requires c κs = search needs
+node-place-requires : tie.Need-node-place-requires
+node-place-requires c κs = search needs
 
 returns : tie.Need-returns
-returns c = let h : length ((c .before .before .args) .nodes .items) ≡ 32 = search (needs, of-field) in known-as (isNode ((c .before .before .args) .node .0)) viewNode ((c .before .before .args) .nodes .items) ((c .before .before .args) .nodes .count) ((c .before .node-at) .result) (omega (arith, (c .before .before .pre))) ((c .before .node-at) .ensures)
+returns c = let s = (c .before .before .args) .s .now in let k = (c .before .before .pre) .1 in let e = (c .before .before .pre) .2 in let l = rows-long 32 96 40 (nodeAt s) noNode (numberAt 8 s 8) (omega arith) in
+    ap (λ (j : ℕ). ltb ((c .node-place) .result) j) (sym e) ∙ known-as (isNode ((c .before .before .args) .node)) viewNode (nodesAt s .items) (numberAt 8 s 8) ((c .node-place) .result) (omega arith) ((c .node-place) .ensures)
 
 pub is-known-spec : {M : Type 1} → statement M
-is-known-spec = tie.close (tie.spec node-at-requires returns)
+is-known-spec = tie.close (tie.spec node-place-requires returns)

@@ -5,48 +5,38 @@ use mathlib.Core.Path.{_≡_, refl, sym, _∙_, ap}
 use mathlib.Core.List.{List, [], _∷_, _++_}
 use Prim.Native.Nat.{ℕ, _+_, _-_, _*_, _≤_, _<_}
 use lib.ListN.{length, getD, take, drop, set}
-use borrow.Author.Tests.{leb-true}
-use Rattle.model.specs.Lists.{_and_}
-use Rattle.model.specs.Map.Tables.{ShardInfo}
+use Rattle.model.specs.Layout.Format.{numberAt}
+use Rattle.model.specs.declared.Replica.{Replica}
 use Rattle.sheet.specs.Sheet.{recordsIn}
-use Rattle.model.proofs.Lists.{and-left}
-use Rattle.state.specs.View.{viewShard, viewShards, viewNodes}
-use Rattle.state.specs.Counted.{rowCounted}
-use Rattle.state.proofs.Defaults.{noShard}
-use Rattle.state.proofs.Tables.{of-field, used-size, every-at}
-use Rattle.placement.proofs.Collecting.{used-drop}
-use Rattle.loads.proofs.Counting.{next-counted, all-counted}
+use Rattle.state.specs.View.{viewShards}
+use Rattle.mapimage.specs.Image.{shardsAt}
+use Rattle.loads.proofs.OfShards.{shard-more, shards-all, held-long}
 use Rattle.loads.proofs.shards.records_in.Statement.{statement}
 use Rattle.loads.proofs.shards.records_in.Tie as tie
 
 abbrev Inv-loop : tie.InvT-loop
-Inv-loop t count n₀ i₀ n i = (i ≤ t .count) × (n ≤ 8 * i) × (recordsIn (viewShards t) ≡ n + recordsIn (drop i (viewShards t)))
+Inv-loop s shards n₀ i₀ n i = (i ≤ shards) × (n ≤ 8 * i) × (recordsIn (viewShards (shardsAt s)) ≡ n + recordsIn (drop i (viewShards (shardsAt s))))
 
 abbrev μ-loop : tie.MeasureT-loop
-μ-loop t count n₀ i₀ n i = t .count - i
-
--- the rows in use are in the array
-fits : (c : tie.Start Inv-loop μ-loop) → c .args .t1 .count ≤ length (c .args .t1 .items)
-fits c = let h : length (c .args .t1 .items) ≡ 64 = search (needs, of-field) in omega (arith, c .pre .count)
-
--- and none has more than eight holders
-held : (c : tie.Start Inv-loop μ-loop) (i : ℕ) → i < c .args .t1 .count → getD (c .args .t1 .items) i noShard .replicas .count ≤ 8
-held c i h = leb-true _ 8 (and-left _ _ (every-at rowCounted (c .args .t1 .items) (c .args .t1 .count) i noShard (fits c) (c .pre .rows) h))
+μ-loop s shards n₀ i₀ n i = shards - i
 
 loop-holds : tie.Need-loop-holds Inv-loop μ-loop
-loop-holds c = (search needs, search needs, omega arith)
+loop-holds c = (omega arith, omega arith, omega arith)
 
-mul-row : tie.Need-mul-row Inv-loop μ-loop
-mul-row c = search needs
+mul-get8 : tie.Need-mul-get8 Inv-loop μ-loop
+mul-get8 c = search needs
 
-element-copy-out-row : tie.Need-element-copy-out-row Inv-loop μ-loop
-element-copy-out-row c = search needs
+add-get8 : tie.Need-add-get8 Inv-loop μ-loop
+add-get8 c = search needs
 
-records-on-requires : tie.Need-records-on-requires Inv-loop μ-loop
-records-on-requires c κs = held (c .before .before .before) ((c .before .before .loop) .i) (search needs)
+add-get8-2 : tie.Need-add-get8-2 Inv-loop μ-loop
+add-get8-2 c = search needs
+
+get8-requires : tie.Need-get8-requires Inv-loop μ-loop
+get8-requires c κs = search needs
 
 add-n : tie.Need-add-n Inv-loop μ-loop
-add-n c = omega (arith, (c .before .before .before .loop) .inv .1, (c .before .before .before .before .pre) .count, (c .records-on) .ensures .1)
+add-n c = let p = (c .before .before .before .before .pre) .2 .count in let k = (c .before .before .before .before .pre) .1 in let lt = (c .before .loop-test) .taken in let h = held-long ((c .before .before .before .before .args) .s .now) ((c .before .before .before .before .pre) .2) ((c .before .before .loop) .i) ((c .get8) .result) (omega arith) ((c .get8) .ensures) .1 in omega arith
 
 add-i : tie.Need-add-i Inv-loop μ-loop
 add-i c = search needs
@@ -56,11 +46,13 @@ loop-less c = search needs
 
 loop-again : tie.Need-loop-again Inv-loop μ-loop
 unfolding recordsIn
-loop-again c = (search needs, omega (arith, (c .before .before .before .loop) .inv .1, (c .records-on) .ensures .1), omega (arith, next-counted (λ (s : ShardInfo). length (s .replicas)) (recordsIn) (λ x xs. refl) (viewShards ((c .before .before .before .before .args) .t1)) ((c .before .before .before .loop) .i) _ ((c .before .before .before .loop) .n) (viewShard (getD ((c .before .before .before .before .args) .t1 .items) ((c .before .before .before .loop) .i) noShard)) (used-drop viewShard ((c .before .before .before .before .args) .t1 .items) ((c .before .before .before .before .args) .t1 .count) (fits (c .before .before .before .before)) ((c .before .before .before .loop) .i) noShard (search needs)) ((c .before .before .before .loop) .inv .2), (c .records-on) .ensures .0))
+loop-again c = let s = (c .before .before .before .before .args) .s .now in let p = (c .before .before .before .before .pre) .2 .count in let k = (c .before .before .before .before .pre) .1 in let lt = (c .before .loop-test) .taken in let h = held-long s ((c .before .before .before .before .pre) .2) ((c .before .before .loop) .i) ((c .get8) .result) (omega arith) ((c .get8) .ensures) in let m = h .1 in
+    (omega arith, omega arith, shard-more (λ (rs : List Replica). length rs) recordsIn s ((c .before .before .before .before .pre) .2) ((c .before .before .loop) .n) ((c .before .before .loop) .i) ((c .before .before .loop) .inv .2) (λ x xs. refl) ((c .get8) .result) _ (omega arith) ((c .get8) .ensures) (h .0))
 
 returns : tie.Need-returns Inv-loop μ-loop
 unfolding recordsIn
-returns c = all-counted (recordsIn) refl (viewShards ((c .before .before .args) .t1)) ((c .before .loop) .i) _ ((c .before .loop) .n) (omega (arith, used-size viewShard ((c .before .before .args) .t1 .items) ((c .before .before .args) .t1 .count) (fits (c .before .before)))) ((c .before .loop) .inv .2)
+returns c = let s = (c .before .before .before .args) .s .now in let p = (c .before .before .before .pre) .2 .count in let k = (c .before .before .before .pre) .1 in let lt = (c .loop-test) .left in
+    shards-all (λ (rs : List Replica). length rs) recordsIn s ((c .before .before .before .pre) .2) ((c .before .loop) .n) ((c .before .loop) .i) ((c .before .loop) .inv .2) refl (omega arith)
 
 pub records-in-spec : {M : Type 1} → statement M
-records-in-spec = tie.close (tie.spec Inv-loop μ-loop loop-holds mul-row element-copy-out-row records-on-requires add-n add-i loop-less loop-again returns)
+records-in-spec = tie.close (tie.spec Inv-loop μ-loop loop-holds mul-get8 add-get8 add-get8-2 get8-requires add-n add-i loop-less loop-again returns)

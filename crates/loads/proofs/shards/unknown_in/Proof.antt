@@ -5,48 +5,45 @@ use mathlib.Core.Path.{_≡_, refl, sym, _∙_, ap}
 use mathlib.Core.List.{List, [], _∷_, _++_}
 use Prim.Native.Nat.{ℕ, _+_, _-_, _*_, _≤_, _<_}
 use lib.ListN.{length, getD, take, drop, set}
-use borrow.Author.Tests.{leb-true}
-use Rattle.model.specs.Lists.{_and_}
-use Rattle.model.specs.Map.Tables.{ShardInfo}
+use Rattle.model.specs.Layout.Format.{numberAt}
 use Rattle.sheet.specs.Sheet.{unknownOn, unknownIn}
-use Rattle.model.proofs.Lists.{and-left}
-use Rattle.state.specs.View.{viewShard, viewShards, viewNodes}
-use Rattle.state.specs.Counted.{rowCounted}
-use Rattle.state.proofs.Defaults.{noShard}
-use Rattle.state.proofs.Tables.{of-field, used-size, every-at}
-use Rattle.placement.proofs.Collecting.{used-drop}
-use Rattle.loads.proofs.Counting.{next-counted, all-counted}
+use Rattle.state.specs.View.{viewNodes, viewShards}
+use Rattle.mapimage.specs.Image.{nodesAt, shardsAt}
+use Rattle.placebytes.proofs.OfRows.{held-few}
+use Rattle.loads.proofs.OfShards.{shard-more, shards-all}
 use Rattle.loads.proofs.shards.unknown_in.Statement.{statement}
 use Rattle.loads.proofs.shards.unknown_in.Tie as tie
 
 abbrev Inv-loop : tie.InvT-loop
-Inv-loop nodes t count n₀ i₀ n i = (i ≤ t .count) × (n ≤ 8 * i) × (unknownIn (viewNodes nodes) (viewShards t) ≡ n + unknownIn (viewNodes nodes) (drop i (viewShards t)))
+Inv-loop s nodes shards n₀ i₀ n i = (i ≤ shards) × (n ≤ 8 * i) × (unknownIn (viewNodes (nodesAt s)) (viewShards (shardsAt s)) ≡ n + unknownIn (viewNodes (nodesAt s)) (drop i (viewShards (shardsAt s))))
 
 abbrev μ-loop : tie.MeasureT-loop
-μ-loop nodes t count n₀ i₀ n i = t .count - i
-
--- the rows in use are in the array
-fits : (c : tie.Start Inv-loop μ-loop) → c .args .t1 .count ≤ length (c .args .t1 .items)
-fits c = let h : length (c .args .t1 .items) ≡ 64 = search (needs, of-field) in omega (arith, c .pre .0 .count)
-
--- and none has more than eight holders
-held : (c : tie.Start Inv-loop μ-loop) (i : ℕ) → i < c .args .t1 .count → getD (c .args .t1 .items) i noShard .replicas .count ≤ 8
-held c i h = leb-true _ 8 (and-left _ _ (every-at rowCounted (c .args .t1 .items) (c .args .t1 .count) i noShard (fits c) (c .pre .0 .rows) h))
+μ-loop s nodes shards n₀ i₀ n i = shards - i
 
 loop-holds : tie.Need-loop-holds Inv-loop μ-loop
-loop-holds c = (search needs, search needs, omega arith)
+loop-holds c = (omega arith, omega arith, omega arith)
 
-mul-row : tie.Need-mul-row Inv-loop μ-loop
-mul-row c = search needs
+mul-at : tie.Need-mul-at Inv-loop μ-loop
+mul-at c = search needs
 
-element-copy-out-row : tie.Need-element-copy-out-row Inv-loop μ-loop
-element-copy-out-row c = search needs
+add-at : tie.Need-add-at Inv-loop μ-loop
+add-at c = search needs
+
+add-get8 : tie.Need-add-get8 Inv-loop μ-loop
+add-get8 c = search needs
+
+get8-requires : tie.Need-get8-requires Inv-loop μ-loop
+get8-requires c κs = search needs
+
+add-unknown-on : tie.Need-add-unknown-on Inv-loop μ-loop
+add-unknown-on c = search needs
 
 unknown-on-requires : tie.Need-unknown-on-requires Inv-loop μ-loop
-unknown-on-requires c κs = (held (c .before .before .before) ((c .before .before .loop) .i) (search needs), (c .before .before .before .pre) .1)
+unknown-on-requires c κs = let p = (c .before .before .before .before .pre) .2 .count in let k = (c .before .before .before .before .pre) .1 in let lt = (c .before .loop-test) .taken in let l = (c .before .before .before .before .pre) .0 .0 in let e = (c .get8) .ensures in
+    (omega arith, omega (arith, held-few ((c .before .before .before .before .args) .s .now) ((c .before .before .before .before .pre) .2) ((c .before .before .loop) .i) (omega arith)), (c .before .before .before .before .pre) .0)
 
 add-n : tie.Need-add-n Inv-loop μ-loop
-add-n c = omega (arith, (c .before .before .before .loop) .inv .1, (c .before .before .before .before .pre) .0 .count, (c .unknown-on) .ensures .1)
+add-n c = search needs
 
 add-i : tie.Need-add-i Inv-loop μ-loop
 add-i c = search needs
@@ -56,11 +53,13 @@ loop-less c = search needs
 
 loop-again : tie.Need-loop-again Inv-loop μ-loop
 unfolding unknownIn
-loop-again c = (search needs, omega (arith, (c .before .before .before .loop) .inv .1, (c .unknown-on) .ensures .1), omega (arith, next-counted (λ (s : ShardInfo). unknownOn (viewNodes ((c .before .before .before .before .args) .nodes)) (s .replicas)) (unknownIn (viewNodes ((c .before .before .before .before .args) .nodes))) (λ x xs. refl) (viewShards ((c .before .before .before .before .args) .t1)) ((c .before .before .before .loop) .i) _ ((c .before .before .before .loop) .n) (viewShard (getD ((c .before .before .before .before .args) .t1 .items) ((c .before .before .before .loop) .i) noShard)) (used-drop viewShard ((c .before .before .before .before .args) .t1 .items) ((c .before .before .before .before .args) .t1 .count) (fits (c .before .before .before .before)) ((c .before .before .before .loop) .i) noShard (search needs)) ((c .before .before .before .loop) .inv .2), (c .unknown-on) .ensures .0))
+loop-again c = let s = (c .before .before .before .before .before .args) .s .now in let p = (c .before .before .before .before .before .pre) .2 .count in let k = (c .before .before .before .before .before .pre) .1 in let lt = (c .before .before .loop-test) .taken in let m = (c .unknown-on) .ensures .1 in
+    (omega arith, omega arith, shard-more (unknownOn (viewNodes (nodesAt s))) (unknownIn (viewNodes (nodesAt s))) s ((c .before .before .before .before .before .pre) .2) ((c .before .before .before .loop) .n) ((c .before .before .before .loop) .i) ((c .before .before .before .loop) .inv .2) (λ x xs. refl) _ _ (omega arith) ((c .before .get8) .ensures) ((c .unknown-on) .ensures .0))
 
 returns : tie.Need-returns Inv-loop μ-loop
 unfolding unknownIn
-returns c = all-counted (unknownIn (viewNodes ((c .before .before .args) .nodes))) refl (viewShards ((c .before .before .args) .t1)) ((c .before .loop) .i) _ ((c .before .loop) .n) (omega (arith, used-size viewShard ((c .before .before .args) .t1 .items) ((c .before .before .args) .t1 .count) (fits (c .before .before)))) ((c .before .loop) .inv .2)
+returns c = let s = (c .before .before .before .args) .s .now in let p = (c .before .before .before .pre) .2 .count in let k = (c .before .before .before .pre) .1 in let lt = (c .loop-test) .left in
+    shards-all (unknownOn (viewNodes (nodesAt s))) (unknownIn (viewNodes (nodesAt s))) s ((c .before .before .before .pre) .2) ((c .before .loop) .n) ((c .before .loop) .i) ((c .before .loop) .inv .2) refl (omega arith)
 
 pub unknown-in-spec : {M : Type 1} → statement M
-unknown-in-spec = tie.close (tie.spec Inv-loop μ-loop loop-holds mul-row element-copy-out-row unknown-on-requires add-n add-i loop-less loop-again returns)
+unknown-in-spec = tie.close (tie.spec Inv-loop μ-loop loop-holds mul-at add-at add-get8 get8-requires add-unknown-on unknown-on-requires add-n add-i loop-less loop-again returns)

@@ -6,7 +6,7 @@ use mathlib.Core.List.{List, [], _∷_, _++_}
 use Prim.Native.Nat.{ℕ, _+_, _-_, _*_, _≤_, _<_}
 use lib.ListN.{length, getD, take, drop, set}
 use borrow.Author.Tests.{not-true, not-false}
-use Rattle.mapcheck.proofs.Formed.{lent-tables}
+use Rattle.placebytes.proofs.OfRows.{lent-long}
 use Rattle.placements.proofs.counts.walked.Statement.{statement}
 use Rattle.placements.proofs.counts.walked.Tie as tie
 
@@ -16,20 +16,23 @@ text-fits-requires c κs = search needs
 returns : tie.Need-returns
 returns c = search needs
 
-read-map-requires : tie.Need-read-map-requires
-read-map-requires c κs = search needs
-
-well-formed-requires : tie.Need-well-formed-requires
-well-formed-requires c κs = search needs
+is-lent-requires : tie.Need-is-lent-requires
+is-lent-requires c κs = search needs
 
 returns-2 : tie.Need-returns-2
 returns-2 c = search needs
 
+is-formed-requires : tie.Need-is-formed-requires
+is-formed-requires c κs = lent-long ((c .before .before .before .before .before .before .before .args) .map .now) (sym ((c .before .is-lent) .ensures) ∙ not-false _ ((c .if2) .left))
+
+returns-3 : tie.Need-returns-3
+returns-3 c = search needs
+
 key-named-requires : tie.Need-key-named-requires
-key-named-requires c κs = sym ((c .before .before .before .before .text-fits) .ensures) ∙ not-false _ ((c .before .before .before .if1) .left)
+key-named-requires c κs = sym ((c .before .before .before .before .before .text-fits) .ensures) ∙ not-false _ ((c .before .before .before .before .if1) .left)
 
 walk-requires : tie.Need-walk-requires
-walk-requires c κs = lent-tables ((c .before .before .before .read-map) .result .map) (sym ((c .before .before .well-formed) .ensures) ∙ not-false _ ((c .before .if2) .left))
+walk-requires c κs = record { lent = sym ((c .before .before .before .before .is-lent) .ensures) ∙ not-false _ ((c .before .before .before .if2) .left); formed = sym ((c .before .before .is-formed) .ensures) ∙ not-false _ ((c .before .if3) .left) }
 
 slice-aggregate-word : tie.Need-slice-aggregate-word
 slice-aggregate-word c = search needs
@@ -61,8 +64,8 @@ slice-aggregate-word-2 c = search needs
 word-requires-2 : tie.Need-word-requires-2
 word-requires-2 c κs = search needs
 
-returns-3 : tie.Need-returns-3
-returns-3 c = search needs
+returns-4 : tie.Need-returns-4
+returns-4 c = search needs
 
 pub walked-spec : {M : Type 1} → statement M
-walked-spec = tie.close (tie.spec text-fits-requires returns read-map-requires well-formed-requires returns-2 key-named-requires walk-requires slice-aggregate-word word-requires number-requires number-requires-2 number-requires-3 number-requires-4 number-requires-5 number-requires-6 slice-aggregate-word-2 word-requires-2 returns-3)
+walked-spec = tie.close (tie.spec text-fits-requires returns is-lent-requires returns-2 is-formed-requires returns-3 key-named-requires walk-requires slice-aggregate-word word-requires number-requires number-requires-2 number-requires-3 number-requires-4 number-requires-5 number-requires-6 slice-aggregate-word-2 word-requires-2 returns-4)
