@@ -1,8 +1,8 @@
 # The engine beside its peers: the layout beside plain C, then all calls beside the unchanged Rust, which one program links
-# and times in turns on the same input. From the repository's root: make bench [PARTS="layout search append adopt apply map
+# and times in turns on the same input. From the repository's root: make bench [PARTS="layout search append adopt map
 # node"]. It needs cargo and the published files (make oracle); no part of the gate.
 BENCH_RUST := target/bench/rust
-BENCH_LIBS := benchshard benchmap host
+BENCH_LIBS := benchshard host
 # A search in plain C stands beside the Rust's, and FAISS's exact index where Debian's libfaiss-dev is installed.
 FAISS := $(wildcard /usr/include/faiss/IndexFlat.h)
 BENCH_PEERS := plain.o $(if $(FAISS),faiss.o)

@@ -9,11 +9,10 @@ mod putback;
 mod shard;
 
 fn main() {
-    let parts: [(&str, fn()); 6] = [
+    let parts: [(&str, fn()); 5] = [
         ("search", shard::search),
         ("append", shard::append),
         ("adopt", shard::adopt),
-        ("apply", map::apply),
         ("map", map::images),
         ("node", node::node),
     ];

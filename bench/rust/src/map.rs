@@ -1,4 +1,4 @@
-//! The shard map: commands on maps from nearly empty to full, decoding included.
+//! The shard map's entry points, over its byte image: maps from nearly empty to full, decoding included.
 
 use catalogue::sys;
 use controlplane::state::{self, StateMachine};
@@ -7,39 +7,6 @@ use wire::{Change, Command, Key, Message, Request, Spec};
 
 use crate::measure;
 use crate::putback::PutBack;
-
-unsafe extern "C" {
-    fn engine_apply(s: *const u8, n: usize) -> u64;
-    fn engine_map_test(s: *const u8, n: usize, times: u64) -> u64;
-}
-
-/// Requests behind their lengths, as the engine's benchmark reads them.
-fn stream(requests: &[Vec<u8>]) -> Vec<u8> {
-    let record = |r: &Vec<u8>| [(r.len() as u16).to_le_bytes().to_vec(), r.clone()].concat();
-    requests.iter().flat_map(record).collect()
-}
-
-fn engine(s: &[u8]) -> u64 {
-    unsafe { engine_apply(s.as_ptr(), s.len()) }
-}
-
-/// The same requests through the unchanged Rust, read by the oracle's reader.
-fn peer(requests: &[Vec<u8>]) -> u64 {
-    let mut machine = StateMachine::default();
-    for bytes in requests {
-        let Some(Message::Request(request)) = wire::read(bytes) else {
-            unreachable!()
-        };
-        let index = request.index;
-        let request = rpc::Request {
-            client: request.client,
-            seq: request.seq,
-            command: front::convert::command(&request.command),
-        };
-        std::hint::black_box(machine.apply(index, &request));
-    }
-    machine.map().version
-}
 
 /// How far a map is filled.
 struct Filling {
@@ -116,50 +83,6 @@ impl Requests {
         }
     }
 }
-
-const CHANGES: usize = 400;
-
-pub fn apply() {
-    measure::head("Apply, one Shrink or Expand: decoding and the test of the lent map included");
-    for (name, filling) in &FILLINGS {
-        let mut requests = Requests { all: vec![] };
-        requests.fill(filling);
-        let start = requests.all.clone();
-        requests.change(CHANGES);
-        one(name, &start, &requests.all);
-    }
-}
-
-/// The time of the changes: that of all requests without that of the first ones.
-fn one(name: &str, start: &[Vec<u8>], all: &[Vec<u8>]) {
-    let (s, first) = (stream(all), stream(start));
-    assert_eq!(engine(&s), peer(all), "the versions after a stream");
-    assert_eq!(engine(&s), all.len() as u64, "the last change was applied");
-    let black = |n: u64| {
-        std::hint::black_box(n);
-    };
-    let whole = measure::row(name, 1.0, &mut || black(engine(&s)), &mut || {
-        black(peer(all))
-    });
-    let begun = measure::row(name, 1.0, &mut || black(engine(&first)), &mut || {
-        black(peer(start))
-    });
-    let each = CHANGES as f64;
-    let ours = (whole.engine - begun.engine) / each;
-    let theirs = (whole.peer - begun.peer) / each;
-    let [low, _, high] = whole.ratio;
-    println!(
-        "| {name} | {ours:.0} | {theirs:.0} | {:.2} | {low:.2} to {high:.2} |",
-        theirs / ours
-    );
-    let times = 20_000;
-    let test = measure::alone(times as f64, &mut || {
-        black(unsafe { engine_map_test(first.as_ptr(), first.len(), times) });
-    });
-    println!("| the test of that map alone | {test:.0} | | | |");
-}
-
-// ----- The entry points, over the map's byte image ----------------------------------------
 
 const FILLINGS: [(&str, Filling); 3] = [
     ("2 nodes, 1 shard, 1 client", filling(2, 1, 1, 2, 1)),
