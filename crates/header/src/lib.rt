@@ -10,10 +10,7 @@ use serve::Expiry;
 use serve::Step;
 use state::ShardKey;
 
-pub mod formed;
-pub mod grow;
 pub mod outcome;
-pub mod shards;
 
 // A held shard: which of the eight stores is its own, and how many rows that store's table of vectors has. The slot stays with the shard
 // when keys shift places.

@@ -1,10 +1,10 @@
 -- What a map shown over images promises: 24 as every call, then the contract of the call on the header and the map that the bytes are read
 -- as, and from its answer the number and every byte after of the three buffers. Definitions only.
-use Prim.Native.Nat.{ℕ, _+_, _*_, _≤_}
+use Prim.Native.Nat.{ℕ, _+_}
 use mathlib.Core.Bool.{Bool, true, false}
 use mathlib.Core.Path.{_≡_}
 use mathlib.Core.List.{List, [], _∷_, _++_}
-use lib.ListN.{length, take}
+use lib.ListN.{take}
 use Rattle.model.specs.Lists.{_and_}
 use Rattle.model.specs.Layout.Format.{bytesOf, encode, concatMap}
 use Rattle.model.specs.Layout.Parts.{keyF, keyValue, metricCode}
@@ -18,15 +18,12 @@ use Rattle.header.specs.declared.Node.{Node}
 use Rattle.header.specs.View.{Stores, viewNode}
 use Rattle.header.specs.Formed.{lentNode}
 use Rattle.header.specs.Seats.{slotsOf}
-use Rattle.shown.specs.declared.Start.{Start}
 use Rattle.shown.specs.declared.NodeShown.{NodeShown}
 use Rattle.shown.specs.declared.ShownAnswer.{ShownAnswer}
 use Rattle.shown.specs.declared.ShownAnswer.the-variants as S
-use Rattle.shown.specs.Rows.{viewStart}
 use Rattle.shown.specs.Slots.{slotsAfter}
 use Rattle.shown.specs.Shows.{viewStarts}
 use Rattle.hears.specs.Hears.{HearsMap}
-use Rattle.image.specs.Shape.{Stored}
 use Rattle.headerimage.specs.Image.{headerLent, nodeAt}
 use Rattle.mapimage.specs.Image.{mapLent, mapAt}
 use Rattle.headercalls.specs.Asked.{Asked, Becomes}
@@ -39,12 +36,6 @@ workerBytes w = ((encode keyF (keyValue (w .key)) ++ bytesOf 8 (w .peer .0)) ++ 
 
 abbrev pub startBytes : List show.Worker → List ℕ
 startBytes l = concatMap workerBytes l
-
--- internal: the workers of one shard are stored, and the next place is told
-pub record Starts (s t : List ℕ) (at : ℕ) (x : Start) (r : ℕ) : Type 0 where
-  pub stored : Stored s t at (startBytes (viewStart x)) (54 * length (viewStart x))
-  pub next : r ≡ at + 54 * length (viewStart x)
-  pub few : length (viewStart x) ≤ 32
 
 -- 0 shown; a refusal its number alone
 abbrev pub showSaid : ShownAnswer → (header starts answer : List ℕ) → List show.Worker → Node → Left

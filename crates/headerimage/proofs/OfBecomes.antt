@@ -1,6 +1,6 @@
 -- What a write makes of an image (specs/Becomes.antt): every byte is that of the model's node in its slots, and what was written lends the
 -- header that was given. Assumes nothing.
-use Prim.Native.Nat.{ℕ, _+_, _≤_, _<_}
+use Prim.Native.Nat.{ℕ, _+_, _≤_}
 use mathlib.Core.Path.{_≡_, refl, sym, ap, subst, _∙_}
 use mathlib.Core.List.{List, _++_, map}
 use lib.ListN.{length, length-map}
@@ -17,7 +17,7 @@ use Rattle.image.proofs.Images.{sets-append, length-used}
 use Rattle.headerrows.specs.Rows.{expiryCode, expiryTime}
 use Rattle.headerimage.specs.Image.{nodeAt, headBytes, shardsBytes, headerPut}
 use Rattle.headerimage.specs.Becomes.{Counted, leaseCode, leaseTime, headerImage, HeaderBecomes, HeaderWrites}
-use Rattle.headerimage.proofs.OfImage.{lent-listed, written-long, written-short}
+use Rattle.headerimage.proofs.OfImage.{lent-listed, written-long}
 use Rattle.headerimage.proofs.OfTidy.{image-rows}
 use Rattle.headerimage.proofs.OfFormed.{formed-as}
 use Rattle.headerimage.proofs.Back.{Fits, length-put, codes-listed, used-back, header-back, counted-back, count-within, slots-back}
@@ -61,6 +61,3 @@ module _ (s : List ℕ) (n : Node) where
     image = e ∙ written-long s n room;
     becomes = λ h. subst (λ (u : List ℕ). HeaderBecomes s u n) (sym e) (becomes-put s n room fits);
   }
-
-  pub writes-short : length s < 10288 → HeaderWrites s s n
-  writes-short h = record { image = written-short s n h; becomes = λ k. absurd (omega arith) }

@@ -1,28 +1,20 @@
 -- What the whole image's functions come to, case by case. Assumes nothing.
 use Prim.Native.Nat.{ℕ, _≤_, _<_}
-use mathlib.Core.Path.{_≡_, refl, sym}
-use mathlib.Core.Bool.{Bool, true, false}
+use mathlib.Core.Path.{_≡_, sym}
+use mathlib.Core.Bool.{true, false}
 use mathlib.Core.List.{List}
 use lib.ListN.{length}
-use lib.Dec.{leb}
 use borrow.Author.Tests.{le-leb, lt-leb, leb-true}
 use Rattle.model.proofs.LayoutLaws.Tests.{and-left, and-true, and-false}
 use Rattle.header.specs.declared.Node.{Node}
-use Rattle.headerimage.specs.declared.Lent.{Lent}
-use Rattle.headerimage.specs.Image.{codesListed, headerLent, nodeAt, noNode, lentHeader, headerPut, headerWritten}
+use Rattle.headerimage.specs.Image.{codesListed, headerLent, headerPut, headerWritten}
 
 -- ---- whether a buffer lends a header
-
-abbrev lent : Bool → Node → Lent
-lent b m = record { found = b; node = m }
 
 module _ (s : List ℕ) where
   pub lent-short : length s < 10288 → headerLent s ≡ false
   unfolding headerLent
   lent-short h = rw (lt-leb 10288 (length s) h) (and-false _)
-
-  pub lent-not : headerLent s ≡ false → lent false noNode ≡ lentHeader s
-  lent-not h = rw h
 
   pub lent-listed : 10288 ≤ length s → codesListed s ≡ headerLent s
   unfolding headerLent
@@ -32,13 +24,6 @@ module _ (s : List ℕ) where
   unfolding headerLent
   lent-long h = leb-true 10288 (length s) (and-left _ _ h)
 
-  pub lent-header : headerLent s ≡ true → lent true (nodeAt s) ≡ lentHeader s
-  lent-header h = rw h
-
   pub written-long : (m : Node) → 10288 ≤ length s → headerPut s m ≡ headerWritten s m
   unfolding headerWritten
   written-long m h = rw (le-leb 10288 (length s) h)
-
-  pub written-short : (m : Node) → length s < 10288 → s ≡ headerWritten s m
-  unfolding headerWritten
-  written-short m h = rw (lt-leb 10288 (length s) h)

@@ -8,7 +8,6 @@ use model::Peer;
 use model::Replica;
 use model::Role;
 
-pub mod role;
 pub mod rows;
 
 // One held shard without its key and its log. `last` is the log's length, `holders` and `count` say how many replicas and rows are in use;
@@ -92,33 +91,8 @@ pub struct Acked {
     pub held: Held,
 }
 
-// Rows after a map: `full` where a 33rd would be needed.
-pub struct Grown {
-    pub full: bool,
-    pub peers: [Peer; 32],
-    pub count: usize,
-}
-
 // The primary that a map lists for a shard.
 pub enum Leader {
     Nobody,
     At(u64),
-}
-
-// What a map says of one shard; what lies past `holders` and `synced` is free.
-pub struct Info {
-    pub epoch: Epoch,
-    pub leader: Leader,
-    pub replicas: [Replica; 8],
-    pub holders: usize,
-    pub insync: [DataNodeId; 8],
-    pub synced: usize,
-}
-
-// A shard after a map, and the peers to start a worker for, by rising node. `full` where a 33rd worker would be needed: the shard is then
-// as it was.
-pub struct Shown {
-    pub full: bool,
-    pub start: Nodes,
-    pub held: Held,
 }

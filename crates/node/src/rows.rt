@@ -1,14 +1,11 @@
 // Internal: the role, and the rows of a primary's peers, one row or one loop a function.
 ghost use mathlib.Core.Path.{_≡_};
-ghost use mathlib.Core.Bool.{not};
 ghost use Prim.Native.Nat.{_≤_, _-_};
 ghost use lib.ListN.{take};
-ghost use Rattle.model.specs.Lists.{_and_, _or_, any, lead};
+ghost use Rattle.model.specs.Lists.{_and_, _or_, any};
 ghost use Rattle.model.specs.Node.Shards.{leadsAt, onNode};
 ghost use Rattle.model.specs.Node.Shown.{isNode};
-ghost use Rattle.node.specs.View.{others};
 use model::DataNodeId;
-use model::Peer;
 use model::Replica;
 use model::Role;
 
@@ -31,22 +28,6 @@ pub fn leads(role: Role, epoch: u64) -> bool
         Role::Backup => false,
         Role::Primary { epoch: e, end: _ } => e.0 == epoch,
     }
-}
-
-// The place of the row of `node`, or `count`.
-pub fn row_of(peers: [Peer; 32], count: usize, node: u64) -> usize
-    requires { ⌜ count ≤ 32 ⌝ }
-    ensures { λ r. ⌜ r ≡ lead (others node) (take count peers) ⌝ }
-{
-    let mut i: usize = 0;
-    while i < count {
-        let p = peers[i];
-        if p.node.0 == node {
-            return i;
-        }
-        i += 1;
-    }
-    i
 }
 
 pub fn in_nodes(nodes: [DataNodeId; 8], count: usize, node: u64) -> bool

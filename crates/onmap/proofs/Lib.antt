@@ -1,2 +1,1 @@
 pub mod OfGrow
-pub mod OfMap

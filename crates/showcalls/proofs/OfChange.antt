@@ -3,7 +3,7 @@ use Prim.Native.Nat.{ℕ, _+_, _*_, _≤_, _<_}
 use mathlib.Core.Path.{_≡_, refl, sym, ap, _∙_}
 use mathlib.Core.Bool.{true, false}
 use mathlib.Core.List.{List, [], map}
-use lib.ListN.{length, take, getD, length-map, List·getD-map}
+use lib.ListN.{length, take, length-map, List·getD-map}
 use lib.Seq.{sets, ext-getD, length-take-le, take-all, getD-take}
 use native.Mathlib.Omega.{arith}
 use Rattle.model.specs.Lists.{every}
@@ -12,16 +12,14 @@ use Rattle.model.specs.Node.Shown as show
 use Rattle.model.proofs.Map.WellFormed.{map-parts}
 use Rattle.state.specs.View.{viewMap}
 use Rattle.header.specs.declared.Kept.{Kept}
-use Rattle.header.specs.declared.Node.{Node}
 use Rattle.header.specs.View.{noKept}
 use Rattle.header.specs.Formed.{formedNode}
 use Rattle.header.proofs.OfFormed.{header-apart}
 use Rattle.shown.specs.declared.Start.{Start}
-use Rattle.shown.specs.declared.Taken.{Taken}
-use Rattle.shown.specs.declared.Walked.{Walked}
+use Rattle.shown.specs.Walks.{Walked}
 use Rattle.shown.specs.declared.NodeShown.{NodeShown}
 use Rattle.shown.specs.declared.ShownAnswer.the-variants as S
-use Rattle.shown.specs.Rows.{keptOf, startOf}
+use Rattle.shown.specs.Rows.{Taken, keptOf, startOf}
 use Rattle.shown.specs.Shows.{viewStarts, TakesMap}
 use Rattle.shown.proofs.OfShown.{walked-open, walked-apart, walked-seats, taken-full, taken-whole}
 use Rattle.shown.proofs.OfBytes.{version-is, versioned}
@@ -35,7 +33,7 @@ use Rattle.headerbytes.specs.Rows.{Counts}
 use Rattle.headerput.proofs.OfBack.{item-at}
 use Rattle.headerset.proofs.OfPlace.{in-array}
 use Rattle.headercalls.specs.Waits.{RowsPut}
-use Rattle.headercalls.specs.Shows.{workerBytes, startBytes, ShowPut}
+use Rattle.headercalls.specs.Shows.{workerBytes, startBytes}
 use Rattle.headercalls.proofs.OfStarts.{noStart}
 use Rattle.headercalls.proofs.OfWaits.{no-peers, no-answer, all-put, shown-as}
 use Rattle.shownwalk.specs.declared.RowsMade.{RowsMade}

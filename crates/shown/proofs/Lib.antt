@@ -1,4 +1,3 @@
-pub mod OfRows
 pub mod OfListed
 pub mod OfWalk
 pub mod OfShown

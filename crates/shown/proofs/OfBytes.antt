@@ -13,7 +13,7 @@ use Rattle.state.specs.declared.NodeRow.{NodeRow}
 use Rattle.state.specs.declared.ShardRow.{ShardRow}
 use Rattle.state.specs.declared.CollectionRow.{CollectionRow}
 use Rattle.state.specs.Counted.{Sized, TablesCounted}
-use Rattle.state.specs.View.{viewHolders, viewShard, viewCollections, viewMap}
+use Rattle.state.specs.View.{viewHolders, viewShard, viewMap}
 use Rattle.state.specs.declared.ShardMap.{ShardMap}
 use Rattle.header.specs.declared.Kept.{Kept}
 use Rattle.header.specs.declared.Node.{Node}
@@ -23,14 +23,11 @@ use Rattle.mapimage.specs.Image.{noNode, noCollection, noShard, nodesAt, collec
 use Rattle.mapbytes.proofs.OfRows.{rows-long, rows-row}
 use Rattle.shownrows.specs.Rows.{deadAt}
 use Rattle.shown.specs.declared.Start.{Start}
-use Rattle.shown.specs.declared.Taken.{Taken}
 use Rattle.shown.specs.declared.NodeShown.{NodeShown}
 use Rattle.shown.specs.declared.ShownAnswer.the-variants as A
-use Rattle.shown.specs.declared.RowShown.{RowShown}
-use Rattle.shown.specs.Rows.{viewTaken, listedShown, ShowsListed}
-use Rattle.shown.specs.Walks.{Walks}
+use Rattle.shown.specs.Rows.{Taken, RowShown, listedShown, ShowsListed}
 use Rattle.shown.specs.Shows.{TakesMap}
-use Rattle.shown.proofs.OfWalk.{Walking, walk-skip, walk-take, walk-over, walk-ninth, noRow, sized-at, walks-full, unlisted, listed}
+use Rattle.shown.proofs.OfWalk.{Walking, walk-skip, walk-take, noRow, sized-at, unlisted, listed}
 
 module _ (s : List ℕ) where
   pub version-is : mapAt s .version ≡ numberAt 8 s 0
@@ -114,26 +111,7 @@ module _ (n : Node) (s : List ℕ) (counted : TablesCounted (mapAt s)) (out : Li
         (λ st m e. on-list st m ∙ shown .skips q st m e)
 
     module _ (q : r .skip ≡ false) (few : count ≤ 8) (long : length out ≡ 8) where
-      full : ((st : Stores) (k : tables.Map) → k .collections ≡ viewCollections (mapAt s .collections)
-          → show.tooMany (show.showings (viewNode st n) k (viewMap (mapAt s) .shards)) ≡ true)
-          → Walks n (mapAt s) (record { full = true; items = out; count = count })
-      full f = walks-full n (mapAt s) out count i w few (omega arith) f
-
-      pub turn-over : r .full ≡ true → Walks n (mapAt s) (record { full = true; items = out; count = count })
-      turn-over f =
-          full
-          (walk-over n (mapAt s .shards .items) (mapAt s .shards .count) (mapAt s .collections) out count i w fits h noRow
-          (λ st m e.
-          let o = shown .over q f st m e in
-          record { showing = o .showing; is = on-list st m ∙ o .is; over = o .over }))
-
       module _ (f : r .full ≡ false) where
-        pub turn-ninth : 8 ≤ count → Walks n (mapAt s) (record { full = true; items = out; count = count })
-        turn-ninth many =
-            full
-            (walk-ninth n (mapAt s .shards .items) (mapAt s .shards .count) (mapAt s .collections) out count i w fits h noRow (omega arith) many
-            (λ st m e. (viewTaken st (r .taken), on-list st m ∙ shown .takes q f st m e .is)))
-
         pub turn-take : count < 8 → Next (set out count (r .taken)) (count + 1) (i + 1)
         turn-take room =
             walk-take n (mapAt s .shards .items) (mapAt s .shards .count) (mapAt s .collections) out count i w fits h noRow (omega arith) (r .taken)

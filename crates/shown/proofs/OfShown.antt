@@ -29,14 +29,12 @@ use Rattle.header.proofs.OfLists.{map-any, map-lead}
 use Rattle.header.proofs.OfFormed.{header-rise, header-apart}
 use Rattle.header.proofs.OfGrow.{none-cons}
 use Rattle.shown.specs.declared.Start.{Start}
-use Rattle.shown.specs.declared.Taken.{Taken}
-use Rattle.shown.specs.declared.Walked.{Walked}
 use Rattle.shown.specs.declared.NodeShown.{NodeShown}
 use Rattle.shown.specs.declared.ShownAnswer.the-variants as A
 use Rattle.shownrows.specs.Rows.{deadAt}
-use Rattle.shown.specs.Rows.{viewTaken, keptOf, startOf, placeOf, SlotFrom, opens, stays}
+use Rattle.shown.specs.Rows.{Taken, viewTaken, keptOf, startOf, placeOf, SlotFrom, opens, stays}
 use Rattle.shownslots.specs.Slots.{keysOf, slotBefore, seated, slotsAfter, openFits, slotsOpen, Assigns}
-use Rattle.shown.specs.Walks.{shardsAfter, Walks}
+use Rattle.shown.specs.Walks.{Walked, shardsAfter, Walks}
 use Rattle.shown.specs.Shows.{viewStarts, StartsOver, TakesMap, ShowsMap}
 use Rattle.shownslots.proofs.OfSlots.{slotIn, or-left, or-right, some-here, open-cons}
 use Rattle.shownslots.proofs.OfKeys.{below-each, never-below, rising-tail}

@@ -31,8 +31,7 @@ use Rattle.header.specs.declared.Node.{Node}
 use Rattle.header.specs.View.{Stores, viewNode}
 use Rattle.header.specs.Formed.{keptBelow}
 use Rattle.header.proofs.OfLists.{by-case}
-use Rattle.shown.specs.declared.Taken.{Taken}
-use Rattle.shown.specs.Rows.{viewTaken, keptOf, SlotFrom, listedShown, Overworks}
+use Rattle.shown.specs.Rows.{Taken, viewTaken, keptOf, SlotFrom, listedShown, Overworks}
 use Rattle.shown.specs.Walks.{Walks}
 use Rattle.shownslots.proofs.OfSlots.{or-right}
 use Rattle.shownslots.proofs.OfKeys.{rising-less}

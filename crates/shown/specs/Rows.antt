@@ -1,23 +1,17 @@
 -- What a map's rows promise of a shard that lists this node. Definitions only.
 use Prim.Native.Nat.{ℕ, _<_, _≤_}
-use mathlib.Core.Bool.{true, false}
+use mathlib.Core.Bool.{Bool, true, false}
 use mathlib.Core.Path.{_≡_}
-use mathlib.Core.List.{List, [], map}
+use mathlib.Core.List.{List, map}
 use mathlib.Core.Option.{Option, none, some}
 use lib.ListN.{take, getD}
 use Rattle.model.specs.Lists.{lead}
 use Rattle.model.specs.Limits.{maxHeld}
 use Rattle.model.specs.Keys as keys
-use Rattle.model.specs.Log.{Log, Vectors}
 use Rattle.model.specs.Map.Tables as tables
-use Rattle.model.specs.Node.Shards.{heldShard, begun}
+use Rattle.model.specs.Node.Shards.{heldShard}
 use Rattle.model.specs.Node.Shown as show
-use Rattle.model.specs.declared.Metric.{Metric}
-use Rattle.node.specs.declared.Held.{Held}
-use Rattle.node.specs.declared.Nodes.{Nodes}
-use Rattle.node.specs.View.{viewHeld}
-use Rattle.node.specs.Shows.{recordEpoch, workerAt}
-use Rattle.state.specs.declared.ShardKey.{ShardKey}
+use Rattle.node.specs.Shows.{workerAt}
 use Rattle.state.specs.declared.ShardRow.{ShardRow}
 use Rattle.state.specs.declared.Collections.{Collections}
 use Rattle.state.specs.Names.{viewName, viewKey}
@@ -26,24 +20,19 @@ use Rattle.header.specs.declared.Kept.{Kept}
 use Rattle.header.specs.declared.Node.{Node}
 use Rattle.header.specs.View.{Stores, viewKept, viewNode, used, otherKey, noKept}
 use Rattle.shown.specs.declared.Start.{Start}
-use Rattle.shown.specs.declared.Taken.{Taken}
-use Rattle.shown.specs.declared.RowShown.{RowShown}
-
--- ---- one shard: what it learns of the map, and how it begins
-
--- the replicas that the map lists, and nothing else changed
-pub record Refreshes (h : Held) (row : ShardRow) (r : Held) : Type 0 where
-  pub last : r .last ≡ h .last
-  pub count : r .count ≡ h .count
-  pub same : (k : keys.Key) (l : Log) (v : Vectors) → viewHeld k l v r ≡ show.refreshed (viewShard row) (viewHeld k l v h)
-
--- a shard that the map begins
-pub record Firsts (metric : Metric) (r : Held) : Type 0 where
-  pub last : r .last ≡ 0
-  pub count : r .count ≡ 0
-  pub same : (k : keys.Key) → viewHeld k [] [] r ≡ begun k metric
 
 -- ---- one shard after the map
+
+-- a shard after the map, with the workers to start for it. One that begins has no slot yet: 8
+pub record Taken : Type 0 where
+  pub kept : Kept
+  pub start : Start
+
+-- one row of the map: the shard is not held after, a 33rd worker would be needed, or it is taken
+pub record RowShown : Type 0 where
+  pub skip : Bool
+  pub full : Bool
+  pub taken : Taken
 
 abbrev pub viewStart : Start → List show.Worker
 viewStart x = map (workerAt (viewKey (x .key)) (x .epoch .0) (x .metric)) (take (x .peers .count) (x .peers .items))
@@ -56,26 +45,6 @@ keptOf x = x .kept
 
 abbrev pub startOf : Taken → Start
 startOf x = x .start
-
-abbrev pub takenOf : ShardKey → (slot stored : ℕ) → Held → Metric → Nodes → Taken
-takenOf key slot stored h metric peers = record {
-  kept = record { key = key; slot = slot; stored = stored; held = h };
-  start = record { key = key; epoch = record { 0 = recordEpoch (h .role) }; metric = metric; peers = peers };
-}
-
--- the shard h in that slot, under the row's key
-abbrev pub asKept : ShardRow → (slot stored : ℕ) → Held → Kept
-asKept row slot stored h = record { key = row .key; slot = slot; stored = stored; held = h }
-
--- a shard whose collection the map has
-pub record TakesAs (me slot stored : ℕ) (h : Held) (row : ShardRow) (metric : Metric) (r : RowShown) : Type 0 where
-  pub takes : r .skip ≡ false
-  pub full : (s : Stores) → r .full ≡ show.overworked (show.showHeld me (viewShard row) metric (viewKept s (asKept row slot stored h)))
-  pub same : (s : Stores) → r .full ≡ false → viewTaken s (r .taken) ≡ show.showHeld me (viewShard row) metric (viewKept s (asKept row slot stored h))
-  pub inSlot : r .taken .kept .slot ≡ slot
-  pub rows : r .taken .kept .stored ≡ stored
-  pub last : r .taken .kept .held .last ≡ h .last
-  pub key : r .taken .kept .key ≡ row .key
 
 -- the place of a key's shard, or the count
 abbrev pub placeOf : Node → keys.Key → ℕ

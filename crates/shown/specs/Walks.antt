@@ -1,6 +1,6 @@
 -- What a walk over a map's shards promises: the shards held after are the definition's, in its order. Definitions only.
 use Prim.Native.Nat.{ℕ, _≤_, _<_}
-use mathlib.Core.Bool.{true, false}
+use mathlib.Core.Bool.{Bool, true, false}
 use mathlib.Core.Path.{_≡_}
 use mathlib.Core.List.{List, map}
 use lib.ListN.{length, take, getD}
@@ -12,13 +12,17 @@ use Rattle.state.specs.View.{viewMap}
 use Rattle.header.specs.declared.Node.{Node}
 use Rattle.header.specs.View.{Stores, viewNode}
 use Rattle.header.specs.Formed.{keptBelow}
-use Rattle.shown.specs.declared.Taken.{Taken}
-use Rattle.shown.specs.declared.Walked.{Walked}
-use Rattle.shown.specs.Rows.{viewTaken, keptOf, SlotFrom}
+use Rattle.shown.specs.Rows.{Taken, viewTaken, keptOf, SlotFrom}
 
 -- the definition's shards held after
 abbrev pub shardsAfter : Stores → Node → ShardMap → List show.Showing
 shardsAfter s n m = show.showings (viewNode s n) (viewMap m) (viewMap m .shards)
+
+-- every shard held after, in the map's order, or `full`: a ninth shard, or a 33rd worker
+pub record Walked : Type 0 where
+  pub full : Bool
+  pub items : List Taken
+  pub count : ℕ
 
 pub record Walks (n : Node) (m : ShardMap) (r : Walked) : Type 0 where
   pub few : r .count ≤ 8

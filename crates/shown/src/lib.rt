@@ -1,6 +1,5 @@
-// A map shown to a node (paper 01, 'The node', 'Map shown'; node.rs, on_map), over the node's header by value and a map in
-// the bytes that a host lends. What its rows say, and the slots after it, are crates `shownrows` and `shownslots`.
-use header::Kept;
+// A map shown to a node (paper 01, 'The node', 'Map shown'; node.rs, on_map): what it promises, and the laws of a walk over the map's shards. What
+// its rows say, and the slots after it, are crates `shownrows` and `shownslots`; the walk is crate `shownwalk`'s.
 use header::Node;
 use model::Epoch;
 use model::Metric;
@@ -8,10 +7,6 @@ use node::Nodes;
 use state::ShardKey;
 
 pub mod dead;
-pub mod listed;
-mod parts;
-pub mod starting;
-pub mod walk;
 
 // The workers to start for one shard, by rising node: what each is started with, and its peers.
 pub struct Start {
@@ -19,27 +14,6 @@ pub struct Start {
     pub epoch: Epoch,
     pub metric: Metric,
     pub peers: Nodes,
-}
-
-// A shard after the map, with the workers to start for it. One that begins has no slot yet: 8.
-pub struct Taken {
-    pub kept: Kept,
-    pub start: Start,
-}
-
-// One row of the map: the shard is not held after (`skip`), a 33rd worker would be needed (`full`), or it is taken. What is not said is
-// free.
-pub struct RowShown {
-    pub skip: bool,
-    pub full: bool,
-    pub taken: Taken,
-}
-
-// Every shard held after, in the map's order, or `full`: a ninth shard, or a 33rd worker.
-pub struct Walked {
-    pub full: bool,
-    pub items: [Taken; 8],
-    pub count: usize,
 }
 
 // The map is taken note of, or refused by a number.

@@ -5,16 +5,14 @@ ghost use Rattle.model.specs.Lists.{any};
 ghost use Rattle.model.specs.Node.Shown.{listedAs};
 ghost use Rattle.node.specs.Shows.{leaderOf, recordEpoch};
 ghost use Rattle.state.specs.View.{viewHolders, viewPrimary};
-ghost use Rattle.shownrows.specs.Rows.{deadAt, Reads};
+ghost use Rattle.shownrows.specs.Rows.{deadAt};
 use model::Epoch;
 use model::Role;
-use node::Info;
 use node::Leader;
 use node::rows::both;
 use state::Holders;
 use state::NodeRow;
 use state::Primary;
-use state::ShardRow;
 
 // A replica on this node, under its incarnation.
 pub fn is_listed(h: Holders, id: u64, incarnation: u64) -> bool
@@ -48,27 +46,6 @@ pub fn leader_of(p: Primary) -> Leader
     match p {
         Primary::Nobody => Leader::Nobody,
         Primary::At(n) => Leader::At(n.0),
-    }
-}
-
-// What the row says of its shard.
-pub fn info_of(row: ShardRow) -> Info
-    ensures { λ r. ⌜ Reads row r ⌝ }
-{
-    let epoch = row.epoch;
-    let held = row.replicas;
-    let replicas = held.items;
-    let synced = row.insync;
-    let insync = synced.items;
-    let primary = row.primary;
-    let leader = leader_of(primary);
-    Info {
-        epoch: epoch,
-        leader: leader,
-        replicas: replicas,
-        holders: held.count,
-        insync: insync,
-        synced: synced.count,
     }
 }
 

@@ -1,5 +1,5 @@
 -- One shard that lists this node: its row before, what the map leaves of it, and its workers. Assumes nothing.
-use Prim.Native.Nat.{ℕ, zero, suc, _+_, _*_, _≤_, _<_}
+use Prim.Native.Nat.{ℕ, _+_, _*_, _≤_, _<_}
 use mathlib.Core.Path.{_≡_, refl, sym, ap, subst, _∙_}
 use mathlib.Core.Bool.{Bool, true, false, cond}
 use mathlib.Core.List.{List, [], _∷_, map}
@@ -9,7 +9,7 @@ use lib.Dec.{ltb}
 use lib.ListN.{length, take, drop, getD, length-take, length-drop}
 use lib.Seq.{sets, length-take-le, take-length, getD-take, getD-drop}
 use borrow.Author.Tests.{le-ltb, ltb-true, ltb-false, not-false}
-use Rattle.model.specs.Lists.{lead, collect}
+use Rattle.model.specs.Lists.{collect}
 use Rattle.model.specs.Limits.{maxHeld, maxWorkers}
 use Rattle.model.specs.Layout.Format.{numberAt}
 use Rattle.model.specs.Keys.{Name, Key}
@@ -28,8 +28,6 @@ use Rattle.model.proofs.Lists.{not-both}
 use Rattle.model.proofs.Map.Orders.{same-key}
 use Rattle.node.specs.declared.Held.{Held}
 use Rattle.node.specs.Shows.{workerAt}
-use Rattle.node.specs.View.{viewHeld}
-use Rattle.state.specs.declared.ShardKey.{ShardKey}
 use Rattle.state.specs.declared.ShardRow.{ShardRow}
 use Rattle.state.specs.declared.Collections.{Collections}
 use Rattle.state.specs.Counted.{Sized}
@@ -37,7 +35,7 @@ use Rattle.state.specs.Names.{viewName, viewKey}
 use Rattle.state.specs.View.{viewShard, viewCollections}
 use Rattle.header.specs.declared.Kept.{Kept}
 use Rattle.header.specs.declared.Node.{Node}
-use Rattle.header.specs.View.{Stores, viewKept, viewNode, used, otherKey, noKept}
+use Rattle.header.specs.View.{Stores, viewKept, viewNode, otherKey, noKept}
 use Rattle.header.specs.Formed.{formedNode}
 use Rattle.header.proofs.OfLists.{by-case}
 use Rattle.header.proofs.OfShards.{shard-none, shard-some, some-stores}
@@ -54,12 +52,11 @@ use Rattle.headergrow.specs.Begun.{begunSet}
 use Rattle.mapput.proofs.OfBytes.{value-same}
 use Rattle.mapedits.proofs.OfSets.{sets-in}
 use Rattle.shown.specs.declared.Start.{Start}
-use Rattle.shown.specs.declared.Taken.{Taken}
-use Rattle.shown.specs.Rows.{viewStart, viewTaken, placeOf, SlotFrom, opens, stays, listedShown, ShowsListed}
+use Rattle.shown.specs.Rows.{Taken, viewStart, viewTaken, placeOf, SlotFrom, opens, stays, listedShown}
 use Rattle.headercalls.specs.Shows.{startBytes}
-use Rattle.shownput.specs.Row.{showing, Ready, Shows, Refreshes}
+use Rattle.shownput.specs.Row.{showing, Ready, Refreshes}
 use Rattle.shownwalk.specs.declared.RowMade.{RowMade}
-use Rattle.shownwalk.specs.Rows.{Before, ShowsAt, ShowsPut, Refused, ninth, worker, RowTaken, Takes}
+use Rattle.shownwalk.specs.Rows.{Before, ShowsAt, ShowsPut, ninth, worker, RowTaken, Takes}
 
 -- ---- a row that is copied
 

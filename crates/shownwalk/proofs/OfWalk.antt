@@ -1,13 +1,12 @@
 -- The walk over a map's shards: what stands in the two buffers after each of them. Assumes nothing.
-use Prim.Native.Nat.{ℕ, zero, suc, _+_, _*_, _≤_, _<_}
+use Prim.Native.Nat.{ℕ, _+_, _*_, _≤_, _<_}
 use mathlib.Core.Path.{_≡_, refl, sym, ap, subst, _∙_}
 use mathlib.Core.Bool.{Bool, true, false}
 use mathlib.Core.List.{List, [], _∷_, _++_, map, append-assoc}
-use mathlib.Core.Option.{Option, none, some}
 use native.Mathlib.Omega.{arith}
 use lib.Dec.{eqb}
-use lib.ListN.{length, take, drop, getD, set, replicate, length-replicate, length-set, length-append}
-use lib.Seq.{sets, length-sets, sets-eq, length-take-le, take-at, getD-set-same, getD-set-other}
+use lib.ListN.{length, take, drop, getD, set, replicate, length-set, length-append}
+use lib.Seq.{length-sets, sets-eq, length-take-le, take-at, getD-set-same, getD-set-other}
 use borrow.Author.Tests.{eqb-true, eqb-false}
 use Rattle.model.specs.Lists.{any}
 use Rattle.model.specs.Layout.Format.{numberAt}
@@ -29,17 +28,14 @@ use Rattle.headergrow.proofs.OfRows.{row-before}
 use Rattle.maprows.specs.Rows as rows
 use Rattle.mapimage.specs.Image.{collectionsAt, mapAt}
 use Rattle.shown.specs.declared.Start.{Start}
-use Rattle.shown.specs.declared.Taken.{Taken}
-use Rattle.shown.specs.Rows.{viewStart, startOf, listedShown, ShowsListed}
-use Rattle.shown.specs.Walks.{Walks}
+use Rattle.shown.specs.Rows.{Taken, viewStart, startOf, listedShown}
 use Rattle.shown.specs.Shows.{viewStarts}
 use Rattle.shown.proofs.OfWalk.{Walking, walk-start, walk-over, walk-ninth, noRow, walks-full, walks-whole, listed}
 use Rattle.shown.proofs.OfBytes.{shards-fit, shard-row, row-sized, turn-unlisted, turn-skip, turn-take}
 use Rattle.headercalls.specs.Shows.{workerBytes, startBytes}
 use Rattle.headercalls.proofs.OfStarts.{noStart}
 use Rattle.shownwalk.specs.declared.RowMade.{RowMade}
-use Rattle.shownwalk.specs.declared.RowsMade.{RowsMade}
-use Rattle.shownwalk.specs.Rows.{Refused, ninth, worker, RowTaken, Takes, Made}
+use Rattle.shownwalk.specs.Rows.{Refused, ninth, worker, Takes, Made}
 
 -- ---- workers behind workers
 

@@ -20,8 +20,7 @@ use Rattle.image.specs.Shape.{Stored}
 use Rattle.headerrows.specs.Rows.{keptAt}
 use Rattle.headerset.specs.Row.{Outside, RowBecomes}
 use Rattle.headergrow.specs.Begun.{begunSet}
-use Rattle.shown.specs.declared.Taken.{Taken}
-use Rattle.shown.specs.Rows.{viewStart, startOf, keptOf, placeOf, listedShown, Overworks, ShowsListed}
+use Rattle.shown.specs.Rows.{Taken, viewStart, startOf, placeOf, listedShown, Overworks, ShowsListed}
 use Rattle.shown.specs.Walks.{Walks}
 use Rattle.shown.specs.Shows.{viewStarts}
 use Rattle.headercalls.specs.Shows.{startBytes}

@@ -1,14 +1,11 @@
 -- `row::take_row` meets its contract. Assumes nothing.
 use borrow.Author.Needs.{needs}
 use native.Mathlib.Omega.{arith}
-use mathlib.Core.Path.{_≡_, refl, sym, _∙_, ap}
-use mathlib.Core.List.{List, [], _∷_, _++_}
-use Prim.Native.Nat.{ℕ, _+_, _-_, _*_, _≤_, _<_}
-use lib.ListN.{length, getD, take, drop, set}
+use mathlib.Core.Path.{sym, _∙_, ap}
+use Prim.Native.Nat.{_-_}
 use mathlib.Core.Option.{some}
 use Rattle.state.specs.Names.{viewKey}
 use Rattle.state.specs.declared.CollectionRow.{CollectionRow}
-use Rattle.headerimage.specs.Image.{nodeAt}
 use Rattle.headerset.proofs.OfPlace.{place-is}
 use Rattle.mapimage.specs.Image.{collectionsAt}
 use Rattle.shown.proofs.OfListed.{noCollection, metric-none, metric-some}
@@ -32,7 +29,7 @@ same-length : tie.Need-same-length
 same-length c = search needs
 
 returns : tie.Need-returns
-returns c = let a = (c .before .before .before .before .before .before .before .before .before .before .before .before .before .before .args) in (c .before .before .keep-row) .ensures (collectionsAt (a .map .now)) (λ m e. metric-none (nodeAt (a .header .now)) (collectionsAt (a .map .now)) (a .row) (collections-fit (a .map .now) ((c .before .before .before .before .before .before .before .before .before .before .before .before .before .before .pre) .3)) ((c .before .before .before .before .before .collection-place) .result) ((c .before .before .before .before .before .collection-place) .ensures) m e (let k = (c .before .before .before .before .before .before .get8) .ensures in let q = (c .before .before .before .before .if1) .taken in omega arith)) _
+returns c = let a = (c .before .before .before .before .before .before .before .before .before .before .before .before .before .before .args) in (c .before .before .keep-row) .ensures (collectionsAt (a .map .now)) (λ m e. metric-none (collectionsAt (a .map .now)) (a .row) (collections-fit (a .map .now) ((c .before .before .before .before .before .before .before .before .before .before .before .before .before .before .pre) .3)) ((c .before .before .before .before .before .collection-place) .result) ((c .before .before .before .before .before .collection-place) .ensures) m e (let k = (c .before .before .before .before .before .before .get8) .ensures in let q = (c .before .before .before .before .if1) .taken in omega arith)) _
 
 mul-collection-at : tie.Need-mul-collection-at
 mul-collection-at c = search needs
@@ -53,7 +50,7 @@ same-length-3 : tie.Need-same-length-3
 same-length-3 c = search needs
 
 returns-2 : tie.Need-returns-2
-returns-2 c = let a = (c .before .before .before .before .before .before .before .before .before .before .before .before .before .before .before .before .before .before .before .args) in (c .before .before .before .before .know-row) .ensures (collectionsAt (a .map .now)) (λ m e. metric-some (nodeAt (a .header .now)) (collectionsAt (a .map .now)) (a .row) (collections-fit (a .map .now) ((c .before .before .before .before .before .before .before .before .before .before .before .before .before .before .before .before .before .before .before .pre) .3)) ((c .before .before .before .before .before .before .before .before .before .before .collection-place) .result) ((c .before .before .before .before .before .before .before .before .before .before .collection-place) .ensures) m e noCollection (let k = (c .before .before .before .before .before .before .before .before .before .before .before .get8) .ensures in let q = (c .before .before .before .before .before .before .before .before .before .if1) .left in omega arith)
+returns-2 c = let a = (c .before .before .before .before .before .before .before .before .before .before .before .before .before .before .before .before .before .before .before .args) in (c .before .before .before .before .know-row) .ensures (collectionsAt (a .map .now)) (λ m e. metric-some (collectionsAt (a .map .now)) (a .row) (collections-fit (a .map .now) ((c .before .before .before .before .before .before .before .before .before .before .before .before .before .before .before .before .before .before .before .pre) .3)) ((c .before .before .before .before .before .before .before .before .before .before .collection-place) .result) ((c .before .before .before .before .before .before .before .before .before .before .collection-place) .ensures) m e noCollection (let k = (c .before .before .before .before .before .before .before .before .before .before .before .get8) .ensures in let q = (c .before .before .before .before .before .before .before .before .before .if1) .left in omega arith)
     ∙ ap (λ (x : CollectionRow). some (x .spec .metric)) (collection-row (a .map .now) ((c .before .before .before .before .before .before .before .before .before .before .before .before .before .before .before .before .before .before .before .pre) .3) ((c .before .before .before .before .before .before .before .before .before .before .collection-place) .result) noCollection (let k = (c .before .before .before .before .before .before .before .before .before .before .before .get8) .ensures in let q = (c .before .before .before .before .before .before .before .before .before .if1) .left in omega arith) ∙ sym ((c .before .before .before .before .before .before .before .before .collection-at) .ensures)))
 
 pub take-row-spec : {M : Type 1} → statement M
