@@ -1,1 +1,3 @@
+pub mod OfCommand
+pub mod OfApply
 pub mod Ways

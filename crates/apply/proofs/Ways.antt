@@ -17,8 +17,8 @@ use Rattle.state.specs.declared.Request.{Request}
 use Rattle.requests.specs.Read.{Within}
 use Rattle.mapcheck.specs.Lent.{wellFormedLent}
 use Rattle.mapcheck.proofs.Formed.{lent-tables, lent-formed}
-use Rattle.settle.specs.Applied.{Settleable, SettledAs}
-use Rattle.settle.specs.declared.Settled.{Settled}
+use Rattle.apply.specs.Applied.{Settleable, SettledAs}
+use Rattle.apply.specs.declared.Settled.{Settled}
 use Rattle.apply.specs.Calls.{applyLent, AppliesBytes}
 
 module _ (m : ShardMap) (bytes : List ℕ) where
@@ -34,7 +34,7 @@ module _ (m : ShardMap) (bytes : List ℕ) where
 
   module _ (q : request.Request) (e : decodeRequest bytes ≡ some q) where
     -- the definition's call on what was read, by the test of the map
-    called : (b : Bool) → wellFormedLent m ≡ b
+    pub called : (b : Bool) → wellFormedLent m ≡ b
         → applyLent m (decodeRequest bytes) ≡ cond b (define.apply (viewMap m) q) (refusedWith (viewMap m) malformed)
     called b w =
         ap (applyLent m) e ∙ ap (λ (x : Bool). cond x (define.apply (viewMap m) q) (refusedWith (viewMap m) malformed)) w

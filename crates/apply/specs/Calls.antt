@@ -14,7 +14,7 @@ use Rattle.state.specs.Counted.{TablesCounted}
 use Rattle.state.specs.View.{answerOf, viewMap}
 use Rattle.state.specs.declared.ShardMap.{ShardMap}
 use Rattle.mapcheck.specs.Lent.{wellFormedLent}
-use Rattle.settle.specs.declared.Settled.{Settled}
+use Rattle.apply.specs.declared.Settled.{Settled}
 
 -- model's applyDecoded, where the test of the map (24) is that of the lent arrays
 abbrev pub applyLent : ShardMap → Option Request → Applied

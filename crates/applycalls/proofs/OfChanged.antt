@@ -30,8 +30,8 @@ use Rattle.state.specs.declared.ShardRow.{ShardRow}
 use Rattle.state.specs.declared.ShardMap.{ShardMap}
 use Rattle.state.specs.declared.Verdict.{Verdict}
 use Rattle.changes.specs.Taken.{Takes}
-use Rattle.commands.specs.Decided.{Decided}
-use Rattle.commands.proofs.OfCommand.{decide-of, commit-of, change-accepts}
+use Rattle.apply.specs.Decided.{Decided}
+use Rattle.apply.proofs.OfCommand.{decide-of, commit-of, change-accepts}
 use Rattle.maprows.specs.Rows.{shardAt}
 use Rattle.mapimage.specs.Image.{noShard, shardsAt, mapAt}
 use Rattle.mapput.specs.Few.{Few}

@@ -21,7 +21,7 @@ use Rattle.state.specs.declared.Command.the-variants.{Create, Drop, Bench}
 use Rattle.state.specs.declared.Request.{Request}
 use Rattle.state.specs.declared.Spec.{Spec}
 use Rattle.state.specs.declared.Verdict.{Verdict}
-use Rattle.commands.specs.Decided.{Decided}
+use Rattle.apply.specs.Decided.{Decided}
 use Rattle.mapimage.specs.Image.{mapAt}
 use Rattle.mapput.specs.Rows.{readAs}
 use Rattle.mapput.proofs.OfWhole.{read-as}

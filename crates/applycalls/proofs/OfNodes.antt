@@ -26,7 +26,7 @@ use Rattle.state.specs.declared.NodeRow.{NodeRow}
 use Rattle.state.specs.declared.Request.{Request}
 use Rattle.state.specs.declared.ShardMap.{ShardMap}
 use Rattle.state.specs.declared.Verdict.{Verdict}
-use Rattle.commands.specs.Decided.{Decided}
+use Rattle.apply.specs.Decided.{Decided}
 use Rattle.maprows.specs.Rows as rows
 use Rattle.mapimage.specs.Image.{noNode, nodesAt, mapAt}
 use Rattle.mapput.specs.Few.{Few}

@@ -31,9 +31,9 @@ use Rattle.state.specs.declared.Request.{Request}
 use Rattle.state.specs.declared.SessionRow.{SessionRow}
 use Rattle.state.specs.declared.ShardMap.{ShardMap}
 use Rattle.state.specs.declared.Verdict.{Verdict}
-use Rattle.commands.specs.Decided.{Decided}
-use Rattle.settle.specs.Applied.{Settleable, SettledAs}
-use Rattle.settle.proofs.OfApply.{settle-answer, kept, settled, applied-place, applied-map, rejected-place, rejected-map, refused-map, changes, unseen-new, unseen-later}
+use Rattle.apply.specs.Decided.{Decided}
+use Rattle.apply.specs.Applied.{Settleable, SettledAs}
+use Rattle.apply.proofs.OfApply.{settle-answer, kept, settled, applied-place, applied-map, rejected-place, rejected-map, refused-map, changes, unseen-new, unseen-later}
 use Rattle.image.specs.Shape.{items}
 use Rattle.image.proofs.Images.{length-items}
 use Rattle.maprows.specs.Rows.{sessionAt}

@@ -18,8 +18,8 @@ use Rattle.state.specs.View.{answerOf, viewCommand, viewMap, viewNodes, viewReq
 use Rattle.state.specs.declared.Request.{Request}
 use Rattle.state.specs.declared.ShardKey.{ShardKey}
 use Rattle.state.specs.declared.Verdict.{Verdict}
-use Rattle.settle.specs.Applied.{Settleable, DecidedNow, Unseen, SettledAs}
-use Rattle.settle.specs.declared.Settled.{Settled}
+use Rattle.apply.specs.Applied.{Settleable, DecidedNow, Unseen, SettledAs}
+use Rattle.apply.specs.declared.Settled.{Settled}
 use Rattle.mapimage.specs.Image.{mapAt, nodesAt, shardsAt, sessionsAt, MapWrites}
 use Rattle.mapcalls.specs.Calls.{noted}
 use Rattle.mapput.specs.Few.{Few}

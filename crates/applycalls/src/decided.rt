@@ -1,6 +1,6 @@
 // What a request is answered on a map that passed its test (24), with nothing changed yet: the one place where a verdict is made.
 ghost use Rattle.mapimage.specs.Image.{mapAt};
-ghost use Rattle.commands.specs.Decided.{Decided};
+ghost use Rattle.apply.specs.Decided.{Decided};
 ghost use Rattle.applycalls.specs.Settles.{Ready, Fresh, Known, Decides};
 use crate::Decision;
 use crate::answers::change_answer;

@@ -5,7 +5,7 @@ ghost use mathlib.Core.List.{[]};
 ghost use Rattle.model.specs.Map.Apply.{setsVersion};
 ghost use Rattle.state.specs.View.{viewCommand};
 ghost use Rattle.mapimage.specs.Image.{mapAt};
-ghost use Rattle.commands.specs.Decided.{Decided};
+ghost use Rattle.apply.specs.Decided.{Decided};
 ghost use Rattle.applycalls.specs.Settles.{Accepted, Fresh, Settles, Taken};
 use crate::changed::change_shard;
 use crate::nodes::mark_dead;

@@ -1,2 +1,3 @@
+pub mod OfList
 pub mod OfWalk
 pub mod OfCreate

@@ -1,33 +1,28 @@
-// Below `commands`: Create's answer (2, 3, 4, 5, 23), with nothing changed yet. Internal: hosts call `settle`. The
-// shards that it would make are crate `newshards`; what is answered is model's Map.Create.
+// What Create asks of a spec and of a placement's lists, and what a list makes of a new shard (paper 01, 'The shard map'; model's Map.Create).
+// Internal: the calls over a map's image are crate `mapcreates`.
 ghost use mathlib.Core.Path.{_≡_};
+ghost use mathlib.Core.List.{[]};
 ghost use Prim.Native.Nat.{_≤_};
-ghost use Rattle.model.specs.Lists.{every};
-ghost use Rattle.model.specs.Map.Create.{zeroIn, listMatches, nodeAt, isAlive, firstNotAlive, createAnswer};
-ghost use Rattle.state.specs.Names.{viewName};
-ghost use Rattle.state.specs.Counted.{TablesCounted};
-ghost use Rattle.state.specs.View.{viewNodes, viewSpec, viewPlacement, viewMap, answerOf};
-ghost use Rattle.creating.specs.Walk.{walkedOf};
+ghost use lib.ListN.{length};
+ghost use Rattle.model.specs.Lists.{every, nth};
+ghost use Rattle.model.specs.Map.Create.{addAll, listMatches, zeroIn};
+ghost use Rattle.state.specs.View.{viewInSync, viewList, viewPlacement, viewPrimary, viewSpec};
 use model::DataNodeId;
-use newshards::list_size;
-use newshards::with_shards;
-use state::Name;
-use state::Nodes;
+use state::InSync;
+use state::NodeList;
 use state::Placement;
-use state::Refusal;
-use state::Rejection;
-use state::ShardKey;
-use state::ShardMap;
+use state::Primary;
 use state::Spec;
-use state::Verdict;
-use state::Walked;
-use state::answers::applied;
-use state::answers::refused;
-use state::answers::rejected;
-use state::collection_table::collection_at;
-use state::node_table::node_at;
+use state::holders_of::synced_added;
 
-// Internal: 3, a zero in the spec.
+// How many nodes a list has.
+pub fn list_size(l: NodeList) -> usize
+    ensures { λ r. ⌜ (r ≡ length (viewList l)) × (r ≤ 8) ⌝ }
+{
+    if l.count < 8 { l.count } else { 8 }
+}
+
+// 3, a zero in the spec.
 pub fn zero_in(s: Spec) -> bool
     ensures { λ r. ⌜ r ≡ zeroIn (viewSpec s) ⌝ }
 {
@@ -43,7 +38,7 @@ pub fn zero_in(s: Spec) -> bool
     false
 }
 
-// Internal: 4: as many lists as shards, each with a node and no more than the replication.
+// 4: as many lists as shards, each with a node and no more than the replication.
 pub fn lists_match(p: Placement, replication: u32) -> bool
     requires { ⌜ p .count ≤ 16 ⌝ }
     ensures { λ r. ⌜ r ≡ every (listMatches replication) (viewPlacement p) ⌝ }
@@ -65,80 +60,33 @@ pub fn lists_match(p: Placement, replication: u32) -> bool
     true
 }
 
-// Internal: whether the map knows the node as alive.
-pub fn is_alive(t: Nodes, node: DataNodeId) -> bool
-    requires { ⌜ t .count ≤ 32 ⌝ }
-    ensures { λ r. ⌜ r ≡ isAlive (nodeAt (viewNodes t) (node .0)) ⌝ }
+// The in-sync set of a new shard: a repeated node is in it once.
+pub fn listed_synced(list: NodeList) -> InSync
+    ensures { λ r. ⌜ (viewInSync r ≡ addAll [] (viewList list)) × (r .count ≤ 8) ⌝ }
 {
-    let count = t.count;
-    let at = node_at(t, node);
-    if at < count {
-        return t.items[at].alive;
+    let n = list_size(list);
+    let mut out = InSync {
+        items: [DataNodeId(0); 8],
+        count: 0,
+    };
+    let mut j: usize = 0;
+    while j < n {
+        let node = list.nodes[j];
+        let more = synced_added(out, node);
+        out = more;
+        j += 1;
     }
-    false
+    out
 }
 
-// Internal: 5: the first node not alive, in placement order, ends both walks.
-fn walk(t: Nodes, p: Placement) -> Walked
-    requires { ⌜ (t .count ≤ 32) × (p .count ≤ 16) ⌝ }
-    ensures { λ r. ⌜ r ≡ walkedOf (firstNotAlive (viewNodes t) (viewPlacement p)) ⌝ }
+// The first node of a list is the primary.
+pub fn first_of(list: NodeList) -> Primary
+    ensures { λ r. ⌜ viewPrimary r ≡ nth (viewList list) 0 ⌝ }
 {
-    let lists = p.count;
-    let mut i: usize = 0;
-    let found: Walked = 'lists: loop {
-        if lists <= i {
-            break 'lists Walked::All;
-        }
-        let list = p.lists[i];
-        let n = list_size(list);
-        let mut j: usize = 0;
-        while j < n {
-            let node = list.nodes[j];
-            if !is_alive(t, node) {
-                break 'lists Walked::NotAlive(node);
-            }
-            j += 1;
-        }
-        i += 1;
-    };
-    found
-}
-
-// Internal: 2, 3, 4, 5, 23: a function of the map, the name, the spec and the placement alone.
-pub fn create_answer(m: ShardMap, name: Name, spec: Spec, p: Placement) -> Verdict
-    requires { ⌜ (TablesCounted m) × (p .count ≤ 16) ⌝ }
-    ensures { λ v. ⌜ answerOf v ≡ createAnswer (viewMap m) (viewName name) (viewSpec spec) (viewPlacement p) ⌝ }
-{
-    let key = ShardKey {
-        collection: name,
-        shard: 0,
-    };
-    let count = m.collections.count;
-    let at = collection_at(m.collections, name);
-    if at < count {
-        return rejected(Rejection::Exists, key);
+    let n = list_size(list);
+    if n == 0 {
+        return Primary::Nobody;
     }
-    if zero_in(spec) {
-        return rejected(Rejection::ZeroSpec, key);
-    }
-    let shards = spec.shards as usize;
-    let lists = p.count;
-    if lists != shards {
-        return rejected(Rejection::PlacementMismatch, key);
-    }
-    if !lists_match(p, spec.replication) {
-        return rejected(Rejection::PlacementMismatch, key);
-    }
-    let walked = walk(m.nodes, p);
-    if let Walked::NotAlive(node) = walked {
-        return rejected(Rejection::NotAlive(node), key);
-    }
-    if 16 <= count {
-        return refused(Refusal::NoRoom);
-    }
-    let grown = with_shards(m.shards, m.nodes, name, p);
-    if grown.full {
-        return refused(Refusal::NoRoom);
-    }
-    applied()
+    let node = list.nodes[0];
+    Primary::At(node)
 }

@@ -25,7 +25,7 @@ use Rattle.run.proofs.Created.{DistinctIds, asked, info, created, shown-holder,
 use Rattle.state.specs.View.{viewMap}
 use Rattle.state.specs.declared.ShardMap.{ShardMap}
 use Rattle.mapcheck.specs.Lent.{wellFormedLent}
-use Rattle.settle.specs.declared.Settled.{Settled}
+use Rattle.apply.specs.declared.Settled.{Settled}
 use Rattle.apply.specs.Calls.{applyLent, AppliesBytes}
 use Rattle.serve.specs.View.{viewExpiry}
 use Rattle.header.specs.declared.Node.{Node}

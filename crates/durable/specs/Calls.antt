@@ -43,7 +43,7 @@ use Rattle.run.specs.Event.{
   outcomeTimesOut,
 }
 use Rattle.state.specs.View.{answerOf}
-use Rattle.settle.specs.declared.Settled.{Settled}
+use Rattle.apply.specs.declared.Settled.{Settled}
 use Rattle.apply.specs.Calls.{AppliesBytes}
 use Rattle.node.specs.declared.Sent.{Sent}
 use Rattle.node.specs.declared.Sent.the-variants as S

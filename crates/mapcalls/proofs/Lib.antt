@@ -1,5 +1,4 @@
 pub mod OfNumbers
-pub mod OfLent
 pub mod Kept
 pub mod OfFormed
 pub mod OfApply

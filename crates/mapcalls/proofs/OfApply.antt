@@ -14,7 +14,7 @@ use Rattle.model.proofs.Lists.{and-left, not-both}
 use Rattle.state.specs.View.{answerOf}
 use Rattle.state.specs.declared.ShardMap.{ShardMap}
 use Rattle.mapcheck.specs.Lent.{wellFormedLent}
-use Rattle.settle.specs.declared.Settled.{Settled}
+use Rattle.apply.specs.declared.Settled.{Settled}
 use Rattle.apply.specs.Calls.{AppliesBytes, applyLent}
 use Rattle.mapimage.specs.Image.{codesListed, mapAt, mapLent, mapStored, MapWrites}
 use Rattle.mapcalls.specs.Calls.{unlentOf, unlentNumber, noted, appliedTo, AppliesImage, AppliesTo}

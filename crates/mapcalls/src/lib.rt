@@ -6,8 +6,7 @@ ghost use Prim.Native.Nat.{_≤_};
 ghost use lib.ListN.{length};
 ghost use Rattle.model.specs.Map.Tables.{emptyMap};
 ghost use Rattle.mapimage.specs.Image.{mapStored};
-ghost use Rattle.mapcalls.specs.Calls.{Empties, unlentNumber};
-use rpc::Message;
+ghost use Rattle.mapcalls.specs.Calls.{Empties};
 
 pub mod lists;
 pub mod numbers;
@@ -34,15 +33,4 @@ pub fn empty_map(map: &mut [u8]) -> u32
     }
     put_empty(map);
     0
-}
-
-// Internal: the answer where no map is lent: 21 comes before 24.
-pub fn unlent_number(request: &[u8]) -> u32
-    ensures { λ r. ⌜ r ≡ unlentNumber (now (request .entry)) ⌝ }
-{
-    let message = rpc::decode(request);
-    let Message::Request(_) = message else {
-        return 21;
-    };
-    24
 }

@@ -5,8 +5,6 @@ use mathlib.Core.Bool.{Bool, true}
 use lib.Dec.{eqb, leb}
 use Rattle.model.specs.Lists.{_and_, _or_, every, rising}
 use Rattle.model.specs.Limits.{maxName, maxAddress}
-use Rattle.model.specs.Keys as keys
-use Rattle.model.specs.Keys.{nameBelow, sameName}
 use Rattle.model.specs.Map.Change.{idBelow, holds}
 use Rattle.model.specs.Map.Create.{collectionBelow, shardBelow}
 use Rattle.model.specs.Map.Apply.{nodeBelow, sessionBelow}
@@ -124,10 +122,6 @@ shardUnder a b = shardBelow (viewShard a) (viewShard b)
 
 abbrev pub sessionUnder : SessionRow → SessionRow → Bool
 sessionUnder a b = sessionBelow (viewSession a) (viewSession b)
-
--- the source's order of keys, with the order of the numbers given: by name, then by that
-unfoldable pub belowOr : keys.Name → keys.Name → Bool → Bool
-belowOr a b level = nameBelow a b or (sameName a b and level)
 
 -- the row at a place stands above the one before it, if there is one, and is right by itself
 unfoldable pub follows {ℓ} : {A : Type ℓ} → (A → A → Bool) → (A → Bool) → ℕ → A → A → Bool

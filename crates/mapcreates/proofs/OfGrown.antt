@@ -9,7 +9,7 @@ use Rattle.model.specs.Lists.{put}
 use Rattle.model.specs.Map.Create.{Placement, newShard, shardBelow, withShards}
 use Rattle.model.specs.Map.Tables as tables
 use Rattle.model.proofs.Map.Rows.{put-least}
-use Rattle.newshards.proofs.OfList.{open-shards, shards-end, shards-least}
+use Rattle.creating.proofs.OfList.{open-shards, shards-end, shards-least}
 use Rattle.mapput.specs.Few.{Few}
 use Rattle.mapput.specs.Rows.{readAs}
 use Rattle.mapedits.specs.Becomes.{Apart, ShardsBecome}

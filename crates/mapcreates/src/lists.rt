@@ -7,7 +7,7 @@ ghost use Rattle.creating.specs.Walk.{walkedOf};
 ghost use Rattle.mapput.specs.Few.{Few};
 ghost use Rattle.mapput.specs.Rows.{readAs};
 use crate::nodes::is_alive;
-use newshards::list_size;
+use creating::list_size;
 use state::Placement;
 use state::Walked;
 

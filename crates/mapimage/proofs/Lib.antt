@@ -2,4 +2,3 @@ pub mod OfImage
 pub mod Canon
 pub mod Tables
 pub mod Back
-pub mod Types

@@ -15,7 +15,7 @@ use Rattle.model.specs.Map.Apply.{Applied, apply, applyTo, settle, decide, sess
 use Rattle.model.specs.Map.Calls.{reasonNumber}
 use Rattle.model.specs.Layout.Request.{Request}
 use Rattle.model.proofs.Lists.{by-test, not-both}
-use Rattle.settle.proofs.OfApply.{settle-answer}
+use Rattle.apply.proofs.OfApply.{settle-answer}
 use Rattle.mapcalls.proofs.Kept.{Now, decide-now}
 
 -- 1 to 16

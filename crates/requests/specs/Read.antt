@@ -8,16 +8,13 @@ use Rattle.model.specs.Limits.{maxName, maxAddress, maxLists}
 use Rattle.model.specs.Layout.Format.{word, next, value, valueN}
 use Rattle.model.specs.Layout.Parts.{whenever}
 use Rattle.model.specs.Layout.Request as request
-use Rattle.model.specs.Map.Tables.{emptyMap}
-use Rattle.model.specs.Map.WellFormed.{wellFormedMap, commandFits}
+use Rattle.model.specs.Map.WellFormed.{commandFits}
 use Rattle.rpc.specs.declared.Part.{Part}
 use Rattle.rpc.specs.declared.CommandPart.{CommandPart}
 use Rattle.rpc.specs.declared.CommandPart.the-variants as part
 use Rattle.rpc.specs.declared.RequestPart.{RequestPart}
-use Rattle.state.specs.Counted.{TablesCounted}
-use Rattle.state.specs.View.{viewCommand, viewMap, viewRequest}
+use Rattle.state.specs.View.{viewCommand, viewRequest}
 use Rattle.state.specs.declared.Request.{Request}
-use Rattle.state.specs.declared.ShardMap.{ShardMap}
 use Rattle.texts.specs.Texts.{bytesAt, keyIn}
 use Rattle.requests.specs.Parts.{listsAt, listedRows}
 use Rattle.requests.specs.declared.Loaded.{Loaded}
@@ -57,13 +54,6 @@ paddingOf (request.promotePrimary k n e) = []
 paddingOf (request.shrinkInSync k n e) = []
 paddingOf (request.expandInSync k n e) = []
 paddingOf (request.bench bs) = bs
-
--- ---- the map that requests are first applied to
-
-pub record Starts (m : ShardMap) : Type 0 where
-  pub view : viewMap m ≡ emptyMap
-  pub counted : TablesCounted m
-  pub formed : wellFormedMap (viewMap m) ≡ true
 
 -- ---- the struct
 

@@ -12,7 +12,6 @@ use state::Request;
 mod command;
 mod lists;
 pub mod load;
-pub mod start;
 
 // A request that was read, and the position after it. Where none was, the request is free.
 pub struct Loaded {

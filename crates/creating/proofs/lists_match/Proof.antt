@@ -15,7 +15,7 @@ use Rattle.creating.proofs.lists_match.Statement.{statement}
 use Rattle.creating.proofs.lists_match.Tie as tie
 use Rattle.creating.proofs.lists_match.Reads as reads
 use Rattle.creating.proofs.lists_match.Lts as lts
-use Rattle.newshards.proofs.list_size.Reads as list-size-reads
+use Rattle.creating.proofs.list_size.Reads as list-size-reads
 
 abbrev Inv-loop : tie.InvT-loop
 Inv-loop replication p most count i₀ i =

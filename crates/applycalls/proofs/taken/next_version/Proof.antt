@@ -6,7 +6,7 @@ use mathlib.Core.List.{List, [], _∷_, _++_}
 use Prim.Native.Nat.{ℕ, _+_, _-_, _*_, _≤_, _<_}
 use lib.ListN.{length, getD, take, drop, set}
 use mathlib.Core.Bool.{Bool, cond}
-use Rattle.commands.proofs.OfCommand.{notBench, sets-by}
+use Rattle.apply.proofs.OfCommand.{notBench, sets-by}
 use Rattle.applycalls.proofs.taken.next_version.Statement.{statement}
 use Rattle.applycalls.proofs.taken.next_version.Tie as tie
 

@@ -16,14 +16,14 @@ use Rattle.creating.specs.Walk.{walkedOf}
 use Rattle.state.proofs.Defaults.{noList, noId}
 use Rattle.mapcreates.proofs.OfLists.{ends}
 use Rattle.creating.proofs.OfWalk.{open-list, no-list, node-on, node-stop, nodes-end}
-use Rattle.newshards.proofs.OfList.{list-row}
+use Rattle.creating.proofs.OfList.{list-row}
 use Rattle.state.proofs.Tables.{used-size, used-row, of-field}
 use Rattle.mapcreates.proofs.lists.walk.Statement.{statement}
 use Rattle.mapcreates.proofs.lists.walk.Tie as tie
 use Rattle.mapcreates.proofs.lists.walk.Reads as reads
 use Rattle.mapcreates.proofs.lists.walk.Lts as lts
 use Rattle.mapcreates.proofs.nodes.is_alive.Reads as is-alive-reads
-use Rattle.newshards.proofs.list_size.Reads as list-size-reads
+use Rattle.creating.proofs.list_size.Reads as list-size-reads
 
 abbrev Inv-loop : tie.InvT-loop
 Inv-loop map p lists i list n j₀ j =

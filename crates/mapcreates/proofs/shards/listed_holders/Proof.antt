@@ -12,7 +12,7 @@ use Rattle.model.specs.declared.DataNodeId.{DataNodeId}
 use Rattle.model.specs.declared.Replica.{Replica}
 use Rattle.state.specs.View.{viewList, viewHolders}
 use Rattle.state.proofs.Defaults.{noId}
-use Rattle.newshards.proofs.OfList.{list-row, more-holders}
+use Rattle.creating.proofs.OfList.{list-row, more-holders}
 use Rattle.mapput.specs.Rows.{readAs}
 use Rattle.mapcreates.proofs.shards.listed_holders.Statement.{statement}
 use Rattle.mapcreates.proofs.shards.listed_holders.Tie as tie

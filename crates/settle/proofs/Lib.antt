@@ -1,2 +1,0 @@
-pub mod OfApply
-pub mod OfDecoded
