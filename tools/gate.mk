@@ -1,9 +1,15 @@
-# Around the gate: wrong programs beyond those that it tries, the lines of crates.txt, where its time goes. These targets need the
-# Rattle toolchain and Python 3; the gate needs neither Python nor this file.
-.PHONY: wrong depends times
+# Around the gate: wrong programs beyond those that it tries, proofs from their short forms, the lines of crates.txt, where its time goes.
+# These targets need the Rattle toolchain (but for proofs-test) and Python 3; the gate needs neither Python nor this file.
+.PHONY: wrong proofs proofs-test depends times
 
 wrong: ## every wrong program of crates/*/wrong is refused, tried over the modules of the last proof ([CRATE=name], [WRONG=--must-fail])
 	@tools/wrong $(WRONG) $(CRATE)
+
+proofs: ## every Proof.antt whose short form (crates/*/short) names other places than it has ([CRATE=name])
+	@tools/proofs $(CRATE)
+
+proofs-test: ## every short form and its Proof.antt agree; needs no toolchain ([CRATE=name])
+	@tools/proofs --test $(CRATE)
 
 depends: ## which entries of crates.txt name a crate that nothing uses
 	@tools/depends
