@@ -18,7 +18,7 @@ use Rattle.node.proofs.OfRows.{row-there, row-absent}
 use Rattle.headerrows.specs.Rows.{peersAt, keptF, keptOf, keptAt}
 use Rattle.headerbytes.proofs.OfRows.{peers-long, peer-row}
 use Rattle.headerset.proofs.OfPlace.{node-at}
-use Rattle.mapput.proofs.OfBytes.{value-same}
+use Rattle.moves.proofs.OfBytes.{value-same}
 
 -- ---- those that pass
 

@@ -22,8 +22,8 @@ use Rattle.rowbytes.proofs.OfBytes.{value-past, drop-after}
 use Rattle.headerput.proofs.OfBack.{used-rows}
 use Rattle.headerset.proofs.OfParts.{whole, take-before, value-before, drop-past, part-set}
 use Rattle.headerset.proofs.OfSet.{writes-same, back-over}
-use Rattle.mapput.proofs.OfBytes.{Same, value-same, items-same}
-use Rattle.mapedits.proofs.OfSets.{sets-in}
+use Rattle.moves.proofs.OfBytes.{Same, value-same, items-same}
+use Rattle.moves.proofs.OfMoves.{sets-in}
 use Rattle.shownslots.specs.Slots.{openFits}
 use Rattle.shownwalk.specs.Seats.{rowsIn, Seated, holding, HeaderTakes}
 

@@ -49,8 +49,8 @@ use Rattle.headerset.specs.Row.{RowBecomes}
 use Rattle.headerset.proofs.OfSet.{stored-outside, outside-then, row-as}
 use Rattle.headerset.proofs.OfPlace.{in-array, place-in, place-out, row-is, held-is, peers-few}
 use Rattle.headergrow.specs.Begun.{begunSet}
-use Rattle.mapput.proofs.OfBytes.{value-same}
-use Rattle.mapedits.proofs.OfSets.{sets-in}
+use Rattle.moves.proofs.OfBytes.{value-same}
+use Rattle.moves.proofs.OfMoves.{sets-in}
 use Rattle.shown.specs.declared.Start.{Start}
 use Rattle.shown.specs.Rows.{Taken, viewStart, viewTaken, placeOf, SlotFrom, opens, stays, listedShown}
 use Rattle.headercalls.specs.Shows.{startBytes}
