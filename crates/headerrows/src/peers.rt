@@ -3,7 +3,7 @@ ghost use mathlib.Core.Path.{_≡_};
 ghost use Prim.Native.Nat.{_+_, _≤_};
 ghost use lib.ListN.{length};
 ghost use Rattle.image.specs.Shape.{Stored};
-ghost use Rattle.headerrows.specs.Rows.{weigh, peerFlags, peerAt, peerBytes, peersAt, peersBytes};
+ghost use Rattle.headerrows.specs.Rows.{weigh, peerFlags, peerAt, peerBytes};
 use model::DataNodeId;
 use model::Offset;
 use model::Peer;
@@ -49,37 +49,4 @@ pub fn put_peer(out: &mut [u8], at: usize, p: Peer)
     num::put8(out, at + 16, p.since);
     num::put4(out, at + 24, flags);
     num::put4(out, at + 28, 0);
-}
-
-pub fn peers_at(s: &[u8], at: usize) -> [Peer; 32]
-    requires { ⌜ at + 1024 ≤ length (now s) ⌝ }
-    ensures { λ r. ⌜ r ≡ peersAt (now (s .entry)) at ⌝ }
-{
-    let none = Peer {
-        node: DataNodeId(0),
-        acked: Offset(0),
-        aligned: false,
-        behind: false,
-        since: 0,
-        proposing: false,
-        member: false,
-    };
-    let mut out = [none; 32];
-    let mut i: usize = 0;
-    while i < 32 {
-        out[i] = peer_at(s, at + 32 * i);
-        i += 1;
-    }
-    out
-}
-
-pub fn put_peers(out: &mut [u8], at: usize, ps: [Peer; 32])
-    requires { ⌜ at + 1024 ≤ length (now out) ⌝ }
-    ensures { λ r. ⌜ Stored (now (out .entry)) (now (out .exit)) at (peersBytes ps) 1024 ⌝ }
-{
-    let mut i: usize = 0;
-    while i < 32 {
-        put_peer(out, at + 32 * i, ps[i]);
-        i += 1;
-    }
 }

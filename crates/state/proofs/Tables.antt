@@ -7,7 +7,7 @@ use mathlib.Core.Option.{Option, none, some}
 use Prim.Native.Nat.{ℕ, zero, suc, _+_, _-_, _≤_, _<_}
 use native.Mathlib.Numerals.{add-one}
 use native.Mathlib.Omega.{arith}
-use lib.ListN.{length, take, drop, getD, set, length-map, length-append, length-set, drop-of-length-le, take-append-drop, List·getD-map}
+use lib.ListN.{length, take, drop, getD, set, length-map, length-append, drop-of-length-le, take-append-drop, List·getD-map}
 use lib.Seq.{drop-cons, take-suc, take-suc-set, drop-set-lt, append-snoc, length-take-le, getD-take, take-add, take-at, drop-at, take-append-add, take-set-lt, set-split}
 use Rattle.model.specs.Lists.{find, filter, any, every, lead, put}
 use Rattle.model.specs.Map.Apply.{update}
@@ -196,9 +196,6 @@ module _ {ℓ κ} {A : Type ℓ} {B : Type κ} (v : A → B) where
       pub scan-end : n ≤ i → i ≡ lead p (map v (take n xs))
       scan-end h = lead-end p (map v (take n xs)) i inv (rw used-size h)
 
-    pub scan-most : (p : B → Bool) → lead p (map v (take n xs)) ≤ n
-    scan-most p = rw used-size at (lead-most p (map v (take n xs)))
-
     -- found, at a place that the scan gave
     module _ (p : B → Bool) (at : ℕ) (is : at ≡ firstAt p (map v (take n xs))) where
       pub found : (d : A) → at < n → find p (map v (take n xs)) ≡ some (v (getD xs at d))
@@ -237,10 +234,6 @@ module _ {ℓ κ} {A : Type ℓ} {B : Type κ} (v : A → B) where
           ∙ sym (map-insert (take n xs) at x)
 
       -- how long the table is then
-      pub over-size : (d : A) → at < n → lt (v x) (v (getD xs at d)) ≡ false → length (put lt (v x) (map v (take n xs))) ≡ n
-      over-size d h e =
-          sym (ap length (put-row d h e)) ∙ length-map (take n (set xs at x)) v ∙ length-take-le n (set xs at x) (rw (length-set xs at x) le)
-
       pub insert-size : (d : A) → (at < n → lt (v x) (v (getD xs at d)) ≡ true) → length (put lt (v x) (map v (take n xs))) ≡ n + 1
       insert-size d e =
           let q = ap length (insert-row d e) ∙ length-map (insertAt (take n xs) at x) v ∙ length-append (take at (take n xs)) (x ∷ drop at (take n xs)) in

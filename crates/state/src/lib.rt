@@ -1,5 +1,5 @@
-// The shard map (the source's StateMachine, `place` and `replacement`): its tables by value, split, so that a command takes and returns only
-// its own table. What each table is read as stands in specs/View.antt; what a command does, in model's Map.
+// The shard map (the source's StateMachine, `place` and `replacement`): its rows and tables as structs, a request, and an answer. What each is read
+// as stands in specs/View.antt; what a command does, in model's Map. Code works on rows: the tables stand in a map's image.
 ghost use mathlib.Core.Path.{_≡_};
 use model::DataNodeId;
 use model::Epoch;
@@ -7,12 +7,8 @@ use model::Metric;
 use model::Replica;
 
 pub mod answers;
-pub mod collection_table;
 pub mod holders_of;
 pub mod names;
-pub mod node_table;
-pub mod session_table;
-pub mod shard_table;
 
 // A collection's name; bytes past `len` are free.
 pub struct Name {
@@ -201,12 +197,6 @@ pub struct Request {
 pub enum Walked {
     All,
     NotAlive(DataNodeId),
-}
-
-// The shards after a collection's were put in; where they did not all fit, `shards` is free.
-pub struct Grown {
-    pub full: bool,
-    pub shards: Shards,
 }
 
 // One list for each shard of a new collection.
