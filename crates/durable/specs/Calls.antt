@@ -174,7 +174,7 @@ Acks e i (some q) f =
 
 -- ---- proposals and outcomes
 
--- `apply::apply`: a proposal that reaches the map, and its outcome goes under way
+-- apply: a proposal that reaches the map, and its outcome goes under way
 abbrev pub Offers : Engine → (place index seq : ℕ) → Option Offer → Engine → Type 0
 Offers e i index seq none f = f ≡ e
 Offers e i index seq (some o) f =
@@ -199,7 +199,7 @@ Settles e i (some o) f =
 
 -- 'Rules of a run': an event of the engine e leaves f
 unfoldable pub Called : Engine → Event → Engine → Type 0
--- `apply::apply`
+-- apply
 Called e (command bytes) f = (r : Settled) × AppliesBytes (e .map) bytes r × (f ≡ withMap e (r .map))
 -- `hears::show::show`
 Called e (mapShown n fresh) f = (r : NodeShown) × HearsMap (e .nodes n) (e .map) fresh r × (f ≡ withNode e n (r .node))

@@ -36,7 +36,7 @@ pub record ShownFirst (e : Engine) (me incarnation : ℕ) : Type 0 where
   pub promised : HearsMap new (e .map) fresh answer
   pub node : e .nodes me ≡ answer .node
 
--- the map is one that `mapcheck::well_formed` passes; what it is read as is a map with one shard, as Create leaves it. Who is no holder has
+-- the map is well formed (24); what it is read as is a map with one shard, as Create leaves it. Who is no holder has
 -- some id that is no holder's: ids are u64, so that it need not be the number under which the run knows the node. Stores are free
 pub record Begun (e : Engine) : Type 0 where
   pub shard : ShardInfo
