@@ -1,5 +1,5 @@
-// The node's header (paper 01, 'The node'; node.rs, State), by value: what every call of a node is lent. The logs and vectors of its shards
-// are in stores of their own. A call takes the one shard that it names out of the header and puts it back.
+// The node's header (paper 01, 'The node'; node.rs, State), as the type in which contracts speak of it: what every call of a node is lent. The logs
+// and vectors of its shards are in stores of their own. No code makes one: the calls work in the bytes that are read as it.
 use model::DataNodeId;
 use node::AckAnswer;
 use node::Held;

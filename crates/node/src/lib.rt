@@ -1,6 +1,6 @@
-// One held shard of a data node by value (paper 01, 'The node'; node.rs), its rows and its test. The calls on it are crates of their own:
-// `acks`, `waits`, `outcomes`, `onmap`, and those of `serve`, `writes` and `backup`. What a held shard is read as stands in specs/View.antt;
-// what a call does, in model's Node. Whoever holds the node's header takes the one shard out and puts it back.
+// One held shard of a data node (paper 01, 'The node'; node.rs), as the type in which contracts speak of it, and functions on its rows. What
+// the calls do to a row is in crates of its own: `acks`, `waits`, `outcomes`, `onmap`, and those of `serve`, `writes` and `backup`. What a held
+// shard is read as stands in specs/View.antt; what a call does, in model's Node.
 use model::DataNodeId;
 use model::Epoch;
 use model::Metric;

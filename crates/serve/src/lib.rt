@@ -1,5 +1,5 @@
 // What a node decides before it touches a log (paper 01, 'The node'; node.rs: heartbeats, write, search, on_new_epoch, replicate_to): the
-// lease, whether Write and Search are admitted, the worker's step, whether a NewEpoch is taken. On one held shard by value.
+// lease, whether Write and Search are admitted, the worker's step, whether a NewEpoch is taken. Of one held shard.
 pub mod admission;
 pub mod lease;
 
