@@ -20,21 +20,21 @@ target/staticlib/lib%.a: $(ENGINE_SOURCES) | need-rt need-target
 	@make/prove.sh $(@D)/$*.log --library $*
 
 # The engine's programs, and where the targets below find them.
-PROGRAMS := applymap coordinates histories joins loadsheet messages orders outages placements roots searches shards streams
+PROGRAMS := applymap loadsheet test_decode test_join test_log test_losses test_map test_order test_place test_position test_root test_search test_shard_of
 export ENGINE_APPLYMAP ?= target/bin/applymap
-export ENGINE_DECODE ?= target/bin/messages
-export ENGINE_HISTORY ?= target/bin/histories
-export ENGINE_JOIN ?= target/bin/joins
+export ENGINE_DECODE ?= target/bin/test_decode
+export ENGINE_HISTORY ?= target/bin/test_log
+export ENGINE_JOIN ?= target/bin/test_join
 export ENGINE_LOADSHEET ?= target/bin/loadsheet
-export ENGINE_ORDER ?= target/bin/orders
-export ENGINE_LOSSES ?= target/bin/outages
-export ENGINE_PLACEMENT ?= target/bin/placements
-export ENGINE_POSITIONS ?= target/bin/coordinates
+export ENGINE_ORDER ?= target/bin/test_order
+export ENGINE_LOSSES ?= target/bin/test_losses
+export ENGINE_PLACEMENT ?= target/bin/test_place
+export ENGINE_POSITIONS ?= target/bin/test_position
 export ENGINE_REPLAY ?= target/host/replay
-export ENGINE_ROOTS ?= target/bin/roots
-export ENGINE_SEARCH ?= target/bin/searches
-export ENGINE_SHARDOF ?= target/bin/shards
-export ENGINE_STREAMS ?= target/bin/streams
+export ENGINE_ROOTS ?= target/bin/test_root
+export ENGINE_SEARCH ?= target/bin/test_search
+export ENGINE_SHARDOF ?= target/bin/test_shard_of
+export ENGINE_STREAMS ?= target/bin/test_map
 
 programs: need-rt need-target ## the engine's programs, proved, built and run on their stored input (target/bin)
 	@make/prove.sh target/programs.log $(PROGRAMS)

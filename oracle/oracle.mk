@@ -27,7 +27,7 @@ stored: oracle ## makes the stored lists again, byte for byte, with the table of
 stored-positions: ## makes the stored list of positions again, which has no Rust to ask (Python 3)
 	@cd $(ORACLE_ROOT)/oracle && python3 positions.py lines >stored/positions/all.in && \
 	    python3 positions.py answers <stored/positions/all.in >stored/positions/all.out && \
-	    cp stored/positions/all.in ../crates/coordinates/stdin && cp stored/positions/all.out ../crates/coordinates/stdout
+	    cp stored/positions/all.in ../crates/test_position/stdin && cp stored/positions/all.out ../crates/test_position/stdout
 
 stored-check: oracle ## the stored lists are what the oracle answers today
 	@$(ORACLE_BIN)/store --check $(ORACLE_ROOT)/oracle/stored

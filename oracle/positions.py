@@ -1,6 +1,6 @@
 #!/usr/bin/env python3
 """Positions in hours and degrees, read from paper 02, 2.7, and from nothing of the engine: fractions of arcseconds, and the
-machine's own floats. Makes the lists in oracle/stored/positions, which program `coordinates` answers in the gate.
+machine's own floats. Makes the lists in oracle/stored/positions, which program `test_position` answers in the gate.
 
     positions.py lines      the lines that are asked
     positions.py answers    the answers to the lines on standard input

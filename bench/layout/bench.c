@@ -1,4 +1,4 @@
-/* bench-layout: bytes decoded a second, by the engine's reader (crate rpc, through crate benchrpc) and by the plain C
+/* bench-layout: bytes decoded a second, by the engine's reader (crate wire_read, through crate bench_wire) and by the plain C
  * decoder, for each kind of message. Both are first held to each other on every input, whole and with a byte changed,
  * and on the records of the files that the command line names. Then they take turns: a turn is a row of 64 messages
  * several times over, and the medians of many turns are compared. */
@@ -10,7 +10,7 @@
 #include <string.h>
 #include <time.h>
 
-/* crates/benchrpc: a slice is a pointer and a length */
+/* crates/bench_wire: a slice is a pointer and a length */
 uint64_t engine_decode(const uint8_t *s, size_t n);
 
 typedef uint64_t decoder(const uint8_t *, size_t);

@@ -44,7 +44,7 @@ struct message {
 
 void plain_read(struct message *m, const uint8_t *s, size_t n);
 
-/* All of a message in one number, as crate benchrpc makes it; 0 where the bytes are none. */
+/* All of a message in one number, as crate bench_wire makes it; 0 where the bytes are none. */
 uint64_t plain_decode(const uint8_t *s, size_t n);
 
 #endif

@@ -2,7 +2,7 @@
 # and times in turns on the same input. From the repository's root: make bench [PARTS="layout search append adopt map
 # node"]. It needs cargo and the published files (make oracle); no part of the gate.
 BENCH_RUST := target/bench/rust
-BENCH_LIBS := benchshard host
+BENCH_LIBS := bench_log host
 # A search in plain C stands beside the Rust's, and FAISS's exact index where Debian's libfaiss-dev is installed.
 FAISS := $(wildcard /usr/include/faiss/IndexFlat.h)
 BENCH_PEERS := plain.o $(if $(FAISS),faiss.o)

@@ -1,14 +1,14 @@
 // Program `applymap` of paper 01: starts from an empty map and applies the 01 requests that follow one another on
-// standard input, each taken by its own length, until one does not decode or the input ends (crate intake). Of each it
+// standard input, each taken by its own length, until one does not decode or the input ends (crate test_input). Of each it
 // prints the index, the word, the reason and the map's version.
 ghost use Prim.Native.Nat.{_≤_};
 ghost use lib.ListN.{length};
-use intake::LONGEST;
-use intake::Said;
-use intake::drain::drain;
-use intake::input::refill;
-use intake::start::start;
-use lines::print::print;
+use test_input::LONGEST;
+use test_input::Said;
+use test_input::drain::drain;
+use test_input::input::refill;
+use test_input::start::start;
+use test_lines::print::print;
 
 fn print_all(said: Said)
     requires { ⌜ said .count ≤ 328 ⌝ }

@@ -1,6 +1,6 @@
 // What clients send to a node.
-ghost use Rattle.clientcalls.specs.Searched.{SearchesImages};
-ghost use Rattle.clientcalls.specs.Written.{buffers, WritesImages};
+ghost use Rattle.calls_client.specs.Searched.{SearchesImages};
+ghost use Rattle.calls_client.specs.Written.{buffers, WritesImages};
 
 #[no_mangle]
 pub extern "C" fn catalogue_write(
@@ -17,7 +17,7 @@ pub extern "C" fn catalogue_write(
         (buffers (now (header .exit)) (now (stores .exit)) (now (answer .exit)))
         (now (refused .entry)) (now (refused .exit)) clock least (now (message .entry)) r ⌝ }
 {
-    writecalls::write(header, stores, refused, clock, least, message, answer)
+    calls_write::write(header, stores, refused, clock, least, message, answer)
 }
 
 #[no_mangle]
@@ -33,5 +33,5 @@ pub extern "C" fn catalogue_search(
     ensures { λ r. ⌜ SearchesImages (now (header .entry)) (now (stores .entry)) (now (refused .entry)) clock (now (message .entry)) (now (hits .entry))
         (now (answer .entry)) (now (refused .exit)) (now (hits .exit)) (now (answer .exit)) r ⌝ }
 {
-    searchcalls::search(header, stores, refused, clock, message, hits, answer)
+    calls_search::search(header, stores, refused, clock, message, hits, answer)
 }

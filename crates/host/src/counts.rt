@@ -1,5 +1,5 @@
 // How many placements pass (paper 02, 2.14).
-ghost use Rattle.countcalls.specs.Calls.{specGiven, Tallies};
+ghost use Rattle.calls_count.specs.Calls.{specGiven, Tallies};
 
 #[no_mangle]
 pub extern "C" fn catalogue_count_placements(
@@ -16,7 +16,7 @@ pub extern "C" fn catalogue_count_placements(
     ensures { λ r. ⌜ Tallies (now (map .entry)) (now (name .entry)) (specGiven dimension shards replication) (now (ids .entry)) lists nodes
         (now (counts .entry)) (now (counts .exit)) r ⌝ }
 {
-    countcalls::count_placements(
+    calls_count::count_placements(
         map,
         name,
         dimension,

@@ -1,16 +1,16 @@
 // What the map, the clock and peers bring to a node's header.
-ghost use Rattle.headercalls.specs.Acks.{Acks};
-ghost use Rattle.headercalls.specs.Fresh.{Freshens};
-ghost use Rattle.headercalls.specs.Grants.{Grants};
-ghost use Rattle.headercalls.specs.Settles.{Settles};
-ghost use Rattle.headercalls.specs.Shows.{Shows};
-ghost use Rattle.headercalls.specs.Waits.{Waits};
+ghost use Rattle.calls_header.specs.Acks.{Acks};
+ghost use Rattle.calls_header.specs.Fresh.{Freshens};
+ghost use Rattle.calls_header.specs.Grants.{Grants};
+ghost use Rattle.calls_header.specs.Settles.{Settles};
+ghost use Rattle.calls_header.specs.Shows.{Shows};
+ghost use Rattle.calls_header.specs.Waits.{Waits};
 
 #[no_mangle]
 pub extern "C" fn catalogue_fresh_node(header: &mut [u8], id: u64, incarnation: u64) -> u32
     ensures { λ r. ⌜ Freshens (now (header .entry)) (now (header .exit)) id incarnation r ⌝ }
 {
-    showcalls::fresh::fresh_node(header, id, incarnation)
+    calls_show::fresh::fresh_node(header, id, incarnation)
 }
 
 #[no_mangle]
@@ -24,14 +24,14 @@ pub extern "C" fn catalogue_show_map(
     ensures { λ r. ⌜ Shows (now (header .entry)) (now (header .exit)) (now (map .entry)) (now (starts .entry)) (now (starts .exit))
         (now (answer .entry)) (now (answer .exit)) fresh r ⌝ }
 {
-    showcalls::show::show_map(header, map, fresh, starts, answer)
+    calls_show::show::show_map(header, map, fresh, starts, answer)
 }
 
 #[no_mangle]
 pub extern "C" fn catalogue_grant(header: &mut [u8], incarnation: u64, sent: u64, lease: u64) -> u32
     ensures { λ r. ⌜ Grants (now (header .entry)) (now (header .exit)) incarnation sent lease r ⌝ }
 {
-    grantcalls::grant(header, incarnation, sent, lease)
+    calls_grant::grant(header, incarnation, sent, lease)
 }
 
 #[no_mangle]
@@ -49,7 +49,7 @@ pub extern "C" fn catalogue_wait(
     ensures { λ r. ⌜ Waits (now (header .entry)) (now (header .exit)) (now (peers .entry)) (now (peers .exit))
         (now (answer .entry)) (now (answer .exit)) (now (name .entry)) shard epoch offset clock timeout r ⌝ }
 {
-    waitcalls::wait::wait(
+    calls_wait::wait::wait(
         header,
         name,
         shard,
@@ -74,7 +74,7 @@ pub extern "C" fn catalogue_ack(
 ) -> u32
     ensures { λ r. ⌜ Acks (now (header .entry)) (now (header .exit)) (now (name .entry)) (now (reply .entry)) shard epoch peer step r ⌝ }
 {
-    ackcalls::ack::ack(header, name, shard, epoch, peer, step, reply)
+    calls_ack::ack::ack(header, name, shard, epoch, peer, step, reply)
 }
 
 #[no_mangle]
@@ -89,5 +89,5 @@ pub extern "C" fn catalogue_outcome(
 ) -> u32
     ensures { λ r. ⌜ Settles (now (header .entry)) (now (header .exit)) (now (name .entry)) shard epoch peer command applied r ⌝ }
 {
-    outcomecalls::outcome::outcome(header, name, shard, epoch, peer, command, applied)
+    calls_outcome::outcome::outcome(header, name, shard, epoch, peer, command, applied)
 }

@@ -1,5 +1,5 @@
 // Searching a whole collection (paper 02, 2.2).
-ghost use Rattle.joining.specs.Calls.{JoinsFor};
+ghost use Rattle.calls_join.specs.Calls.{JoinsFor};
 
 #[no_mangle]
 pub extern "C" fn catalogue_join(
@@ -11,5 +11,5 @@ pub extern "C" fn catalogue_join(
 ) -> u32
     ensures { λ r. ⌜ JoinsFor shards k (now (answers .entry)) (now (hits .entry)) (now (answer .entry)) (now (hits .exit)) (now (answer .exit)) r ⌝ }
 {
-    joining::join_call(shards, k, answers, hits, answer)
+    calls_join::join_call(shards, k, answers, hits, answer)
 }

@@ -1,5 +1,5 @@
 // Which projector matters (paper 02, 2.9).
-ghost use Rattle.losscalls.specs.Calls.{Loses};
+ghost use Rattle.calls_losses.specs.Calls.{Loses};
 
 #[no_mangle]
 pub extern "C" fn catalogue_place_losses(
@@ -10,5 +10,5 @@ pub extern "C" fn catalogue_place_losses(
 ) -> u32
     ensures { λ r. ⌜ Loses (now (map .entry)) (now (name .entry)) (now (list .entry)) (now (list .exit)) (now (answer .entry)) (now (answer .exit)) r ⌝ }
 {
-    losscalls::place_losses(map, name, list, answer)
+    calls_losses::place_losses(map, name, list, answer)
 }

@@ -1,19 +1,19 @@
 // The shard map.
-ghost use Rattle.mapcalls.specs.Calls.{AppliesTo, Empties};
-ghost use Rattle.mapcalls.specs.Places.{Places, Replaces};
+ghost use Rattle.calls_map.specs.Calls.{AppliesTo, Empties};
+ghost use Rattle.calls_map.specs.Places.{Places, Replaces};
 
 #[no_mangle]
 pub extern "C" fn catalogue_empty_map(map: &mut [u8]) -> u32
     ensures { λ r. ⌜ Empties (now (map .entry)) (now (map .exit)) r ⌝ }
 {
-    mapcalls::empty_map(map)
+    calls_map::empty_map(map)
 }
 
 #[no_mangle]
 pub extern "C" fn catalogue_apply(map: &mut [u8], request: &[u8]) -> u32
     ensures { λ r. ⌜ AppliesTo (now (map .entry)) (now (map .exit)) (now (request .entry)) r ⌝ }
 {
-    applycalls::apply(map, request)
+    calls_apply::apply(map, request)
 }
 
 #[no_mangle]
@@ -25,7 +25,7 @@ pub extern "C" fn catalogue_place(
 ) -> u32
     ensures { λ r. ⌜ Places (now (map .entry)) shards replication (now (lists .entry)) (now (lists .exit)) r ⌝ }
 {
-    placecalls::place(map, shards, replication, lists)
+    calls_place::place(map, shards, replication, lists)
 }
 
 #[no_mangle]
@@ -37,5 +37,5 @@ pub extern "C" fn catalogue_replacement(
 ) -> u32
     ensures { λ r. ⌜ Replaces (now (map .entry)) (now (name .entry)) shard (now (answer .entry)) (now (answer .exit)) r ⌝ }
 {
-    placecalls::replacement(map, name, shard, answer)
+    calls_place::replacement(map, name, shard, answer)
 }

@@ -1,5 +1,5 @@
 // What a primary sends to a node.
-ghost use Rattle.peercalls.specs.PeerCalls.{buffers, ReplicatesImage, AnnouncesImage, CopiesImage};
+ghost use Rattle.calls_peer.specs.PeerCalls.{buffers, ReplicatesImage, AnnouncesImage, CopiesImage};
 
 #[no_mangle]
 pub extern "C" fn catalogue_replicate(
@@ -12,7 +12,7 @@ pub extern "C" fn catalogue_replicate(
         (buffers (now (header .entry)) (now (stores .entry)) (now (reply .entry)))
         (buffers (now (header .exit)) (now (stores .exit)) (now (reply .exit))) r ⌝ }
 {
-    replicatecalls::replicate(header, stores, message, reply)
+    calls_replicate::replicate(header, stores, message, reply)
 }
 
 #[no_mangle]
@@ -26,7 +26,7 @@ pub extern "C" fn catalogue_new_epoch(
         (buffers (now (header .entry)) (now (stores .entry)) (now (reply .entry)))
         (buffers (now (header .exit)) (now (stores .exit)) (now (reply .exit))) r ⌝ }
 {
-    epochcalls::new_epoch(header, stores, message, reply)
+    calls_epoch::new_epoch(header, stores, message, reply)
 }
 
 #[no_mangle]
@@ -40,5 +40,5 @@ pub extern "C" fn catalogue_copy(
         (buffers (now (header .entry)) (now (stores .entry)) (now (reply .entry)))
         (buffers (now (header .exit)) (now (stores .exit)) (now (reply .exit))) r ⌝ }
 {
-    copycalls::copy(header, stores, message, reply)
+    calls_copy::copy(header, stores, message, reply)
 }

@@ -1,5 +1,5 @@
 // Positions in hours and degrees (paper 02, 2.7).
-ghost use Rattle.positioncalls.specs.Calls.{Divides, Places, Vectors};
+ghost use Rattle.calls_position.specs.Calls.{Divides, Places, Vectors};
 
 #[no_mangle]
 pub extern "C" fn catalogue_position(
@@ -14,7 +14,7 @@ pub extern "C" fn catalogue_position(
 ) -> u32
     ensures { λ r. ⌜ Places hours minutes thousandths minus degrees arcminutes arcthousandths (now (position .entry)) (now (position .exit)) r ⌝ }
 {
-    positioncalls::position(
+    calls_position::position(
         hours,
         minutes,
         thousandths,
@@ -30,12 +30,12 @@ pub extern "C" fn catalogue_position(
 pub extern "C" fn catalogue_position_fields(ra: i64, dec: i64, fields: &mut [u8]) -> u32
     ensures { λ r. ⌜ Divides ra dec (now (fields .entry)) (now (fields .exit)) r ⌝ }
 {
-    positioncalls::position_fields(ra, dec, fields)
+    calls_position::position_fields(ra, dec, fields)
 }
 
 #[no_mangle]
 pub extern "C" fn catalogue_position_vector(ra: i64, dec: i64, vector: &mut [u8]) -> u32
     ensures { λ r. ⌜ Vectors ra dec (now (vector .entry)) (now (vector .exit)) r ⌝ }
 {
-    positioncalls::position_vector(ra, dec, vector)
+    calls_position::position_vector(ra, dec, vector)
 }

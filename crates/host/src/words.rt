@@ -1,5 +1,5 @@
 // Rejections in words (paper 02, 2.1).
-ghost use Rattle.wordcalls.specs.Calls.{AppliesInWordsTo};
+ghost use Rattle.calls_apply_words.specs.Calls.{AppliesInWordsTo};
 
 #[no_mangle]
 pub extern "C" fn catalogue_apply_words(
@@ -10,5 +10,5 @@ pub extern "C" fn catalogue_apply_words(
 ) -> u32
     ensures { λ r. ⌜ AppliesInWordsTo (now (map .entry)) (now (map .exit)) (now (request .entry)) (now (text .entry)) (now (text .exit)) (now (answer .entry)) (now (answer .exit)) r ⌝ }
 {
-    wordcalls::apply_words(map, request, text, answer)
+    calls_apply_words::apply_words(map, request, text, answer)
 }

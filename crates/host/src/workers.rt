@@ -1,5 +1,5 @@
 // A node's workers.
-ghost use Rattle.workercalls.specs.Steps.{asking, outputs, StepsImage};
+ghost use Rattle.calls_worker.specs.Steps.{asking, outputs, StepsImage};
 
 #[no_mangle]
 pub extern "C" fn catalogue_step(
@@ -16,7 +16,7 @@ pub extern "C" fn catalogue_step(
     ensures { λ r. ⌜ StepsImage (now (header .entry)) (now (stores .entry)) (asking (now (name .entry)) shard epoch peer metric)
         (outputs (now (request .entry)) (now (answer .entry))) (outputs (now (request .exit)) (now (answer .exit))) r ⌝ }
 {
-    workercalls::step(
+    calls_worker::step(
         header,
         stores,
         name,

@@ -2,17 +2,17 @@
 // node, by rising id, how many name a node that the map does not know, and how many there are.
 ghost use Prim.Native.Nat.{_≤_};
 ghost use lib.ListN.{length};
-ghost use Rattle.mapintact.specs.Calls.{Intact};
-use intake::LONGEST;
-use intake::drain::drain;
-use intake::input::refill;
-use intake::start::start;
-use lines::words::line;
-use lines::words::number;
-use loads::Load;
-use loads::Loads;
-use loads::SheetOf;
-use loads::sheet_of;
+ghost use Rattle.thm_map_never_malformed.specs.Calls.{Intact};
+use image_map_sheet::Load;
+use image_map_sheet::Loads;
+use image_map_sheet::SheetOf;
+use image_map_sheet::sheet_of;
+use test_input::LONGEST;
+use test_input::drain::drain;
+use test_input::input::refill;
+use test_input::start::start;
+use test_lines::words::line;
+use test_lines::words::number;
 
 // The image becomes that of the map after the last request. Nothing says that an input ends, so the turns are counted down, from a number that no run
 // uses up.

@@ -7,7 +7,7 @@ use native.Mathlib.Omega.{arith}
 use native.Mathlib.Nat.{mul-add, mul-assoc, mul-comm, mul-zero, mul-le-mul, add-mod, mul-add-mod-self-right}
 use lib.ListN.{getD, set}
 use lib.Seq.{sets}
-use Rattle.model.specs.Layout.Format.{bytesOf, numberAt}
+use Rattle.spec.specs.Layout.Format.{bytesOf, numberAt}
 
 -- k bytes from the i-th on, the first of them times p
 abbrev pub flat : (k i p : ℕ) → List ℕ → ℕ → ℕ

@@ -1,4 +1,4 @@
--- `run` meets its contract. Assumes nothing.
+-- `spec_run` meets its contract. Assumes nothing.
 use borrow.Author.Needs.{needs}
 use native.Mathlib.Omega.{arith}
 use mathlib.Core.Path.{_≡_, refl, sym, _∙_, ap}
@@ -6,7 +6,7 @@ use mathlib.Core.List.{List, [], _∷_, _++_}
 use Prim.Native.Nat.{ℕ, _+_, _-_, _*_, _≤_, _<_}
 use lib.ListN.{length, getD, take, drop, set}
 use lib.Seq.{length-take-le}
-use Rattle.mapintact.specs.Calls.{Intact}
+use Rattle.thm_map_never_malformed.specs.Calls.{Intact}
 use Rattle.applymap.proofs.run.Statement.{statement}
 use Rattle.applymap.proofs.run.Tie as tie
 

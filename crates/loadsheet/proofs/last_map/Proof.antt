@@ -6,7 +6,7 @@ use mathlib.Core.List.{List, [], _∷_, _++_}
 use Prim.Native.Nat.{ℕ, _+_, _-_, _*_, _≤_, _<_}
 use lib.ListN.{length, getD, take, drop, set}
 use lib.Seq.{length-take-le}
-use Rattle.mapintact.specs.Calls.{Intact}
+use Rattle.thm_map_never_malformed.specs.Calls.{Intact}
 use Rattle.loadsheet.proofs.last_map.Statement.{statement}
 use Rattle.loadsheet.proofs.last_map.Tie as tie
 

@@ -1,8 +1,0 @@
-// What stands in a message goes into a lent store (paper 01, 'Bytes on the wire', 'The log', 'Who is turned down'), past the reader's test
-// (21): the domain test (22), one entry, a batch, an epoch table. Internal: `rpc` has read the message, and says where its parts stand. What is
-// asked of a message before anything is stored is crate `inmessage`.
-pub mod copy;
-pub mod domain;
-pub mod ops;
-pub mod store;
-pub mod table;

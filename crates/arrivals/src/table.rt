@@ -1,2 +1,0 @@
-// Internal: for the crates above, the alignment by an epoch table of a message, crate `inmessage`.
-pub use inmessage::table::adopt_table;

@@ -1,0 +1,14 @@
+// The times that a call is asked with.
+ghost use mathlib.Core.Path.{_≡_};
+ghost use Rattle.spec.specs.Lists.{_or_};
+ghost use Rattle.spec.specs.Node.Calls.{lateTime};
+
+// Internal: one of two times is above 2^62.
+pub fn late(a: u64, b: u64) -> bool
+    ensures { λ r. ⌜ r ≡ lateTime a or lateTime b ⌝ }
+{
+    if 4611686018427387904 < a {
+        return true;
+    }
+    4611686018427387904 < b
+}

@@ -1,0 +1,31 @@
+// Internal: the rows held after, put into the header.
+ghost use mathlib.Core.Path.{_≡_};
+ghost use mathlib.Core.Bool.{true};
+ghost use Prim.Native.Nat.{_*_, _≤_};
+ghost use lib.ListN.{length};
+ghost use Rattle.spec.specs.Lists.{every};
+ghost use Rattle.node_show_slots.specs.Slots.{openFits};
+ghost use Rattle.calls_show_walk.specs.Seats.{rowsIn, HeaderTakes};
+use crate::slots::seat;
+use image_header_set::back::put_back;
+use wire_put::put::put_bytes;
+
+// Where a header has them.
+const VERSION: usize = 16;
+
+const COUNT: usize = 24;
+
+const ROWS: usize = 48;
+
+// Under the map's version, each shard in a slot of its own, in the canonical form.
+pub fn put_rows(header: &mut [u8], rows: &[u8], count: usize, version: u64)
+    requires { ⌜ (10288 ≤ length (now header)) × (count ≤ 8) × (1280 * count ≤ length (now rows)) × (every openFits (rowsIn (now rows) count) ≡ true) ⌝ }
+    ensures { λ _. ⌜ HeaderTakes (now (header .entry)) (now (header .exit)) (now (rows .entry)) count version ⌝ }
+{
+    num::put8(header, VERSION, version);
+    num::put8(header, COUNT, count as u64);
+    let end = 1280 * count;
+    put_bytes(header, ROWS, &rows[..end]);
+    seat(header, count);
+    put_back(header, count);
+}

@@ -1,0 +1,13 @@
+-- `codes::metric_of` meets its contract. Assumes nothing.
+use Rattle.calls_worker.proofs.OfCodes.{metric-zero, metric-other}
+use Rattle.calls_worker.proofs.codes.metric_of.Statement.{statement}
+use Rattle.calls_worker.proofs.codes.metric_of.Tie as tie
+
+returns : tie.Need-returns
+returns c = metric-zero (c .before .args .code) (c .if1 .taken)
+
+returns-2 : tie.Need-returns-2
+returns-2 c = metric-other (c .before .args .code) (c .if1 .left)
+
+pub metric-of-spec : {M : Type 1} → statement M
+metric-of-spec = tie.close (tie.spec returns returns-2)

@@ -1,0 +1,20 @@
+-- Each arm is the definition at its metric.
+use borrow.Author.Needs.{needs}
+use Rattle.float_distance.proofs.Halves.{kind-euclid, kind-angular}
+use Rattle.float_distance.proofs.sums.kind_of.Statement.{statement}
+use Rattle.float_distance.proofs.sums.kind_of.Tie as tie
+
+enum-told : tie.Need-enum-told
+enum-told c = search needs
+
+enum-told-2 : tie.Need-enum-told-2
+enum-told-2 c = search needs
+
+returns : tie.Need-returns
+returns c = kind-euclid _ (c .enum-told .given .1)
+
+returns-2 : tie.Need-returns-2
+returns-2 c = kind-angular _ (c .enum-told2 .given .1)
+
+pub kind-of-spec : {M : Type 1} → statement M
+kind-of-spec = tie.close (tie.spec enum-told enum-told-2 returns returns-2)

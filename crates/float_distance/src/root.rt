@@ -1,0 +1,2 @@
+// Internal: the root of crate `float_root`.
+pub use float_root::sqrt_f32;

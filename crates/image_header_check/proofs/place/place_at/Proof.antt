@@ -1,0 +1,99 @@
+-- `place::place_at` meets its contract. Assumes nothing.
+use borrow.Author.Needs.{needs}
+use native.Mathlib.Omega.{arith}
+use mathlib.Core.Path.{_≡_, sym, _∙_, ap}
+use Prim.Native.Nat.{_+_, _-_, _*_, _≤_}
+use lib.ListN.{take, drop}
+use mathlib.Core.Bool.{not}
+use Rattle.spec.specs.Lists.{lead}
+use Rattle.spec.specs.Keys.{sameKey}
+use Rattle.map_tables.specs.Names.{viewKey}
+use Rattle.node_header.specs.View.{noKept, otherKey}
+use Rattle.node_shard.proofs.Loops.{lead-on, lead-stop, lead-end}
+use Rattle.image_parts.specs.Parts.{keyAt}
+use Rattle.image_header.specs.Image.{nodeAt}
+use Rattle.image_header_check.proofs.OfRows.{held-long, row-at, other-is}
+use Rattle.image_header_check.proofs.place.place_at.Statement.{statement}
+use Rattle.image_header_check.proofs.place.place_at.Tie as tie
+
+abbrev Inv-loop : tie.InvT-loop
+Inv-loop s count key i₀ i = (i ≤ count) × (lead (otherKey (viewKey key)) (take count (nodeAt s .held)) ≡ i + lead (otherKey (viewKey key)) (drop i (take count (nodeAt s .held))))
+
+abbrev μ-loop : tie.MeasureT-loop
+μ-loop s count key i₀ i = count - i
+
+loop-holds : tie.Need-loop-holds Inv-loop μ-loop
+loop-holds c = search needs
+
+mul-key-at : tie.Need-mul-key-at Inv-loop μ-loop
+mul-key-at c = search needs
+
+add-key-at : tie.Need-add-key-at Inv-loop μ-loop
+add-key-at c = search needs
+
+key-at-requires : tie.Need-key-at-requires Inv-loop μ-loop
+key-at-requires c κs = search needs
+
+same-key-requires : tie.Need-same-key-requires Inv-loop μ-loop
+same-key-requires c κs = search needs
+
+returns : tie.Need-returns Inv-loop μ-loop
+returns c =
+    let a = c .before .before .before .before .before .before .args in
+    let the-pre = c .before .before .before .before .before .before .pre in
+    let l = c .before .before .before .before .loop in
+    let s = a .s .now in
+    let i = l .i in
+    let n = a .count in
+    let p = otherKey (viewKey (a .key)) in
+    let k = the-pre .1 in
+    let g = held-long s in
+    let lt = (c .before .before .before .loop-test) .taken in
+    let r : ((c .before .same-key) .result) ≡ sameKey (viewKey (keyAt s (48 + 1280 * i))) (viewKey (a .key)) = (c .before .same-key) .ensures ∙ (rw ((c .before .before .key-at) .ensures)) in
+    lead-stop p (nodeAt s .held) n i (omega arith) (l .inv .1) noKept (ap p (row-at s n (the-pre) i noKept lt) ∙ other-is s (48 + 1280 * i) (viewKey (a .key)) ∙ ap not (sym r ∙ (c .if1) .taken)) lt
+
+add-i : tie.Need-add-i Inv-loop μ-loop
+add-i c = search needs
+
+loop-less : tie.Need-loop-less Inv-loop μ-loop
+loop-less c = search needs
+
+loop-again : tie.Need-loop-again Inv-loop μ-loop
+loop-again c =
+    let a = c .before .before .before .before .before .before .args in
+    let the-pre = c .before .before .before .before .before .before .pre in
+    let l = c .before .before .before .before .loop in
+    let s = a .s .now in
+    let i = l .i in
+    let n = a .count in
+    let p = otherKey (viewKey (a .key)) in
+    let k = the-pre .1 in
+    let g = held-long s in
+    let lt = (c .before .before .before .loop-test) .taken in
+    let r : ((c .before .same-key) .result) ≡ sameKey (viewKey (keyAt s (48 + 1280 * i))) (viewKey (a .key)) = (c .before .same-key) .ensures ∙ (rw ((c .before .before .key-at) .ensures)) in
+    (omega arith, lead-on p (nodeAt s .held) n i (omega arith) (l .inv .1) noKept (ap p (row-at s n (the-pre) i noKept lt) ∙ other-is s (48 + 1280 * i) (viewKey (a .key)) ∙ ap not (sym r ∙ (c .if1) .left)) lt)
+
+returns-2 : tie.Need-returns-2 Inv-loop μ-loop
+returns-2 c =
+    let a = c .before .before .before .args in
+    let s = a .s .now in
+    let k = (c .before .before .before .pre) .1 in
+    let g = held-long s in
+    lead-end (otherKey (viewKey (a .key))) (nodeAt s .held) (a .count) ((c .before .loop) .i) (omega arith) ((c .before .loop) .inv .1) (search needs)
+
+pub place-at-spec : {M : Type 1} → statement M
+place-at-spec =
+    tie.close
+    (tie.spec
+    Inv-loop
+    μ-loop
+    loop-holds
+    mul-key-at
+    add-key-at
+    key-at-requires
+    same-key-requires
+    returns
+    add-i
+    loop-less
+    loop-again
+    returns-2)

@@ -1,0 +1,63 @@
+// One field of a row, stored where it stands.
+ghost use Prim.Native.Nat.{_+_, _≤_, _<_};
+ghost use lib.ListN.{length};
+ghost use Rattle.node_header.specs.View.{keptAs};
+ghost use Rattle.image_header_row.specs.Rows.{keptAt};
+ghost use Rattle.image_header_set.specs.Row.{RowBecomes, peerSet, ownSet, steppedDown, alignedSet};
+use image_header_row::held::put_role;
+use image_header_row::peers::put_peer;
+use image_parts::codes::flag_code;
+use spec::Peer;
+use spec::Role;
+
+// Where a row has them.
+const STORED: usize = 56;
+
+const EPOCH: usize = 64;
+
+const LAST: usize = 72;
+
+const COUNT: usize = 88;
+
+const OWN: usize = 100;
+
+const ROLE: usize = 108;
+
+const PEERS: usize = 256;
+
+// The row of the i-th peer.
+pub fn set_peer(out: &mut [u8], row: usize, i: usize, p: Peer)
+    requires { ⌜ (row + 1280 ≤ length (now out)) × (i < 32) ⌝ }
+    ensures { λ _. ⌜ RowBecomes (now (out .entry)) (now (out .exit)) row (peerSet (keptAt (now (out .entry)) row) i p) ⌝ }
+{
+    put_peer(out, row + PEERS + 32 * i, p);
+}
+
+// Whether the node is in its own ack set.
+pub fn set_own(out: &mut [u8], row: usize, own: bool)
+    requires { ⌜ row + 1280 ≤ length (now out) ⌝ }
+    ensures { λ _. ⌜ RowBecomes (now (out .entry)) (now (out .exit)) row (ownSet (keptAt (now (out .entry)) row) own) ⌝ }
+{
+    num::put4(out, row + OWN, flag_code(own));
+}
+
+// The primary role left, with all that the record tracked.
+pub fn step_down(out: &mut [u8], row: usize)
+    requires { ⌜ row + 1280 ≤ length (now out) ⌝ }
+    ensures { λ _. ⌜ RowBecomes (now (out .entry)) (now (out .exit)) row (keptAs (keptAt (now (out .entry)) row) (steppedDown (keptAt (now (out .entry)) row .held))) ⌝ }
+{
+    put_role(out, row + ROLE, Role::Backup);
+    num::put8(out, row + COUNT, 0);
+    set_own(out, row, false);
+}
+
+// The log aligned with a new epoch's primary: the epoch, how many entries and rows are left, and the role left.
+pub fn set_aligned(out: &mut [u8], row: usize, epoch: u64, last: u64, stored: u64)
+    requires { ⌜ row + 1280 ≤ length (now out) ⌝ }
+    ensures { λ _. ⌜ RowBecomes (now (out .entry)) (now (out .exit)) row (alignedSet (keptAt (now (out .entry)) row) epoch last stored) ⌝ }
+{
+    num::put8(out, row + STORED, stored);
+    num::put8(out, row + EPOCH, epoch);
+    num::put8(out, row + LAST, last);
+    step_down(out, row);
+}

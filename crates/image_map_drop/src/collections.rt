@@ -1,0 +1,41 @@
+// A collection taken out of the table.
+ghost use mathlib.Core.Path.{_≡_};
+ghost use mathlib.Core.Bool.{not};
+ghost use Rattle.spec.specs.Keys.{sameName};
+ghost use Rattle.spec.specs.Lists.{filter};
+ghost use Rattle.map_tables.specs.Names.{viewName};
+ghost use Rattle.image_map_put.specs.Few.{Few};
+ghost use Rattle.image_map_put.specs.Rows.{readAs};
+ghost use Rattle.image_map_edit.specs.Becomes.{CollectionsBecome};
+use image_map_check::layout::COLLECTION;
+use image_map_check::layout::COLLECTIONS;
+use image_map_check::layout::COLLECTIONS_USED;
+use image_move::move_down;
+use image_parts::keys::name_at;
+use map_tables::Name;
+use map_tables::names::same_name;
+
+// How many words of 8 bytes a row has.
+const COLLECTION_WORDS: usize = 7;
+
+// The collections but the one of that name.
+pub fn collections_without(out: &mut [u8], name: Name)
+    requires { ⌜ Few (now out) ⌝ }
+    ensures { λ _. ⌜ CollectionsBecome (now (out .entry)) (now (out .exit)) (filter (λ c. not (sameName (c .name) (viewName name))) (readAs (now (out .entry)) .collections)) ⌝ }
+{
+    let count = num::get8(out, COLLECTIONS_USED) as usize;
+    let mut kept: usize = 0;
+    let mut i: usize = 0;
+    while i < count {
+        let at = COLLECTIONS + COLLECTION * i;
+        let own = name_at(out, at);
+        if same_name(own, name) {
+            i += 1;
+        } else {
+            move_down(out, at, COLLECTIONS + COLLECTION * kept, COLLECTION_WORDS);
+            kept += 1;
+            i += 1;
+        }
+    }
+    num::put8(out, COLLECTIONS_USED, kept as u64);
+}

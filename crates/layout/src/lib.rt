@@ -1,4 +1,0 @@
-// Where the parts of the images stand (docs/IMAGES.md): every number of a header and of the stores, with its name. Those of a map are in
-// `mapbytes`.
-pub mod header;
-pub mod stores;

@@ -1,2 +1,0 @@
-// Paper 01, 'Who is turned down', 24: whether a lent map is well formed. What is asked of the counts beside arrays, and of the map that these are
-// read as, stands in specs/Lent.antt; the test over a map's bytes is crate `mapbytes`. Definitions and laws, no code.

@@ -1,2 +1,0 @@
--- For the crates above: the epoch table of 21 from two columns.
-pub use Rattle.rpcput.specs.Tables.{endsGiven, tableBytes, newEpochGiven}

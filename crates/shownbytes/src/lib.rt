@@ -1,3 +1,0 @@
-// Below crate `showcalls`: what a map leaves of a node's header, decided over the bytes of both (paper 01, 'Map shown'; node.rs, on_map). Internal.
-pub mod quiet;
-pub mod row;

@@ -1,2 +1,0 @@
-// Below crate `shown`: what a map says of one shard and of this node (paper 01, 'The node', 'Map shown'; node.rs, on_map). Internal.
-pub mod rows;
