@@ -12,7 +12,7 @@ use Rattle.spec.specs.Layout.Message.{decodeReply}
 use Rattle.spec.specs.Node.Shards.{leadsAt}
 use Rattle.spec.specs.Node.Ack.{badReply}
 use Rattle.spec.specs.declared.Role.{Role}
-use Rattle.spec.proofs.Lists.{not-both}
+use Rattle.spec_laws.proofs.Lists.{not-both}
 use Rattle.node_shard.specs.declared.Held.{Held}
 use Rattle.node_shard.specs.declared.Deed.{Deed}
 use Rattle.node_shard.specs.declared.Sent.{Sent}

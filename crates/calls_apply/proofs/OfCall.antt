@@ -10,7 +10,7 @@ use borrow.Author.Tests.{leb-true}
 use Rattle.spec.specs.Lists.{_and_}
 use Rattle.spec.specs.Layout.Request as request
 use Rattle.spec.specs.Layout.Request.{decodeRequest}
-use Rattle.spec.proofs.Lists.{and-left}
+use Rattle.spec_laws.proofs.Lists.{and-left}
 use Rattle.map_tables.specs.declared.Answer.the-variants.{Refused}
 use Rattle.map_tables.specs.declared.Refusal.the-variants.{Undecodable, Malformed}
 use Rattle.map_tables.specs.declared.Request.{Request}

@@ -16,8 +16,8 @@ use Rattle.spec.specs.Map.Apply.{isShard, changeAnswer, commit, changeShard, up
 use Rattle.spec.specs.Map.Change.{accepts, rejects, changed}
 use Rattle.spec.specs.Map.WellFormed.{shardFits}
 use Rattle.spec.specs.declared.Epoch.{Epoch}
-use Rattle.spec.proofs.Map.Rows.{every-find}
-use Rattle.spec.proofs.Map.WellFormed.{map-parts}
+use Rattle.spec_laws.proofs.Map.Rows.{every-find}
+use Rattle.spec_laws.proofs.Map.WellFormed.{map-parts}
 use Rattle.map_tables.specs.Counted.{ShardsCounted}
 use Rattle.map_tables.specs.Find.{firstAt}
 use Rattle.map_tables.specs.Names.{viewKey, viewAddress}

@@ -13,7 +13,7 @@ use Rattle.spec.specs.Map.Apply as model
 use Rattle.spec.specs.Map.Apply.{commit, setCollections}
 use Rattle.spec.specs.Map.Change.{accepts, rejects}
 use Rattle.spec.specs.Map.Create.{shardBelow, hasCollection, createAnswer, createdCollections, createdShards}
-use Rattle.spec.proofs.Map.WellFormed.{map-parts}
+use Rattle.spec_laws.proofs.Map.WellFormed.{map-parts}
 use Rattle.map_tables.specs.Names.{viewKey, viewAddress, viewName}
 use Rattle.map_tables.specs.View.{answerOf, commandIn, viewCommand, viewMap, viewPlacement, viewSpec}
 use Rattle.map_tables.specs.declared.Command.{Command}

@@ -17,7 +17,7 @@ use Rattle.spec.specs.Map.Apply.{nodeBelow, registerAnswer, deadAnswer, commit,
 use Rattle.spec.specs.Map.Change.{accepts, rejects}
 use Rattle.spec.specs.Map.Create.{isNode, nodeAt}
 use Rattle.spec.specs.declared.DataNodeId.{DataNodeId}
-use Rattle.spec.proofs.Map.WellFormed.{map-parts, commit-fits}
+use Rattle.spec_laws.proofs.Map.WellFormed.{map-parts, commit-fits}
 use Rattle.map_tables.specs.Names.{viewKey, viewAddress}
 use Rattle.map_tables.specs.View.{answerOf, commandIn, viewCommand, viewMap, viewNode, viewNodes, viewPlacement}
 use Rattle.map_tables.specs.declared.Command.{Command}

@@ -14,8 +14,8 @@ use Rattle.spec.specs.Map.Apply as model
 use Rattle.spec.specs.Map.Apply.{isClient, sessionBelow, remembered, commit, setsVersion}
 use Rattle.spec.specs.Map.Calls.{reasonNumber}
 use Rattle.spec.specs.Map.Change.{accepts, rejects}
-use Rattle.spec.proofs.Lists.{not-both}
-use Rattle.spec.proofs.Map.Sessions.{equal-seq, older-seq, next-seq, new-client, full-clients}
+use Rattle.spec_laws.proofs.Lists.{not-both}
+use Rattle.spec_laws.proofs.Map.Sessions.{equal-seq, older-seq, next-seq, new-client, full-clients}
 use Rattle.map_tables.specs.Find.{firstAt}
 use Rattle.map_tables.specs.Names.{viewKey}
 use Rattle.map_tables.specs.Counted.{rowCounted}

@@ -13,7 +13,7 @@ use Rattle.spec.specs.Map.Calls.{refusedWith}
 use Rattle.spec.specs.Map.Tables.{Answer, refused}
 use Rattle.spec.specs.Layout.Request as request
 use Rattle.spec.specs.Layout.Request.{decodeRequest}
-use Rattle.spec.proofs.Lists.{not-both}
+use Rattle.spec_laws.proofs.Lists.{not-both}
 use Rattle.spec_words.specs.Words.{textOf}
 use Rattle.spec_words.specs.Calls.{Worded, said, AppliedInWords, inWords, wordedNumber}
 use Rattle.spec_words.proofs.OfCalls.{roomy}

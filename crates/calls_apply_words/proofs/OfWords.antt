@@ -11,7 +11,7 @@ use borrow.Author.Tests.{le-leb, lt-leb}
 use Rattle.spec.specs.Refusals.{noRoom, numberOf}
 use Rattle.spec.specs.Map.Apply.{Applied, apply}
 use Rattle.spec.specs.Map.Calls.{reasonNumber}
-use Rattle.spec.proofs.Lists.{not-both}
+use Rattle.spec_laws.proofs.Lists.{not-both}
 use Rattle.spec_words.specs.Words.{textOf}
 use Rattle.spec_words.specs.Calls.{Worded, said, shortBuffer, AppliedInWords, wordedNumber}
 use Rattle.spec_words.proofs.OfCalls.{roomy, tight}

@@ -11,7 +11,7 @@ use Rattle.spec.specs.Keys.{Key}
 use Rattle.spec.specs.Layout.Message.{Query, decodeSearch}
 use Rattle.spec.specs.Node.Wire.{patternsInDomain}
 use Rattle.spec.specs.Node.Calls.{lateTime}
-use Rattle.spec.proofs.Lists.{not-both, none-some}
+use Rattle.spec_laws.proofs.Lists.{not-both, none-some}
 use Rattle.wire_read.specs.declared.SearchPart.{SearchPart}
 use Rattle.wire_read.proofs.Decoded.{search-decoded}
 use Rattle.log_arrive.specs.Parts.{bitsIn}

@@ -12,7 +12,7 @@ use Rattle.spec.specs.Layout.Parts.{WireOp}
 use Rattle.spec.specs.Node.Wire.{opInDomain}
 use Rattle.spec.specs.Node.Client as client
 use Rattle.spec.specs.Node.Calls.{lateTime, writeWith}
-use Rattle.spec.proofs.Lists.{not-both, none-some}
+use Rattle.spec_laws.proofs.Lists.{not-both, none-some}
 use Rattle.spec_retained.proofs.OfCalls.{write-retains}
 use Rattle.spec_retained.proofs.OfLent.{write-unlent}
 use Rattle.wire_read.specs.declared.WritePart.{WritePart}

@@ -10,8 +10,8 @@ use lib.ListN.{length, getD, length-append}
 use lib.Seq.{sets}
 use Rattle.spec.specs.Layout.Format.{bytesOf, concatMap}
 use Rattle.spec.specs.Node.Wire.{bitsOf}
-use Rattle.spec.proofs.Lists.{not-both}
-use Rattle.spec.proofs.LayoutLaws.Bytes.{length-bytes}
+use Rattle.spec_laws.proofs.Lists.{not-both}
+use Rattle.spec_laws.proofs.Wire.Bytes.{length-bytes}
 use borrow.Author.Tests.{eq-eqb}
 use Rattle.log_store.specs.View.{firsts}
 use Rattle.log_store.proofs.Firsts.{firsts-next}

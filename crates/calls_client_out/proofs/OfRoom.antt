@@ -19,8 +19,8 @@ use Rattle.spec.specs.Node.Lease.{leased}
 use Rattle.spec.specs.Node.Wire.{patternsInDomain, floatsOf}
 use Rattle.spec.specs.Node.Client as client
 use Rattle.spec.specs.Node.Calls as calls
-use Rattle.spec.proofs.Lists.{by-test, none-some, some-same}
-use Rattle.spec.proofs.Node.Shards.{at-cases}
+use Rattle.spec_laws.proofs.Lists.{by-test, none-some, some-same}
+use Rattle.spec_laws.proofs.Node.Shards.{at-cases}
 use Rattle.node_header.specs.declared.Node.{Node}
 use Rattle.node_header.specs.View.{viewNode}
 use Rattle.node_header.proofs.OfShards.{some-stores}

@@ -17,7 +17,7 @@ use Rattle.spec.specs.Node.Wire.{storedEntry}
 use Rattle.spec.specs.declared.Epoch.{Epoch}
 use Rattle.spec.specs.declared.Metric.{Metric}
 use Rattle.spec.specs.declared.Metric.the-variants.{Euclidean}
-use Rattle.spec.proofs.Lists.{not-both, and-left, and-right}
+use Rattle.spec_laws.proofs.Lists.{not-both, and-left, and-right}
 use Rattle.wire_read.specs.declared.CopyPart.{CopyPart}
 use Rattle.wire_write.specs.declared.Reply.{Reply}
 use Rattle.wire_write.specs.declared.Reply.the-variants as R

@@ -12,7 +12,7 @@ use Rattle.spec.specs.Lists.{_and_, lead}
 use Rattle.spec.specs.Limits.{maxHeld}
 use Rattle.spec.specs.Layout.Format.{Bytes, numberAt}
 use Rattle.spec.specs.declared.Offset.{Offset}
-use Rattle.spec.proofs.Lists.{and-left, and-right}
+use Rattle.spec_laws.proofs.Lists.{and-left, and-right}
 use Rattle.node_shard.specs.declared.Held.{Held}
 use Rattle.node_shard.specs.View.{insertAt}
 use Rattle.wire_read.specs.declared.NewEpochPart.{NewEpochPart}

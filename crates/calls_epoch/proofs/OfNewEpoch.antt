@@ -15,7 +15,7 @@ use Rattle.spec.specs.Node.Backup.{leadsFrom}
 use Rattle.spec.specs.declared.Epoch.{Epoch}
 use Rattle.spec.specs.declared.Offset.{Offset}
 use Rattle.spec.specs.declared.Role.{Role}
-use Rattle.spec.proofs.Lists.{not-both}
+use Rattle.spec_laws.proofs.Lists.{not-both}
 use Rattle.node_shard.specs.declared.Held.{Held}
 use Rattle.node_admit.specs.Admits.{TakesEpoch}
 use Rattle.node_admit.specs.Headers.{Realigns}

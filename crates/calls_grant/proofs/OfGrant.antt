@@ -7,7 +7,7 @@ use lib.Dec.{ltb}
 use Rattle.spec.specs.Lists.{_or_}
 use Rattle.spec.specs.Limits.{maxTime}
 use Rattle.spec.specs.Layout.Format.{numberAt}
-use Rattle.spec.proofs.Lists.{not-both}
+use Rattle.spec_laws.proofs.Lists.{not-both}
 use Rattle.node_admit.specs.declared.Expiry.{Expiry}
 use Rattle.node_admit.specs.declared.Expiry.the-variants.{Never, At}
 use Rattle.node_admit.specs.View as serve

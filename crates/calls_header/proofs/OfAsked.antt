@@ -8,7 +8,7 @@ use borrow.Author.Tests.{not-false}
 use Rattle.spec.specs.Lists.{_or_}
 use Rattle.spec.specs.Limits.{maxName, maxTime}
 use Rattle.spec.specs.Node.Calls.{lateTime}
-use Rattle.spec.proofs.LayoutLaws.Tests.{false-not-true}
+use Rattle.spec_laws.proofs.Wire.Tests.{false-not-true}
 use Rattle.wire_write.specs.Written.{textFits}
 use Rattle.calls_header.specs.Asked.{unreadName, Asked}
 use Rattle.calls_header.specs.Acks.{unreadReply, unreadAck}

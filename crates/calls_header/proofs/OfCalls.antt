@@ -32,7 +32,7 @@ use Rattle.node_header.proofs.OfLists.{by-case}
 use Rattle.node_hear.specs.declared.Heard.{Heard}
 use Rattle.node_hear.specs.declared.Heard.the-variants as H
 use Rattle.node_hear.specs.Hears.{heardOf, HearsMap, HearsReply}
-use Rattle.spec.proofs.Lists.{and-left}
+use Rattle.spec_laws.proofs.Lists.{and-left}
 use Rattle.node_show.specs.declared.NodeShown.{NodeShown}
 use Rattle.node_show.specs.Shows.{ShownTold}
 use Rattle.map_tables.specs.declared.ShardMap.{ShardMap}

@@ -10,7 +10,7 @@ use Rattle.spec.specs.Node.Held as held
 use Rattle.spec.specs.Node.Shown as show
 use Rattle.spec.specs.Node.WellFormed.{wellFormedHeader}
 use Rattle.spec.specs.declared.DataNodeId.{DataNodeId}
-use Rattle.spec.proofs.Lists.{and-true, and-left, and-right}
+use Rattle.spec_laws.proofs.Lists.{and-true, and-left, and-right}
 use Rattle.node_shard.specs.declared.WaitAnswer.{WaitAnswer}
 use Rattle.node_shard.specs.declared.WaitAnswer.the-variants as W
 use Rattle.node_header.specs.declared.Node.{Node}

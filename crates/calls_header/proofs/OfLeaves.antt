@@ -8,7 +8,7 @@ use lib.Seq.{sets}
 use Rattle.spec.specs.Lists.{_and_}
 use Rattle.spec.specs.Node.Held as held
 use Rattle.spec.specs.Node.Calls as calls
-use Rattle.spec.proofs.Lists.{not-both}
+use Rattle.spec_laws.proofs.Lists.{not-both}
 use Rattle.map_tables.specs.declared.ShardMap.{ShardMap}
 use Rattle.node_header.specs.declared.Node.{Node}
 use Rattle.node_header.specs.View.{Stores, viewNode}

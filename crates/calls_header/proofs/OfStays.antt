@@ -12,8 +12,8 @@ use Rattle.spec.specs.Node.Client as client
 use Rattle.spec.specs.Node.Ack as ack
 use Rattle.spec.specs.Node.Shown as show
 use Rattle.spec.specs.declared.DataNodeId.{DataNodeId}
-use Rattle.spec.proofs.Lists.{not-both}
-use Rattle.spec.proofs.Node.Refusals.{grant-refused, wait-refused, ack-refused, outcome-refused, shown-refused}
+use Rattle.spec_laws.proofs.Lists.{not-both}
+use Rattle.spec_laws.proofs.Node.Refusals.{grant-refused, wait-refused, ack-refused, outcome-refused, shown-refused}
 use Rattle.node_shard.specs.declared.WaitAnswer.{WaitAnswer}
 use Rattle.node_shard.specs.declared.WaitAnswer.the-variants as W
 use Rattle.node_shard.specs.Answers.{waitWord, outcomeWord}

@@ -8,7 +8,7 @@ use lib.Seq.{sets}
 use borrow.Author.Tests.{le-leb, lt-leb}
 use Rattle.spec.specs.Lists.{_and_}
 use Rattle.spec.specs.Layout.Format.{concatMap}
-use Rattle.spec.proofs.Lists.{not-both, and-left, and-right}
+use Rattle.spec_laws.proofs.Lists.{not-both, and-left, and-right}
 use Rattle.wire_write.proofs.Writes.{no-second}
 use Rattle.node_shard.specs.declared.WaitAnswer.{WaitAnswer}
 use Rattle.node_header.specs.declared.Node.{Node}

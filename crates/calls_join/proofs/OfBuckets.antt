@@ -10,7 +10,7 @@ use lib.ListN.{length, getD, set, replicate}
 use lib.Seq.{getD-set-same, getD-set-other}
 use borrow.Author.Tests.{eqb-true, eqb-false}
 use Rattle.spec.specs.Lists.{nth}
-use Rattle.spec.proofs.Lists.{not-both, some-same, nth-lt}
+use Rattle.spec_laws.proofs.Lists.{not-both, some-same, nth-lt}
 use Rattle.spec_join.specs.Join.{Hit, apart}
 use Rattle.spec_join.specs.Words.{Apart}
 use Rattle.spec_join.proofs.Decided.{apart-says, apart-holds}

@@ -10,7 +10,7 @@ use lib.ListN.{length}
 use borrow.Author.Tests.{le-leb, lt-leb, leb-true, leb-false, eq-eqb, ne-eqb, eqb-true, eqb-false}
 use Rattle.spec.specs.Lists.{_and_, nth}
 use Rattle.spec.specs.Layout.Format.{numberAt, nextN, fitsN, valueN, fits, next, value}
-use Rattle.spec.proofs.Lists.{and-left, and-right, and-true, not-both}
+use Rattle.spec_laws.proofs.Lists.{and-left, and-right, and-true, not-both}
 use Rattle.spec_join.specs.Join.{Hit, Answer}
 use Rattle.spec_join.specs.Answers.{hitF, answerF, hitOf, answerOf, andThen, answersFrom, answersIn}
 use Rattle.calls_join.specs.View.{hitAt, hitsAt, countAt, answerAt, afterAt, standsAt, answersAt, Leads, Stand}

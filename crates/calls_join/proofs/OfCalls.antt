@@ -11,7 +11,7 @@ use lib.Seq.{sets}
 use borrow.Author.Tests.{le-leb, lt-leb, leb-true}
 use Rattle.spec.specs.Lists.{_and_, every, rising}
 use Rattle.spec.specs.Layout.Format.{bytesOf}
-use Rattle.spec.proofs.Lists.{and-left, and-right}
+use Rattle.spec_laws.proofs.Lists.{and-left, and-right}
 use Rattle.spec_join.specs.Join.{Hit, Answer, inOrder, apart, shardBelow, soundAnswer, sound, owned, orderedHits, allHits, joined, Joined, found, undecodable, outOfOrder, otherShard, noRoom, numberOf, joinAnswers}
 use Rattle.spec_join.specs.Answers.{answersIn, hitsBytes}
 use Rattle.spec_join.proofs.Ordered.{ordered-length}

@@ -15,7 +15,7 @@ use Rattle.spec.specs.Refusals.{malformed}
 use Rattle.spec.specs.Map.Tables.{Collection}
 use Rattle.spec.specs.Map.Create.{isNamed}
 use Rattle.spec.specs.Map.WellFormed.{wellFormedMap}
-use Rattle.spec.proofs.Lists.{not-both}
+use Rattle.spec_laws.proofs.Lists.{not-both}
 use Rattle.spec_losses.specs.Losses.{Loss, Losses, lost, notLost, losses, lossesIn, lossesOf, lossesCall}
 use Rattle.wire_write.specs.Written.{textFits}
 use Rattle.map_tables.specs.Find.{firstAt}
@@ -31,7 +31,7 @@ use Rattle.calls_parts.specs.Answer.{answerLent, numberPut}
 use Rattle.map_place.specs.Read.{viewLoads}
 use Rattle.map_place.specs.declared.Loads.{Loads}
 use Rattle.map_tables.specs.declared.Spec as declared
-use Rattle.spec.proofs.Map.WellFormed.{map-parts}
+use Rattle.spec_laws.proofs.Map.WellFormed.{map-parts}
 use Rattle.map_check.proofs.Formed.{lent-formed, lent-tables}
 use Rattle.image_map_losses.specs.Left.{lossesOn}
 use Rattle.image_map_losses.proofs.OnLoads.{losses-on}

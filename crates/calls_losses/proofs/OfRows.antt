@@ -12,7 +12,7 @@ use Rattle.spec.specs.Lists.{collect}
 use Rattle.spec.specs.Layout.Format.{bytesOf, concatMap}
 use Rattle.spec.specs.Map.Tables.{Spec}
 use Rattle.spec.specs.Map.Place.{Load, isLoad, Placed, placeOn}
-use Rattle.spec.proofs.Map.Rows.{every-filter}
+use Rattle.spec_laws.proofs.Map.Rows.{every-filter}
 use Rattle.map_tables.specs.View.{viewPlacement, refusalOf}
 use Rattle.map_place.specs.Answers.{placedAs, placedOf}
 use Rattle.map_place.specs.Read.{Light}

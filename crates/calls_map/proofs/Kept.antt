@@ -15,7 +15,7 @@ use Rattle.spec.specs.Map.Create.{Placement, nodeAt, hasCollection, zeroIn, mat
 use Rattle.spec.specs.Map.Apply.{Applied, registerAnswer, deadAnswer, changeAnswer, decide, settle, applyTo, apply, shardAt, sessionAt}
 use Rattle.spec.specs.Map.Calls.{reasonNumber}
 use Rattle.spec.specs.Layout.Request.{Command, create, dropCollection, register, markDead, addReplica, removeReplica, promotePrimary, shrinkInSync, expandInSync, bench, Request}
-use Rattle.spec.proofs.Lists.{by-test, not-both}
+use Rattle.spec_laws.proofs.Lists.{by-test, not-both}
 use Rattle.map_tables.specs.View.{viewMap}
 use Rattle.map_tables.specs.declared.ShardMap.{ShardMap}
 use Rattle.map_check.specs.Lent.{wellFormedLent}

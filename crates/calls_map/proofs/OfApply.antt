@@ -10,7 +10,7 @@ use native.Mathlib.Omega.{arith}
 use borrow.Author.Tests.{lt-leb, le-leb, leb-true, ne-eqb}
 use Rattle.spec.specs.Map.Calls.{reasonNumber}
 use Rattle.spec.specs.Layout.Request.{Request, decodeRequest}
-use Rattle.spec.proofs.Lists.{and-left, not-both}
+use Rattle.spec_laws.proofs.Lists.{and-left, not-both}
 use Rattle.map_tables.specs.View.{answerOf}
 use Rattle.map_tables.specs.declared.ShardMap.{ShardMap}
 use Rattle.map_check.specs.Lent.{wellFormedLent}

@@ -7,7 +7,7 @@ use native.Mathlib.Omega.{arith}
 use borrow.Author.Tests.{lt-ltb, le-ltb}
 use Rattle.spec.specs.Layout.Format.{bytesOf}
 use Rattle.spec.specs.Map.Tables.{emptyMap}
-use Rattle.spec.proofs.Lists.{not-both}
+use Rattle.spec_laws.proofs.Lists.{not-both}
 use Rattle.image_parts.specs.Shape.{Stored}
 use Rattle.image_map.specs.Image.{mapStored}
 use Rattle.image_map.proofs.Back.{Fits, becomes}

@@ -15,8 +15,8 @@ use Rattle.spec.specs.Map.Tables as tables
 use Rattle.spec.specs.Map.Create.{collectionBelow, shardBelow}
 use Rattle.spec.specs.Map.Apply.{nodeBelow, sessionBelow}
 use Rattle.spec.specs.Map.WellFormed.{nameFits, nodeFits, collectionFits, shardFits, rejectionFits, outcomeFits, sessionFits, tableFits, wellFormedMap}
-use Rattle.spec.proofs.Lists.{and-true, and-left, and-right}
-use Rattle.spec.proofs.Map.Rows.{every-tail, every-cons}
+use Rattle.spec_laws.proofs.Lists.{and-true, and-left, and-right}
+use Rattle.spec_laws.proofs.Map.Rows.{every-tail, every-cons}
 use Rattle.map_tables.specs.Counted.{rowCounted, TablesCounted}
 use Rattle.map_tables.specs.View.{viewShard, viewMap}
 use Rattle.map_tables.specs.declared.ShardRow.{ShardRow}

@@ -18,13 +18,13 @@ use Rattle.spec.specs.Map.Apply.{update, nodeBelow}
 use Rattle.spec.specs.Map.Place.{Load, Round, isLoad, isListed, raised, lightestFrom, lightest, chosenOf, chooseNode, chooseNodes, replicasOf, placeShards, Placed, nowhere, placedOn, notPlaced, placeOn}
 use Rattle.spec.specs.Layout.Format.{All}
 use Rattle.spec.specs.declared.Replica.{Replica}
-use Rattle.spec.proofs.Lists.{not-both, and-true, and-left, and-right}
-use Rattle.spec.proofs.Map.Rows.{every-tail, every-cons, every-to}
-use Rattle.spec.proofs.Map.Sets.{few-in-sync}
-use Rattle.spec.proofs.Nearest.Tests.{eqb-comm}
-use Rattle.spec.proofs.Map.Orders.{nodes-by-id}
-use Rattle.spec.proofs.Map.WellFormed.{map-parts}
-use Rattle.spec.proofs.Rising.{rising-tail}
+use Rattle.spec_laws.proofs.Lists.{not-both, and-true, and-left, and-right}
+use Rattle.spec_laws.proofs.Map.Rows.{every-tail, every-cons, every-to}
+use Rattle.spec_laws.proofs.Map.Sets.{few-in-sync}
+use Rattle.spec_laws.proofs.Nearest.Tests.{eqb-comm}
+use Rattle.spec_laws.proofs.Map.Orders.{nodes-by-id}
+use Rattle.spec_laws.proofs.Map.WellFormed.{map-parts}
+use Rattle.spec_laws.proofs.Rising.{rising-tail}
 use Rattle.map_tables.specs.View.{viewMap, viewSpec, viewNodes, viewShards}
 use Rattle.map_tables.specs.declared.ShardMap.{ShardMap}
 use Rattle.map_tables.specs.declared.Spec.{Spec}

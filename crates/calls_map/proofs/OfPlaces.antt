@@ -10,7 +10,7 @@ use borrow.Author.Tests.{lt-ltb, le-ltb, lt-leb, le-leb}
 use Rattle.spec.specs.Refusals.{Refusal, malformed, numberOf}
 use Rattle.spec.specs.Map.Place as place
 use Rattle.spec.specs.Map.Place.{nobody, replacedBy, notReplaced, Placed, placedOn, notPlaced}
-use Rattle.spec.proofs.Lists.{not-both}
+use Rattle.spec_laws.proofs.Lists.{not-both}
 use Rattle.wire_write.specs.Written.{textFits, keyGiven}
 use Rattle.map_tables.specs.Names.{viewKey}
 use Rattle.map_tables.specs.declared.Placement.{Placement}

@@ -10,7 +10,7 @@ use Rattle.spec.specs.Lists.{lead}
 use Rattle.spec.specs.Keys.{Key}
 use Rattle.spec.specs.Layout.Format.{Bytes, numberAt}
 use Rattle.spec.specs.Node.Ack.{leaves}
-use Rattle.spec.proofs.Lists.{not-both}
+use Rattle.spec_laws.proofs.Lists.{not-both}
 use Rattle.node_shard.specs.declared.Held.{Held}
 use Rattle.node_shard.specs.declared.OutcomeAnswer.the-variants as O
 use Rattle.node_shard.specs.Answers.{SettlesHeld}

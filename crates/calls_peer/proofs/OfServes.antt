@@ -7,7 +7,7 @@ use mathlib.Core.Option.{Option, none, some}
 use Rattle.spec.specs.Keys.{Key}
 use Rattle.spec.specs.Layout.Format.{Bytes}
 use Rattle.spec.specs.Node.Backup.{BackupAnswer}
-use Rattle.spec.proofs.Lists.{not-both, none-some, some-same}
+use Rattle.spec_laws.proofs.Lists.{not-both, none-some, some-same}
 use Rattle.node_header.specs.declared.Node.{Node}
 use Rattle.node_header.specs.Seats.{slotsOf}
 use Rattle.image_header.specs.Image.{nodeAt}

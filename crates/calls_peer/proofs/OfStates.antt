@@ -14,7 +14,7 @@ use Rattle.spec.specs.Layout.Message.{Replicated, NewEpoch, Copied}
 use Rattle.spec.specs.Node.Held as held
 use Rattle.spec.specs.Node.Shards.{Result, heldShard}
 use Rattle.spec.specs.Node.Backup.{BackupAnswer, backupRefused}
-use Rattle.spec.proofs.Lists.{not-both}
+use Rattle.spec_laws.proofs.Lists.{not-both}
 use Rattle.spec_retained.proofs.OfCalls.{replicate-retains, copy-retains, new-epoch-retains}
 use Rattle.spec_retained.proofs.OfLent.{Refuses, replicate-unlent, copy-unlent, new-epoch-unlent}
 use Rattle.spec_retained.proofs.OfBegin.{new-epoch-begins}

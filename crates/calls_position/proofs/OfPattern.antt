@@ -8,7 +8,7 @@ use lib.IntN.{ℤ, pos, negsuc, natAbs}
 use lib.Signed.{natAbs-le}
 use mir.Syntax.{w64}
 use mir.Val.{SFits}
-use Rattle.spec.proofs.Lists.{not-both}
+use Rattle.spec_laws.proofs.Lists.{not-both}
 use Rattle.num_position.specs.Positions.{isMinus, toFields, toVector}
 use Rattle.num_position.specs.declared.Position.{Position}
 use Rattle.num_position.proofs.OfSigned.{read, back}

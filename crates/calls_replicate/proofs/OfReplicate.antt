@@ -16,7 +16,7 @@ use Rattle.spec.specs.Layout.Format.{Bytes, numberAt}
 use Rattle.spec.specs.Node.Wire.{opInDomain, storedOp}
 use Rattle.spec.specs.declared.Epoch.{Epoch}
 use Rattle.spec.specs.declared.Offset.{Offset}
-use Rattle.spec.proofs.Lists.{not-both}
+use Rattle.spec_laws.proofs.Lists.{not-both}
 use Rattle.node_shard.specs.declared.Held.{Held}
 use Rattle.wire_read.specs.declared.ReplicatePart.{ReplicatePart}
 use Rattle.wire_write.specs.declared.Reply.{Reply}

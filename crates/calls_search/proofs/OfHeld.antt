@@ -22,7 +22,7 @@ use Rattle.spec.specs.Node.Wire.{floatOf}
 use Rattle.spec.specs.Node.WellFormed.{wellFormedVector}
 use Rattle.spec.specs.declared.Neighbor.{Neighbor}
 use Rattle.spec.specs.declared.Role.{Role}
-use Rattle.spec.proofs.Lists.{and-left, and-right}
+use Rattle.spec_laws.proofs.Lists.{and-left, and-right}
 use Rattle.log_store.specs.Table.{vectorsOf}
 use Rattle.log_store.specs.Store.{Store, storeLog, storeRows, wellFormedStore}
 use Rattle.log_search.specs.declared.select.Hits.{Hits}

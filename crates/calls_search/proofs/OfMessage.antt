@@ -8,7 +8,7 @@ use lib.ListN.{take}
 use Rattle.spec.specs.Keys.{Key}
 use Rattle.spec.specs.Limits.{maxTime}
 use Rattle.spec.specs.Node.Refused.{counted}
-use Rattle.spec.proofs.Lists.{not-both}
+use Rattle.spec_laws.proofs.Lists.{not-both}
 use Rattle.wire_read.specs.declared.SearchPart.{SearchPart}
 use Rattle.log_arrive.specs.Parts.{bitsIn}
 use Rattle.map_names.specs.Texts.{keyIn}

@@ -9,7 +9,7 @@ use native.Mathlib.Omega.{arith}
 use Rattle.spec.specs.Lists.{every}
 use Rattle.spec.specs.Layout.Format.{numberAt}
 use Rattle.spec.specs.Node.Shown as show
-use Rattle.spec.proofs.Map.WellFormed.{map-parts}
+use Rattle.spec_laws.proofs.Map.WellFormed.{map-parts}
 use Rattle.map_tables.specs.View.{viewMap}
 use Rattle.node_header.specs.declared.Kept.{Kept}
 use Rattle.node_header.specs.View.{noKept}

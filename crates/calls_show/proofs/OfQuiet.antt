@@ -11,7 +11,7 @@ use Rattle.spec.specs.Lists.{_and_, _or_, any, every}
 use Rattle.spec.specs.Limits.{maxHeld, maxWorkers}
 use Rattle.spec.specs.Node.Held as held
 use Rattle.spec.specs.Node.Shown as show
-use Rattle.spec.proofs.Map.Rows.{every-tail}
+use Rattle.spec_laws.proofs.Map.Rows.{every-tail}
 use Rattle.map_tables.specs.declared.ShardMap.{ShardMap}
 use Rattle.map_tables.specs.View.{viewMap}
 use Rattle.node_shard.proofs.OfFormed.{formed-few}

@@ -7,7 +7,7 @@ use lib.ListN.{length, take}
 use native.Mathlib.Omega.{arith}
 use Rattle.spec.specs.Lists.{any}
 use Rattle.spec.specs.Layout.Format.{numberAt}
-use Rattle.spec.proofs.Lists.{not-both}
+use Rattle.spec_laws.proofs.Lists.{not-both}
 use Rattle.map_check.specs.Lent.{wellFormedLent}
 use Rattle.node_header.specs.declared.Node.{Node}
 use Rattle.node_header.specs.View.{Stores}

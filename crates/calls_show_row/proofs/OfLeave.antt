@@ -21,7 +21,7 @@ use Rattle.spec.specs.declared.Offset.{Offset}
 use Rattle.spec.specs.declared.Peer.{Peer}
 use Rattle.spec.specs.declared.Role.{Role}
 use Rattle.spec.specs.declared.Role.the-variants.{Backup, Primary}
-use Rattle.spec.proofs.Lists.{and-right}
+use Rattle.spec_laws.proofs.Lists.{and-right}
 use Rattle.map_tables.specs.declared.ShardKey.{ShardKey}
 use Rattle.map_tables.specs.declared.ShardRow.{ShardRow}
 use Rattle.map_tables.specs.Names.{viewKey}

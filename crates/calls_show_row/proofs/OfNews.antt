@@ -11,7 +11,7 @@ use Rattle.spec.specs.Layout.Format.{numberAt}
 use Rattle.spec.specs.Node.Shards.{ofNode}
 use Rattle.spec.specs.Node.Shown as show
 use Rattle.spec.specs.declared.Peer.{Peer}
-use Rattle.spec.proofs.Lists.{by-test}
+use Rattle.spec_laws.proofs.Lists.{by-test}
 use Rattle.node_shard.specs.View.{others, noPeer}
 use Rattle.node_shard.proofs.Loops.{used-next, used-over}
 use Rattle.node_shard.proofs.OfRows.{row-there, row-absent}

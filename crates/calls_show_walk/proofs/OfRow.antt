@@ -24,8 +24,8 @@ use Rattle.spec.specs.declared.Metric.the-variants.{Euclidean}
 use Rattle.spec.specs.declared.Peer.{Peer}
 use Rattle.spec.specs.declared.Role.{Role}
 use Rattle.spec.specs.declared.Role.the-variants.{Backup, Primary}
-use Rattle.spec.proofs.Lists.{not-both}
-use Rattle.spec.proofs.Map.Orders.{same-key}
+use Rattle.spec_laws.proofs.Lists.{not-both}
+use Rattle.spec_laws.proofs.Map.Orders.{same-key}
 use Rattle.node_shard.specs.declared.Held.{Held}
 use Rattle.node_shard.specs.Shows.{workerAt}
 use Rattle.map_tables.specs.declared.ShardRow.{ShardRow}

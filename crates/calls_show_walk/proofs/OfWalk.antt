@@ -13,7 +13,7 @@ use Rattle.spec.specs.Layout.Format.{numberAt}
 use Rattle.spec.specs.Map.Tables as tables
 use Rattle.spec.specs.Node.Shown as show
 use Rattle.spec.specs.declared.Replica.{Replica}
-use Rattle.spec.proofs.Lists.{not-both}
+use Rattle.spec_laws.proofs.Lists.{not-both}
 use Rattle.node_shard.proofs.Loops.{take-put}
 use Rattle.map_tables.specs.declared.ShardRow.{ShardRow}
 use Rattle.map_tables.specs.Counted.{Sized, TablesCounted}

@@ -10,7 +10,7 @@ use Rattle.spec.specs.Lists.{_or_}
 use Rattle.spec.specs.Layout.Format.{Bytes, numberAt, concatMap, All}
 use Rattle.spec.specs.Node.Client.{lacks, overdue, waitRow}
 use Rattle.spec.specs.declared.Peer.{Peer}
-use Rattle.spec.proofs.LayoutLaws.Bytes.{number-below}
+use Rattle.spec_laws.proofs.Wire.Bytes.{number-below}
 use Rattle.node_header.specs.declared.Kept.{Kept}
 use Rattle.node_header.specs.declared.Node.{Node}
 use Rattle.node_header.specs.View.{noKept, used}

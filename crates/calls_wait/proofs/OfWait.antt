@@ -15,8 +15,8 @@ use Rattle.spec.specs.Node.Shards.{leadsAt}
 use Rattle.spec.specs.Node.Client.{toShrink, waitRow, nodeOf, hasAcked}
 use Rattle.spec.specs.declared.Role.{Role}
 use Rattle.spec.specs.declared.Peer.{Peer}
-use Rattle.spec.proofs.Lists.{and-left, not-both}
-use Rattle.spec.proofs.LayoutLaws.Tests.{false-not-true}
+use Rattle.spec_laws.proofs.Lists.{and-left, not-both}
+use Rattle.spec_laws.proofs.Wire.Tests.{false-not-true}
 use Rattle.node_shard.specs.declared.Held.{Held}
 use Rattle.node_shard.specs.declared.Nodes.{Nodes}
 use Rattle.node_shard.specs.declared.WaitAnswer.{WaitAnswer}

@@ -17,8 +17,8 @@ use Rattle.spec.specs.Node.Held as held
 use Rattle.spec.specs.Node.Worker.{Message, newEpochMessage, endOffset, sending, stepHeld}
 use Rattle.spec.specs.declared.Metric.{Metric}
 use Rattle.spec.specs.declared.Role.{Role}
-use Rattle.spec.proofs.Lists.{not-both}
-use Rattle.spec.proofs.Map.Orders.{same-key}
+use Rattle.spec_laws.proofs.Lists.{not-both}
+use Rattle.spec_laws.proofs.Map.Orders.{same-key}
 use Rattle.map_tables.specs.Names.{viewKey}
 use Rattle.log_store.specs.Store.{Store, Sized, storeLog}
 use Rattle.log_store.specs.View.{Columns, logOf}

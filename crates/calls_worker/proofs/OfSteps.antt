@@ -10,7 +10,7 @@ use Rattle.spec.specs.Lists.{_and_}
 use Rattle.spec.specs.Keys.{Key}
 use Rattle.spec.specs.declared.Metric.{Metric}
 use Rattle.spec.specs.Layout.Format.{bytesOf}
-use Rattle.spec.proofs.Lists.{not-both, and-left}
+use Rattle.spec_laws.proofs.Lists.{not-both, and-left}
 use Rattle.wire_write.specs.Written.{textFits}
 use Rattle.node_admit.specs.declared.Step.the-variants as S
 use Rattle.node_header.specs.declared.StepAnswer.the-variants as stepped

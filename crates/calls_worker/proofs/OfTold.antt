@@ -8,7 +8,7 @@ use lib.Dec.{leb}
 use borrow.Author.Tests.{lt-leb, le-leb}
 use Rattle.spec.specs.Keys.{Key}
 use Rattle.spec.specs.declared.Metric.{Metric}
-use Rattle.spec.proofs.Lists.{not-both}
+use Rattle.spec_laws.proofs.Lists.{not-both}
 use Rattle.node_header.specs.declared.Node.{Node}
 use Rattle.node_header.specs.declared.StepAnswer.{StepAnswer}
 use Rattle.node_header.specs.Answers.{StepsNode}

@@ -17,7 +17,7 @@ use Rattle.spec.specs.Node.Held as model
 use Rattle.spec.specs.Node.Wire.{opInDomain, patternsInDomain, storedOp}
 use Rattle.spec.specs.Node.Lease.{before}
 use Rattle.spec.specs.Node.Refused.{counted}
-use Rattle.spec.proofs.Lists.{not-both}
+use Rattle.spec_laws.proofs.Lists.{not-both}
 use Rattle.node_shard.specs.declared.Held.{Held}
 use Rattle.wire_read.specs.declared.WritePart.{WritePart}
 use Rattle.wire_read.specs.declared.OpPart.{OpPart}

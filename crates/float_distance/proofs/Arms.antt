@@ -8,7 +8,7 @@ use Rattle.spec.specs.declared.Metric.{Metric}
 use Rattle.spec.specs.declared.Metric.the-variants.{Euclidean, Angular}
 use Rattle.spec.specs.Nearest.Root.{sqrt}
 use Rattle.spec.specs.Nearest.Distance.{squares, dot, norm, angle, one, plusZero, distance, Bounded}
-use Rattle.spec.proofs.Nearest.NoNan.{distance-no-nan}
+use Rattle.spec_laws.proofs.Nearest.NoNan.{distance-no-nan}
 
 -- ---- a distance by its metric
 pub is-euclid : (m : Metric) (q v : List Float) → m ≡ Euclidean → distance m q v ≡ sqrt binary32 (squares q v)

@@ -7,7 +7,7 @@ use lib.ListN.{length, drop, getD, length-take, length-drop}
 use lib.Seq.{getD-take, getD-drop}
 use lib.Ieee.{Float, nan, binary32, add, mul}
 use Rattle.spec.specs.Nearest.Distance.{sumFrom, plusZero, dot}
-use Rattle.spec.proofs.Nearest.Sums.{sum-step, sum-ends-right}
+use Rattle.spec_laws.proofs.Nearest.Sums.{sum-step, sum-ends-right}
 use Rattle.float_distance.specs.Lanes.{stored}
 
 -- ---- a stored vector

@@ -13,8 +13,8 @@ use lib.Ieee.Compare.{differs-from-itself, nan-differs}
 use lib.Ieee.Exact.{HasValue, odd-sign}
 use lib.Ieee.Fits.{down-pos}
 use Rattle.spec.specs.Nearest.Root.{sqrt, rootable}
-use Rattle.spec.proofs.Nearest.Patterns.{ofBits-is, plus-pattern}
-use Rattle.spec.proofs.Nearest.Tests.{holds-T}
+use Rattle.spec_laws.proofs.Nearest.Patterns.{ofBits-is, plus-pattern}
+use Rattle.spec_laws.proofs.Nearest.Tests.{holds-T}
 
 -- ---- a NaN
 pub nan-root : (x : Float) → ne x x ≡ true → x ≡ sqrt binary32 x

@@ -16,10 +16,10 @@ use lib.Ieee.Exact.{HasValue, odd-sign, units-val}
 use lib.Ieee.Bits.{ofBits-toBits, nanBits-is}
 use Rattle.spec.specs.Nearest.Order.{unitsAt, unitsOf}
 use Rattle.spec.specs.Nearest.Root.{root, rootUnits, sqrt, rootable}
-use Rattle.spec.proofs.Nearest.Patterns.{ofBits-is}
-use Rattle.spec.proofs.Nearest.Tests.{not-of}
-use Rattle.spec.proofs.Nearest.Root.{root-is}
-use Rattle.spec.proofs.Nearest.Exact.{sqrt-at, units-fits}
+use Rattle.spec_laws.proofs.Nearest.Patterns.{ofBits-is}
+use Rattle.spec_laws.proofs.Nearest.Tests.{not-of}
+use Rattle.spec_laws.proofs.Nearest.Root.{root-is}
+use Rattle.spec_laws.proofs.Nearest.Exact.{sqrt-at, units-fits}
 use Rattle.float_root.specs.Digits.{nearRoot, IsNormal, Radicand}
 use Rattle.float_root.proofs.Roots.{root-24, near-up, near-down, root-units}
 

@@ -13,8 +13,8 @@ use lib.Pow.{pow-add, pow-pos, pow-mono}
 use lib.Ieee.{Float, binary32, size, nearest, units}
 use lib.Ieee.Digits.{size-lt, size-le}
 use Rattle.spec.specs.Nearest.Root.{root, rootUnits}
-use Rattle.spec.proofs.Nearest.Root.{IsRoot, root-is, root-unique, sq-back, compare-lt, compare-gt, cmp, Cmp}
-use Rattle.spec.proofs.Nearest.Root.{half-sq, below-next}
+use Rattle.spec_laws.proofs.Nearest.Root.{IsRoot, root-is, root-unique, sq-back, compare-lt, compare-gt, cmp, Cmp}
+use Rattle.spec_laws.proofs.Nearest.Root.{half-sq, below-next}
 use Rattle.float_root.specs.Digits.{nearRoot}
 
 pub near-up : (n r : ℕ) → IsRoot n r → r < n - r * r → nearRoot n ≡ r + 1

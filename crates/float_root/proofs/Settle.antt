@@ -8,7 +8,7 @@ use native.Mathlib.Numerals.{add-one}
 use native.Mathlib.Omega.{arith}
 use lib.Dec.{lit≤}
 use Rattle.spec.specs.Nearest.Root.{root}
-use Rattle.spec.proofs.Nearest.Root.{IsRoot, root-is, sq-back, below-next}
+use Rattle.spec_laws.proofs.Nearest.Root.{IsRoot, root-is, sq-back, below-next}
 use Rattle.float_root.specs.Digits.{nearRoot}
 use Rattle.float_root.proofs.Roots.{near-up, near-down}
 

@@ -11,8 +11,8 @@ use borrow.Author.Tests.{lt-ltb, le-leb}
 use Rattle.spec.specs.Layout.Format.{numberAt, concatMap, All}
 use Rattle.spec.specs.Layout.Parts.{metricCode}
 use Rattle.spec.specs.Node.Held as held
-use Rattle.spec.proofs.LayoutLaws.Data.{metric-of, metric-below}
-use Rattle.spec.proofs.LayoutLaws.Tests.{and-intro}
+use Rattle.spec_laws.proofs.Wire.Data.{metric-of, metric-below}
+use Rattle.spec_laws.proofs.Wire.Tests.{and-intro}
 use Rattle.spec.specs.declared.Peer.{Peer}
 use Rattle.spec.specs.declared.Role.{Role}
 use Rattle.spec.specs.declared.Role.the-variants.{Backup, Primary}

@@ -13,8 +13,8 @@ use Rattle.spec.specs.Limits.{maxHeld, maxName, maxEntries, maxReplicas, maxWor
 use Rattle.spec.specs.Log.{lastOffset}
 use Rattle.spec.specs.Node.Shards.{heldBelow, rowBelow}
 use Rattle.spec.specs.Node.WellFormed.{ackFits, wellFormedHeld, wellFormedHeader}
-use Rattle.spec.proofs.Lists.{and-true, and-left, and-right}
-use Rattle.spec.proofs.Map.Rows.{every-tail, every-cons}
+use Rattle.spec_laws.proofs.Lists.{and-true, and-left, and-right}
+use Rattle.spec_laws.proofs.Map.Rows.{every-tail, every-cons}
 use Rattle.map_tables.specs.Names.{viewName}
 use Rattle.node_header.specs.declared.Kept.{Kept}
 use Rattle.node_header.specs.declared.Node.{Node}

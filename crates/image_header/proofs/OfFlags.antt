@@ -7,11 +7,11 @@ use lib.ListN.{length, drop}
 use native.Mathlib.Omega.{arith}
 use lib.Dec.{leb}
 use borrow.Author.Tests.{lt-ltb, leb-true}
-use Rattle.spec.proofs.Lists.{by-test}
+use Rattle.spec_laws.proofs.Lists.{by-test}
 use Rattle.spec.specs.Lists.{_and_}
 use Rattle.spec.specs.Layout.Format.{numberAt, concatMap, All}
-use Rattle.spec.proofs.LayoutLaws.Tests.{and-intro, and-true, and-false}
-use Rattle.spec.proofs.LayoutLaws.Bytes.{cut-append}
+use Rattle.spec_laws.proofs.Wire.Tests.{and-intro, and-true, and-false}
+use Rattle.spec_laws.proofs.Wire.Bytes.{cut-append}
 use Rattle.spec.specs.declared.Peer.{Peer}
 use Rattle.node_header.specs.declared.Kept.{Kept}
 use Rattle.image_parts.specs.Shape.{Value, items, value, inUse, codesBelow}

@@ -8,7 +8,7 @@ use borrow.Author.Tests.{le-leb}
 use native.Mathlib.Omega.{arith}
 use Rattle.spec.specs.Lists.{any, every, rising}
 use Rattle.spec.specs.Layout.Format.{All}
-use Rattle.spec.proofs.LayoutLaws.Tests.{and-intro, and-left, and-right}
+use Rattle.spec_laws.proofs.Wire.Tests.{and-intro, and-left, and-right}
 use Rattle.map_tables.specs.Names.{viewKey}
 use Rattle.node_shard.specs.Formed.{formedHeld}
 use Rattle.node_shard.specs.declared.Held.{Held}

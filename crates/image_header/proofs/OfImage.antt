@@ -5,7 +5,7 @@ use mathlib.Core.Bool.{true, false}
 use mathlib.Core.List.{List}
 use lib.ListN.{length}
 use borrow.Author.Tests.{le-leb, lt-leb, leb-true}
-use Rattle.spec.proofs.LayoutLaws.Tests.{and-left, and-true, and-false}
+use Rattle.spec_laws.proofs.Wire.Tests.{and-left, and-true, and-false}
 use Rattle.node_header.specs.declared.Node.{Node}
 use Rattle.image_header.specs.Image.{codesListed, headerLent, headerPut, headerWritten}
 

@@ -9,7 +9,7 @@ use mir.Val.{Val}
 use denote.Laws.{Is}
 use denote.Struct.Declared.{row, field}
 use denote.Enum.Declared as enum
-use Rattle.spec.proofs.LayoutLaws.Data.{metric-below}
+use Rattle.spec_laws.proofs.Wire.Data.{metric-below}
 use Rattle.spec.specs.declared.Peer.{Peer}
 use Rattle.spec.specs.declared.Role.{Role}
 use Rattle.spec.specs.declared.Role.the-variants.{Backup, Primary}

@@ -16,7 +16,7 @@ use Rattle.spec.specs.declared.Metric.{Metric}
 use Rattle.spec.specs.declared.Peer.{Peer}
 use Rattle.spec.specs.declared.Role.{Role}
 use Rattle.spec.specs.declared.Role.the-variants.{Backup, Primary}
-use Rattle.spec.proofs.LayoutLaws.Data.{metric-of, metric-below}
+use Rattle.spec_laws.proofs.Wire.Data.{metric-of, metric-below}
 use Rattle.map_tables.specs.declared.ShardKey.{ShardKey}
 use Rattle.map_tables.specs.Names.{viewKey}
 use Rattle.node_header.specs.declared.Kept.{Kept}

@@ -9,7 +9,7 @@ use lib.ListN.{length, getD, take, drop, set, length-append, length-set}
 use lib.Seq.{sets, set-comm, set-set, getD-set-same, getD-set-other, take-set-lt, getD-take}
 use Rattle.spec.specs.Layout.Format.{Bytes, bytesOf, numberAt, concatMap, All}
 use Rattle.spec.specs.Layout.Parts.{metricCode}
-use Rattle.spec.proofs.LayoutLaws.Bytes.{length-bytes}
+use Rattle.spec_laws.proofs.Wire.Bytes.{length-bytes}
 use Rattle.node_admit.specs.declared.Expiry.{Expiry}
 use Rattle.node_admit.specs.declared.Expiry.the-variants.{Never, At}
 use Rattle.node_header.specs.declared.Kept.{Kept}
@@ -26,7 +26,7 @@ use Rattle.image_header.proofs.OfTidy.{KeptFits, all-fit}
 use Rattle.image_header.specs.Image.{nodeAt, headOf, headBytes}
 use Rattle.image_header.specs.Becomes.{HeaderWrites}
 use Rattle.image_header.proofs.Back.{Fits}
-use Rattle.spec.proofs.LayoutLaws.Bytes.{number-below}
+use Rattle.spec_laws.proofs.Wire.Bytes.{number-below}
 use Rattle.image_header_check.specs.Rows.{Counts}
 use Rattle.image_header_check.proofs.OfRows.{held-long}
 use Rattle.image_header_form.proofs.OfBytes.{drop-after}

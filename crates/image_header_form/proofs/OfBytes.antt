@@ -5,7 +5,7 @@ use mathlib.Core.List.{List, [], _∷_}
 use lib.ListN.{length, getD, drop}
 use lib.Seq.{sets, drop-drop}
 use Rattle.spec.specs.Layout.Format.{numberAt}
-use Rattle.spec.proofs.LayoutLaws.Bytes.{cut-append}
+use Rattle.spec_laws.proofs.Wire.Bytes.{cut-append}
 use Rattle.image_parts.specs.Shape.{Shape, byte, word, _▸_, rep, size, items, value, Stored}
 use Rattle.image_parts.proofs.Back.{drop-sets}
 

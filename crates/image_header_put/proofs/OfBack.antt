@@ -11,8 +11,8 @@ use native.Mathlib.Omega.{arith}
 use native.Mathlib.Nat.{mul-suc}
 use Rattle.spec.specs.Layout.Format.{Bytes, bytesOf, numberAt, concatMap, All}
 use Rattle.spec.specs.declared.Peer.{Peer}
-use Rattle.spec.proofs.LayoutLaws.Bytes.{number-below}
-use Rattle.spec.proofs.LayoutLaws.Data.{metric-below}
+use Rattle.spec_laws.proofs.Wire.Bytes.{number-below}
+use Rattle.spec_laws.proofs.Wire.Data.{metric-below}
 use Rattle.node_header.specs.declared.Kept.{Kept}
 use Rattle.node_header.specs.declared.Node.{Node}
 use Rattle.node_header.specs.View.{noKept, used}

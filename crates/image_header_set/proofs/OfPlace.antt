@@ -15,7 +15,7 @@ use Rattle.spec.specs.Layout.Format.{numberAt}
 use Rattle.spec.specs.Node.Shards.{leadsAt}
 use Rattle.spec.specs.declared.Peer.{Peer}
 use Rattle.spec.specs.declared.Role.{Role}
-use Rattle.spec.proofs.Lists.{and-left}
+use Rattle.spec_laws.proofs.Lists.{and-left}
 use Rattle.node_shard.specs.declared.Held.{Held}
 use Rattle.node_shard.specs.Formed.{formedHeld}
 use Rattle.node_shard.specs.View.{others}

@@ -16,7 +16,7 @@ use Rattle.spec.specs.declared.Peer.{Peer}
 use Rattle.spec.specs.declared.Role.{Role}
 use Rattle.spec.proofs.Peer as ofPeer
 use Rattle.spec.specs.declared.Role.the-variants.{Backup}
-use Rattle.spec.proofs.LayoutLaws.Bytes.{number-below, length-bytes}
+use Rattle.spec_laws.proofs.Wire.Bytes.{number-below, length-bytes}
 use Rattle.node_admit.specs.declared.Expiry.{Expiry}
 use Rattle.node_admit.specs.declared.Expiry.the-variants.{Never, At}
 use Rattle.node_shard.specs.declared.Held.{Held}

@@ -9,8 +9,8 @@ use lib.Seq.{sets, length-sets}
 use native.Mathlib.Omega.{arith}
 use Rattle.spec.specs.Layout.Format.{numberAt, concatMap}
 use Rattle.spec.specs.Map.Tables as tables
-use Rattle.spec.proofs.LayoutLaws.Data.{metric-of, metric-below}
-use Rattle.spec.proofs.LayoutLaws.Tests.{and-intro}
+use Rattle.spec_laws.proofs.Wire.Data.{metric-of, metric-below}
+use Rattle.spec_laws.proofs.Wire.Tests.{and-intro}
 use Rattle.map_tables.specs.View.{viewMap}
 use Rattle.map_tables.specs.declared.NodeRow.{NodeRow}
 use Rattle.map_tables.specs.declared.CollectionRow.{CollectionRow}

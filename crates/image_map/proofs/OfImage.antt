@@ -6,7 +6,7 @@ use mathlib.Core.List.{List}
 use lib.ListN.{length}
 use lib.Dec.{leb}
 use borrow.Author.Tests.{le-leb, lt-leb}
-use Rattle.spec.proofs.LayoutLaws.Tests.{and-true, and-false}
+use Rattle.spec_laws.proofs.Wire.Tests.{and-true, and-false}
 use Rattle.map_tables.specs.declared.ShardMap.{ShardMap}
 use Rattle.image_map.specs.Image.{codesListed, mapLent, mapPut, mapWritten}
 

@@ -11,8 +11,8 @@ use Rattle.spec.specs.Lists.{put, lead, any}
 use Rattle.spec.specs.Layout.Format.{numberAt, bytesOf}
 use Rattle.spec.specs.Map.Create.{collectionBelow, hasCollection, isNamed}
 use Rattle.spec.specs.Map.Tables as tables
-use Rattle.spec.proofs.Lists.{not-both}
-use Rattle.spec.proofs.Map.Orders.{names, name-same}
+use Rattle.spec_laws.proofs.Lists.{not-both}
+use Rattle.spec_laws.proofs.Map.Orders.{names, name-same}
 use Rattle.map_tables.specs.Names.{viewName}
 use Rattle.map_tables.specs.View.{viewCollection, viewCollections}
 use Rattle.map_tables.specs.declared.CollectionRow.{CollectionRow}

@@ -11,7 +11,7 @@ use Rattle.spec.specs.Lists.{put, lead, every}
 use Rattle.spec.specs.Layout.Format.{numberAt, bytesOf}
 use Rattle.spec.specs.Map.Create.{shardBelow}
 use Rattle.spec.specs.Map.Tables as tables
-use Rattle.spec.proofs.Map.Orders.{keys}
+use Rattle.spec_laws.proofs.Map.Orders.{keys}
 use Rattle.map_tables.specs.Counted.{rowCounted, Sized}
 use Rattle.map_tables.specs.Names.{viewKey}
 use Rattle.map_tables.specs.View.{viewShard, viewShards}

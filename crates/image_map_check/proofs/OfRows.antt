@@ -15,7 +15,7 @@ use Rattle.spec.specs.Map.Apply.{isClient, isShard}
 use Rattle.spec.specs.Map.Create.{isNamed}
 use Rattle.spec.specs.Map.Change.{holds, isOn, idBelow}
 use Rattle.spec.specs.Map.WellFormed.{tableFits}
-use Rattle.spec.proofs.Lists.{by-test}
+use Rattle.spec_laws.proofs.Lists.{by-test}
 use Rattle.spec.specs.declared.DataNodeId.{DataNodeId}
 use Rattle.spec.specs.declared.Replica.{Replica}
 use Rattle.map_tables.specs.declared.Name.{Name}

@@ -15,10 +15,10 @@ use Rattle.spec.specs.Limits.{maxCollections, maxShards}
 use Rattle.spec.specs.Map.Tables.{NodeInfo, ShardInfo, Map}
 use Rattle.spec.specs.Map.Apply.{isShard}
 use Rattle.spec.specs.Map.Create.{Placement, shardBelow, newShard, withShards, createdShards, createRoom}
-use Rattle.spec.proofs.Lists.{not-both, none-some}
-use Rattle.spec.proofs.Map.Rows.{find-put-other, put-level}
-use Rattle.spec.proofs.Map.Orders.{keys, same-key, key-same, shards-by-key}
-use Rattle.spec.proofs.Rising.{put-rising}
+use Rattle.spec_laws.proofs.Lists.{not-both, none-some}
+use Rattle.spec_laws.proofs.Map.Rows.{find-put-other, put-level}
+use Rattle.spec_laws.proofs.Map.Orders.{keys, same-key, key-same, shards-by-key}
+use Rattle.spec_laws.proofs.Rising.{put-rising}
 use Rattle.spec_count.specs.Closed.{roomFor}
 
 -- 1 for a key that no shard has

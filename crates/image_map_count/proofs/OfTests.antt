@@ -14,7 +14,7 @@ use Rattle.spec.specs.Map.Tables.{Collection}
 use Rattle.spec.specs.Map.Apply.{isShard}
 use Rattle.spec.specs.Map.Create as model
 use Rattle.spec.specs.Map.Create.{isNode, isAlive, isNamed, hasCollection, shardBelow}
-use Rattle.spec.proofs.Map.WellFormed.{map-parts}
+use Rattle.spec_laws.proofs.Map.WellFormed.{map-parts}
 use Rattle.map_tables.specs.Counted.{TablesCounted}
 use Rattle.map_tables.specs.Find.{firstAt}
 use Rattle.map_tables.specs.View.{viewNode, viewNodes, viewCollection, viewCollections, viewShard, viewShards, viewMap}

@@ -13,8 +13,8 @@ use Rattle.spec.specs.Map.Apply.{setCollections}
 use Rattle.spec.specs.Map.Change.{accepts, rejects}
 use Rattle.spec.specs.Map.Create.{Placement, collectionBelow, hasCollection, withShards, createdCollections, createdShards, createAnswer}
 use Rattle.spec.specs.Map.Tables as tables
-use Rattle.spec.proofs.Map.Rows.{put-most}
-use Rattle.spec.proofs.Map.WellFormed.{create-room}
+use Rattle.spec_laws.proofs.Map.Rows.{put-most}
+use Rattle.spec_laws.proofs.Map.WellFormed.{create-room}
 use Rattle.map_create.proofs.OfCreate.{exists-answer}
 use Rattle.image_map_put.specs.Few.{Few}
 use Rattle.image_map_put.specs.Rows.{readAs}

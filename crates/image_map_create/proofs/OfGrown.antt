@@ -8,7 +8,7 @@ use Rattle.spec.specs.Keys.{Name}
 use Rattle.spec.specs.Lists.{put}
 use Rattle.spec.specs.Map.Create.{Placement, newShard, shardBelow, withShards}
 use Rattle.spec.specs.Map.Tables as tables
-use Rattle.spec.proofs.Map.Rows.{put-least}
+use Rattle.spec_laws.proofs.Map.Rows.{put-least}
 use Rattle.map_create.proofs.OfList.{open-shards, shards-end, shards-least}
 use Rattle.image_map_put.specs.Few.{Few}
 use Rattle.image_map_put.specs.Rows.{readAs}

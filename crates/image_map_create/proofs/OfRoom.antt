@@ -15,10 +15,10 @@ use Rattle.spec.specs.Map.Apply.{isShard}
 use Rattle.spec.specs.Map.Create.{Placement, newShard, shardBelow, withShards, createdShards, createRoom}
 use Rattle.spec.specs.Layout.Format.{numberAt}
 use Rattle.spec.specs.Map.Tables.{NodeInfo, ShardInfo}
-use Rattle.spec.proofs.Lists.{by-test, not-both}
-use Rattle.spec.proofs.Rising.{ByKey, rising-tail, rising-head, put-rising}
-use Rattle.spec.proofs.Map.Orders.{keys, same-key, key-same, shards-by-key}
-use Rattle.spec.proofs.Map.Sets.{any-put-other}
+use Rattle.spec_laws.proofs.Lists.{by-test, not-both}
+use Rattle.spec_laws.proofs.Rising.{ByKey, rising-tail, rising-head, put-rising}
+use Rattle.spec_laws.proofs.Map.Orders.{keys, same-key, key-same, shards-by-key}
+use Rattle.spec_laws.proofs.Map.Sets.{any-put-other}
 use Rattle.map_tables.specs.Find.{firstAt}
 use Rattle.map_tables.specs.Names.{viewKey}
 use Rattle.map_tables.specs.View.{viewShard, viewShards}

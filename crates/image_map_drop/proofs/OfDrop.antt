@@ -12,7 +12,7 @@ use Rattle.spec.specs.Layout.Format.{numberAt}
 use Rattle.spec.specs.Map.Apply.{setCollections}
 use Rattle.spec.specs.Map.Create.{hasCollection, isNamed}
 use Rattle.spec.specs.Map.Tables as tables
-use Rattle.spec.proofs.Map.Rows.{length-filter}
+use Rattle.spec_laws.proofs.Map.Rows.{length-filter}
 use Rattle.map_tables.specs.Find.{firstAt}
 use Rattle.map_tables.specs.View.{viewCollection, viewCollections}
 use Rattle.map_tables.specs.declared.CollectionRow.{CollectionRow}

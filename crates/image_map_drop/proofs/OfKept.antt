@@ -12,8 +12,8 @@ use Rattle.spec.specs.Keys.{sameName}
 use Rattle.spec.specs.Lists.{every, filter}
 use Rattle.spec.specs.Layout.Format.{numberAt, bytesOf}
 use Rattle.spec.specs.Map.Tables as tables
-use Rattle.spec.proofs.LayoutLaws.Bytes.{length-bytes}
-use Rattle.spec.proofs.Map.Rows.{every-filter}
+use Rattle.spec_laws.proofs.Wire.Bytes.{length-bytes}
+use Rattle.spec_laws.proofs.Map.Rows.{every-filter}
 use Rattle.map_tables.specs.Counted.{rowCounted}
 use Rattle.map_tables.specs.Names.{viewName}
 use Rattle.map_tables.specs.View.{viewCollection, viewShard}

@@ -6,7 +6,7 @@ use lib.ListN.{length, getD}
 use lib.Seq.{sets, length-sets}
 use native.Mathlib.Omega.{arith}
 use Rattle.spec.specs.Layout.Format.{bytesOf}
-use Rattle.spec.proofs.LayoutLaws.Bytes.{length-bytes}
+use Rattle.spec_laws.proofs.Wire.Bytes.{length-bytes}
 use Rattle.image_parts.specs.Shape.{Stored}
 use Rattle.image_move.specs.Moved.{Moved}
 use Rattle.image_move.proofs.OfMoves.{sets-below, sets-behind}

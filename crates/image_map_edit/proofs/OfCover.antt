@@ -11,7 +11,7 @@ use native.Mathlib.Omega.{arith}
 use borrow.Author.Tests.{ltb-true, ltb-false}
 use Rattle.spec.specs.Layout.Format.{bytesOf, concatMap}
 use Rattle.spec.specs.Map.Tables as tables
-use Rattle.spec.proofs.LayoutLaws.Bytes.{length-bytes}
+use Rattle.spec_laws.proofs.Wire.Bytes.{length-bytes}
 use Rattle.map_tables.specs.declared.NodeRow.{NodeRow}
 use Rattle.map_tables.specs.declared.CollectionRow.{CollectionRow}
 use Rattle.map_tables.specs.declared.ShardRow.{ShardRow}

@@ -10,7 +10,7 @@ use Rattle.spec.specs.Lists.{every}
 use Rattle.spec.specs.Layout.Format.{numberAt, bytesOf}
 use Rattle.spec.specs.Map.Apply.{setNodes, setCollections, setShards}
 use Rattle.spec.specs.Map.Tables as tables
-use Rattle.spec.proofs.LayoutLaws.Bytes.{length-bytes}
+use Rattle.spec_laws.proofs.Wire.Bytes.{length-bytes}
 use Rattle.map_tables.specs.Counted.{rowCounted, TablesCounted}
 use Rattle.map_tables.specs.View.{viewNode, viewCollection, viewShard, viewSession, viewMap}
 use Rattle.map_tables.specs.declared.ShardMap.{ShardMap}

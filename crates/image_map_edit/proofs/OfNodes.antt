@@ -11,7 +11,7 @@ use Rattle.spec.specs.Lists.{put, lead}
 use Rattle.spec.specs.Layout.Format.{numberAt, bytesOf}
 use Rattle.spec.specs.Map.Apply.{nodeBelow}
 use Rattle.spec.specs.Map.Tables as tables
-use Rattle.spec.proofs.Map.Orders.{numbers}
+use Rattle.spec_laws.proofs.Map.Orders.{numbers}
 use Rattle.map_tables.specs.View.{viewNode, viewNodes}
 use Rattle.map_tables.specs.declared.NodeRow.{NodeRow}
 use Rattle.map_tables.proofs.Tables.{map-set, lead-most}

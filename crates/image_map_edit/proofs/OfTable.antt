@@ -10,7 +10,7 @@ use borrow.Author.Tests.{ltb-true, ltb-false, eqb-true, eqb-false}
 use native.Mathlib.Omega.{arith}
 use native.Mathlib.Nat.{mul-suc, mul-add}
 use Rattle.spec.specs.Layout.Format.{numberAt, bytesOf}
-use Rattle.spec.proofs.LayoutLaws.Bytes.{number-bytes, length-bytes}
+use Rattle.spec_laws.proofs.Wire.Bytes.{number-bytes, length-bytes}
 use Rattle.image_parts.specs.Shape.{Stored, items}
 use Rattle.image_parts.proofs.Back.{drop-sets}
 use Rattle.image_parts.proofs.Images.{length-items, row-room}

@@ -12,7 +12,7 @@ use Rattle.spec.specs.Lists.{_and_, put, lead, every}
 use Rattle.spec.specs.Layout.Format.{numberAt, bytesOf}
 use Rattle.spec.specs.Map.Apply.{sessionBelow, nodeBelow}
 use Rattle.spec.specs.Map.Tables as tables
-use Rattle.spec.proofs.Map.Orders.{numbers}
+use Rattle.spec_laws.proofs.Map.Orders.{numbers}
 use Rattle.map_tables.specs.Counted.{rowCounted, Sized}
 use Rattle.map_tables.specs.View.{viewSession, viewShard, viewSessions, viewShards}
 use Rattle.map_tables.specs.declared.SessionRow.{SessionRow}

@@ -8,7 +8,7 @@ use native.Mathlib.Omega.{arith}
 use mir.Val.{Val}
 use denote.Laws.{Is}
 use denote.Struct.Declared.{row}
-use Rattle.spec.proofs.LayoutLaws.Data.{metric-of, metric-below}
+use Rattle.spec_laws.proofs.Wire.Data.{metric-of, metric-below}
 use Rattle.map_tables.specs.declared.NodeRow.{NodeRow}
 use Rattle.map_tables.specs.declared.CollectionRow.{CollectionRow}
 use Rattle.map_tables.specs.declared.Primary.{Primary}

@@ -16,7 +16,7 @@ use Rattle.spec.specs.Map.Tables.{NodeInfo}
 use Rattle.spec.specs.Map.Place as place
 use Rattle.spec.specs.Map.Place.{onNode, replicasOf, lightest, loadsOf}
 use Rattle.spec.specs.declared.Replica.{Replica}
-use Rattle.spec.proofs.Map.Rows.{every-cons, every-tail}
+use Rattle.spec_laws.proofs.Map.Rows.{every-cons, every-tail}
 use Rattle.map_tables.specs.Counted.{ShardsCounted}
 use Rattle.map_tables.specs.View.{viewNode, viewNodes, viewShard, viewShards}
 use Rattle.image_parts.specs.Parts.{replicasAt}

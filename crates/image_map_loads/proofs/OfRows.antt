@@ -11,7 +11,7 @@ use native.Mathlib.Omega.{arith}
 use Rattle.spec.specs.Lists.{_and_, find}
 use Rattle.spec.specs.Layout.Format.{numberAt}
 use Rattle.spec.specs.Map.Tables as tables
-use Rattle.spec.proofs.Lists.{and-left}
+use Rattle.spec_laws.proofs.Lists.{and-left}
 use Rattle.map_tables.specs.Counted.{rowCounted, ShardsCounted}
 use Rattle.map_tables.specs.Find.{firstAt}
 use Rattle.map_tables.specs.View.{viewNode, viewNodes, viewShard, viewShards}

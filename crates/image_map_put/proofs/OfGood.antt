@@ -12,8 +12,8 @@ use Rattle.spec.specs.Layout.Format.{Bytes, All}
 use Rattle.spec.specs.Layout.Parts.{metricOf}
 use Rattle.spec.specs.declared.DataNodeId.{DataNodeId}
 use Rattle.spec.specs.declared.Replica.{Replica}
-use Rattle.spec.proofs.LayoutLaws.Bytes.{number-below}
-use Rattle.spec.proofs.LayoutLaws.Data.{metric-below}
+use Rattle.spec_laws.proofs.Wire.Bytes.{number-below}
+use Rattle.spec_laws.proofs.Wire.Data.{metric-below}
 use Rattle.map_tables.specs.Names.{viewKey}
 use Rattle.map_tables.specs.View.{viewNode, viewCollection, viewPrimary, viewShard, viewSession, rejectionOf, outcomeOf}
 use Rattle.image_parts.specs.Shape.{Shape, Value, byte, word, _▸_, rep, size, items, value, Good, u64}

@@ -7,7 +7,7 @@ use lib.Seq.{sets, sets-eq}
 use native.Mathlib.Omega.{arith}
 use Rattle.spec.specs.Layout.Format.{Bytes, bytesOf, numberAt, concatMap, All}
 use Rattle.spec.specs.Map.Tables as tables
-use Rattle.spec.proofs.LayoutLaws.Bytes.{bytes-number, number-below}
+use Rattle.spec_laws.proofs.Wire.Bytes.{bytes-number, number-below}
 use Rattle.map_tables.specs.View.{viewNode, viewCollection, viewShard, viewSession, viewMap}
 use Rattle.map_tables.specs.declared.NodeRow.{NodeRow}
 use Rattle.map_tables.specs.declared.CollectionRow.{CollectionRow}

@@ -7,7 +7,7 @@ use lib.Seq.{sets, drop-drop, getD-drop}
 use native.Mathlib.Omega.{arith}
 use native.Mathlib.Nat.{mul-suc}
 use Rattle.spec.specs.Layout.Format.{numberAt}
-use Rattle.spec.proofs.LayoutLaws.Bytes.{cut-append}
+use Rattle.spec_laws.proofs.Wire.Bytes.{cut-append}
 use Rattle.image_parts.specs.Shape.{Shape, byte, word, _▸_, rep, size, items, value, Stored}
 use Rattle.image_parts.proofs.Back.{drop-sets}
 

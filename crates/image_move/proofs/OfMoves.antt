@@ -9,7 +9,7 @@ use lib.ListN.{length, getD, take, drop, set, length-set, length-take, length-dr
 use lib.Seq.{sets, length-sets, getD-take, getD-drop, getD-set-same, getD-set-other, ext-getD}
 use native.Mathlib.Omega.{arith}
 use Rattle.spec.specs.Layout.Format.{Bytes, numberAt, bytesOf}
-use Rattle.spec.proofs.LayoutLaws.Bytes.{bytes-number, length-bytes}
+use Rattle.spec_laws.proofs.Wire.Bytes.{bytes-number, length-bytes}
 use Rattle.image_move.specs.Moved.{Moved}
 use Rattle.image_move.proofs.OfBytes.{Same}
 

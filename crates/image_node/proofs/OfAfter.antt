@@ -17,7 +17,7 @@ use Rattle.spec.specs.Keys.{Key, keyBelow}
 use Rattle.spec.specs.Layout.Format.{Bytes}
 use Rattle.spec.specs.Node.Held as held
 use Rattle.spec.specs.Node.Shards.{Result, heldShard, withHeld}
-use Rattle.spec.proofs.Lists.{not-both, and-left, and-right}
+use Rattle.spec_laws.proofs.Lists.{not-both, and-left, and-right}
 use Rattle.spec_retained.specs.Retained.{CarriesAll}
 use Rattle.spec_retained.proofs.OfBegin.{Fresh, PutIn, put-at}
 use Rattle.node_shard.specs.View.{insertAt}

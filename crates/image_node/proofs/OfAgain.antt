@@ -15,8 +15,8 @@ use Rattle.spec.specs.Lists.{_and_, every}
 use Rattle.spec.specs.Log.{Op, upsert, delete, Entry, Log, components}
 use Rattle.spec.specs.Layout.Format.{bytesOf, concatMap, All}
 use Rattle.spec.specs.Node.WellFormed.{numberedFrom, wellFormedEntry}
-use Rattle.spec.proofs.Lists.{and-true}
-use Rattle.spec.proofs.Log.Numbered.{numbered-test}
+use Rattle.spec_laws.proofs.Lists.{and-true}
+use Rattle.spec_laws.proofs.Log.Numbered.{numbered-test}
 use Rattle.log_store.specs.View.{logOf}
 use Rattle.log_store.specs.Table.{rowsOf, playRows}
 use Rattle.log_store.specs.Store.{everyBelow, codeFits, sameRows, wellFormedStore}

@@ -14,7 +14,7 @@ use Rattle.spec.specs.Lists.{nth, lead}
 use Rattle.spec.specs.Keys.{Key}
 use Rattle.spec.specs.Log.{Log, Vectors}
 use Rattle.spec.specs.Node.Held as held
-use Rattle.spec.proofs.Lists.{not-both, nth-same}
+use Rattle.spec_laws.proofs.Lists.{not-both, nth-same}
 use Rattle.spec_retained.proofs.OfBegin.{Fresh}
 use Rattle.node_shard.specs.View.{insertAt}
 use Rattle.node_shard.proofs.Loops.{lead-most}

@@ -13,8 +13,8 @@ use borrow.Author.Tests.{leb-true, le-leb, eqb-true, eq-eqb}
 use Rattle.spec.specs.Lists.{_and_, every}
 use Rattle.spec.specs.Log.{Log, Vectors}
 use Rattle.spec.specs.Nearest.Search.{Vector}
-use Rattle.spec.proofs.Lists.{by-test, and-left, and-right}
-use Rattle.spec.proofs.Map.Rows.{every-tail, every-cons}
+use Rattle.spec_laws.proofs.Lists.{by-test, and-left, and-right}
+use Rattle.spec_laws.proofs.Map.Rows.{every-tail, every-cons}
 use Rattle.log_store.specs.Table.{Row, rowsOf, vectorOf, vectorsOf}
 use Rattle.log_store.proofs.Rows.{rows-length, zipped-length}
 use Rattle.node_header.specs.declared.Kept.{Kept}

@@ -17,7 +17,7 @@ use Rattle.spec.specs.Log.{Log, Vectors}
 use Rattle.spec.specs.Layout.Format.{Bytes}
 use Rattle.spec.specs.Node.Held as held
 use Rattle.spec.specs.Node.Shards.{heldShard}
-use Rattle.spec.proofs.Lists.{and-left, and-right, nth-same}
+use Rattle.spec_laws.proofs.Lists.{and-left, and-right, nth-same}
 use Rattle.spec_retained.specs.Retained.{Retains, Carries, CarriesAll}
 use Rattle.spec_retained.proofs.OfPlaces.{others, found-carried}
 use Rattle.node_shard.specs.Formed.{formedHeld}

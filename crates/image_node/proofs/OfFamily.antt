@@ -7,7 +7,7 @@ use lib.Dec.{eqb}
 use lib.ListN.{length}
 use borrow.Author.Tests.{eq-eqb}
 use Rattle.spec.specs.Log.{Log, Vectors}
-use Rattle.spec.proofs.Lists.{by-test}
+use Rattle.spec_laws.proofs.Lists.{by-test}
 use Rattle.log_store.specs.View.{logOf}
 use Rattle.log_store.specs.Table.{zipped, rowsOf, vectorsOf}
 use Rattle.log_store.proofs.Columns.{log-length}

@@ -15,7 +15,7 @@ use Rattle.spec.specs.Layout.Format.{Bytes, numberAt}
 use Rattle.spec.specs.Node.Held as held
 use Rattle.spec.specs.Node.Shards.{Result, heldShard}
 use Rattle.spec.specs.Node.WellFormed.{wellFormedHeader}
-use Rattle.spec.proofs.Lists.{and-left, and-right}
+use Rattle.spec_laws.proofs.Lists.{and-left, and-right}
 use Rattle.spec_retained.specs.Retained.{CarriesAll}
 use Rattle.spec_retained.proofs.OfBegin.{PutIn}
 use Rattle.node_shard.specs.View.{insertAt}

@@ -12,7 +12,7 @@ use Rattle.spec.specs.Lists.{_and_}
 use Rattle.spec.specs.Keys.{Key}
 use Rattle.spec.specs.Layout.Format.{Bytes}
 use Rattle.spec.specs.Node.Wire.{floatOf}
-use Rattle.spec.proofs.Lists.{and-true, and-left, not-both}
+use Rattle.spec_laws.proofs.Lists.{and-true, and-left, not-both}
 use Rattle.log_check.proofs.Answers.{true-if}
 use Rattle.image_parts.proofs.Tests.{none-of-third, all-of}
 use Rattle.node_header.specs.declared.Kept.{Kept}

@@ -8,7 +8,7 @@ use lib.Dec.{leb, ltb}
 use lib.ListN.{length, getD}
 use borrow.Author.Tests.{ltb-true, lt-ltb, le-ltb, leb-true}
 use Rattle.spec.specs.Keys.{Key}
-use Rattle.spec.proofs.Lists.{and-left, and-right, not-both}
+use Rattle.spec_laws.proofs.Lists.{and-left, and-right, not-both}
 use Rattle.log_store.specs.Store.{Sized, wellFormedStore}
 use Rattle.log_store.proofs.Facts.{facts}
 use Rattle.node_send.specs.Sent.{Sendable}

@@ -13,7 +13,7 @@ use Rattle.spec.specs.Lists.{_and_, any, nth}
 use Rattle.spec.specs.Log.{Log, Vectors}
 use Rattle.spec.specs.Node.Held as held
 use Rattle.spec.specs.Node.Shards.{withHeld}
-use Rattle.spec.proofs.Lists.{and-left, and-right, not-both, nth-getD}
+use Rattle.spec_laws.proofs.Lists.{and-left, and-right, not-both, nth-getD}
 use Rattle.node_shard.specs.View.{viewHeld}
 use Rattle.map_tables.specs.Names.{viewKey}
 use Rattle.node_header.specs.declared.Kept.{Kept}

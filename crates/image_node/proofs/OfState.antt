@@ -11,7 +11,7 @@ use lib.Seq.{length-take-le, getD-take}
 use borrow.Author.Tests.{ltb-true, lt-ltb, leb-true, le-leb}
 use Rattle.spec.specs.Lists.{_and_, every}
 use Rattle.spec.specs.Keys.{Key}
-use Rattle.spec.proofs.Lists.{and-true, and-left, and-right}
+use Rattle.spec_laws.proofs.Lists.{and-true, and-left, and-right}
 use Rattle.log_store.specs.Store.{Sized, wellFormedStore}
 use Rattle.log_store.proofs.Facts.{facts}
 use Rattle.log_check.proofs.Answers.{true-if}

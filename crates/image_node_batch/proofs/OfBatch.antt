@@ -15,7 +15,7 @@ use Rattle.spec.specs.Layout.Parts.{entryF, entryOf, WireEntry}
 use Rattle.spec.specs.Node.Wire.{opInDomain, entryInDomain, storedEntry}
 use Rattle.spec.specs.declared.Metric.{Metric}
 use Rattle.spec.specs.declared.Metric.the-variants.{Euclidean}
-use Rattle.spec.proofs.Log.Store.{push-length, store-next, store-old, store-far, store-all-longer}
+use Rattle.spec_laws.proofs.Log.Store.{push-length, store-next, store-old, store-far, store-all-longer}
 use Rattle.wire_read.specs.Shown.{part, entryShown}
 use Rattle.wire_read.specs.declared.Part.{Part}
 use Rattle.wire_read.specs.declared.EntryPart.{EntryPart}

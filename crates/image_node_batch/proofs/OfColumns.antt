@@ -15,7 +15,7 @@ use Rattle.spec.specs.Layout.Format.{next, value}
 use Rattle.spec.specs.Layout.Parts.{entryF, entryOf}
 use Rattle.spec.specs.Node.Wire.{opInDomain, entryInDomain, storedOp, storedEntry}
 use Rattle.spec.specs.declared.Offset.{Offset}
-use Rattle.spec.proofs.Lists.{not-both}
+use Rattle.spec_laws.proofs.Lists.{not-both}
 use Rattle.wire_read.specs.Shown.{part, entryShown}
 use Rattle.wire_read.specs.declared.Part.{Part}
 use Rattle.wire_read.specs.declared.EntryPart.{EntryPart}

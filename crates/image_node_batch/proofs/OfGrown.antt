@@ -10,7 +10,7 @@ use Rattle.spec.specs.Log.{Op, Entry, Log, ShardReplica, push}
 use Rattle.spec.specs.Layout.Format.{Bytes}
 use Rattle.spec.specs.declared.Metric.{Metric}
 use Rattle.spec.specs.declared.Metric.the-variants.{Euclidean}
-use Rattle.spec.proofs.Lists.{and-left, and-right}
+use Rattle.spec_laws.proofs.Lists.{and-left, and-right}
 use Rattle.wire_read.specs.declared.OpPart.{OpPart}
 use Rattle.log_store.specs.View.{opFrom, logOf}
 use Rattle.log_store.specs.Table.{Row, playRows, vectorsOf}

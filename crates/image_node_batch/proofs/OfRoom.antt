@@ -11,8 +11,8 @@ use Rattle.spec.specs.Log.{Entry, ShardReplica, lastOffset, store, storeAll}
 use Rattle.spec.specs.Layout.Format.{next, value, valueN}
 use Rattle.spec.specs.Layout.Parts.{entryF, entryOf, WireEntry}
 use Rattle.spec.specs.Node.Wire.{storedEntry}
-use Rattle.spec.proofs.Lists.{not-both}
-use Rattle.spec.proofs.Log.Store.{store-one-more}
+use Rattle.spec_laws.proofs.Lists.{not-both}
+use Rattle.spec_laws.proofs.Log.Store.{store-one-more}
 use Rattle.wire_read.specs.declared.Part.{Part}
 use Rattle.wire_read.proofs.Places.{length-valueN}
 use Rattle.log_domain.specs.Parts.{entriesIn}

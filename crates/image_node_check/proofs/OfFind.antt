@@ -11,7 +11,7 @@ use lib.Seq.{getD-take}
 use Rattle.spec.specs.Lists.{_and_, lead}
 use Rattle.spec.specs.Keys.{Key}
 use Rattle.spec.specs.Layout.Format.{numberAt}
-use Rattle.spec.proofs.Lists.{and-left, and-right, not-both}
+use Rattle.spec_laws.proofs.Lists.{and-left, and-right, not-both}
 use Rattle.node_header.specs.declared.Kept.{Kept}
 use Rattle.node_header.specs.declared.Node.{Node}
 use Rattle.node_header.specs.View.{Stores, noKept, otherKey, used}

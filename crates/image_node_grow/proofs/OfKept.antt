@@ -12,7 +12,7 @@ use Rattle.spec.specs.Lists.{_and_, every}
 use Rattle.spec.specs.Log.{Log}
 use Rattle.spec.specs.Layout.Format.{Bytes, bytesOf, concatMap, All}
 use Rattle.spec.specs.Node.WellFormed.{numberedFrom, wellFormedEntry}
-use Rattle.spec.proofs.Lists.{and-left, and-right}
+use Rattle.spec_laws.proofs.Lists.{and-left, and-right}
 use Rattle.log_store.specs.View.{logOf}
 use Rattle.log_store.specs.Table.{Row, rowsOf, playRows}
 use Rattle.log_store.specs.Store.{everyBelow, sameRows, wellFormedStore}

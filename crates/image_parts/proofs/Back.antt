@@ -9,8 +9,8 @@ use borrow.Author.Tests.{lt-ltb, le-leb}
 use native.Mathlib.Omega.{arith}
 use native.Mathlib.Nat.{zero-add}
 use Rattle.spec.specs.Layout.Format.{numberAt, concatMap, All}
-use Rattle.spec.proofs.LayoutLaws.Tests.{and-intro}
-use Rattle.spec.proofs.LayoutLaws.Bytes.{cut, cut-append, number-bytes, length-bytes}
+use Rattle.spec_laws.proofs.Wire.Tests.{and-intro}
+use Rattle.spec_laws.proofs.Wire.Bytes.{cut, cut-append, number-bytes, length-bytes}
 use Rattle.image_parts.specs.Shape.{Shape, byte, word, _▸_, rep, Value, size, items, value, encode, Good, inUse, rowsAt, codesBelow}
 
 -- ---- rows one after another

@@ -12,8 +12,8 @@ use native.Mathlib.Numerals.{add-one}
 use native.Mathlib.Nat.{add-zero, sub-zero, add-suc, suc-add, mul-suc, mul-le-mul}
 use Rattle.spec.specs.Lists.{_and_}
 use Rattle.spec.specs.Layout.Format.{bytesOf, numberAt, concatMap}
-use Rattle.spec.proofs.LayoutLaws.Tests.{and-true, and-false}
-use Rattle.spec.proofs.LayoutLaws.Bytes.{length-bytes}
+use Rattle.spec_laws.proofs.Wire.Tests.{and-true, and-false}
+use Rattle.spec_laws.proofs.Wire.Bytes.{length-bytes}
 use Rattle.image_parts.specs.Shape.{byte, items, encode, inUse, rowsAt, codesBelow, Stored}
 
 -- ---- stores one after another

@@ -2,7 +2,7 @@
 use mathlib.Core.Path.{_≡_, refl, sym, _∙_}
 use mathlib.Core.Bool.{Bool, true, false}
 use Rattle.spec.specs.Lists.{_and_}
-use Rattle.spec.proofs.LayoutLaws.Tests.{and-true, and-false}
+use Rattle.spec_laws.proofs.Wire.Tests.{and-true, and-false}
 
 module _ (a b c d : Bool) where
   pub none-of-first : a ≡ false → false ≡ (a and (b and (c and d)))

@@ -19,7 +19,7 @@ use Rattle.spec.specs.Node.Worker.{Message, messageBytes, newEpochMessage, copi
 use Rattle.spec.specs.declared.Metric.{Metric}
 use Rattle.spec.specs.declared.Epoch.{Epoch}
 use Rattle.spec.specs.declared.Offset.{Offset}
-use Rattle.spec.proofs.Lists.{and-left, and-right, and-true, not-both}
+use Rattle.spec_laws.proofs.Lists.{and-left, and-right, and-true, not-both}
 use Rattle.wire_write.specs.Rows.{rowsSize}
 use Rattle.wire_write.specs.Tables.{endsGiven}
 use Rattle.wire_write.specs.Written.{opSize}

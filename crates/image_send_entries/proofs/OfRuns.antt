@@ -11,7 +11,7 @@ use lib.ListN.{length, getD, drop, drop-of-length-le}
 use lib.Seq.{sets, drop-cons}
 use Rattle.spec.specs.Log.{Entry, End, Log, withEnd, epochEnds}
 use Rattle.spec.specs.Layout.Format.{bytesOf, numberAt}
-use Rattle.spec.proofs.Lists.{not-both}
+use Rattle.spec_laws.proofs.Lists.{not-both}
 use Rattle.wire_write.proofs.Writes.{sets-then}
 use Rattle.log_store.proofs.Ends.{pair}
 use Rattle.log_store.proofs.Firsts.{firsts-at, firsts-length}

@@ -16,9 +16,9 @@ use Rattle.spec.specs.Log.{Entry, Log, components}
 use Rattle.spec.specs.Layout.Format.{Bytes, bytesOf, numberAt, concatMap}
 use Rattle.spec.specs.Nearest.Order.{bitsInDomain}
 use Rattle.spec.specs.Node.Wire.{floatOf, bitsOf, floatsOf}
-use Rattle.spec.proofs.Lists.{and-left, and-right}
-use Rattle.spec.proofs.LayoutLaws.Bytes.{bytes-number, number-below}
-use Rattle.spec.proofs.Map.Rows.{every-tail}
+use Rattle.spec_laws.proofs.Lists.{and-left, and-right}
+use Rattle.spec_laws.proofs.Wire.Bytes.{bytes-number, number-below}
+use Rattle.spec_laws.proofs.Map.Rows.{every-tail}
 use Rattle.wire_write.specs.Written.{opBytes, opSize}
 use Rattle.wire_write.specs.Rows.{rowsSize}
 use Rattle.wire_write.proofs.Rows.{size-step}

@@ -21,7 +21,7 @@ use Rattle.spec.specs.declared.Replica.{Replica}
 use Rattle.spec.specs.declared.Peer.{Peer}
 use Rattle.spec.specs.declared.Role.{Role}
 use Rattle.spec.specs.declared.Role.the-variants.{Backup, Primary}
-use Rattle.spec.proofs.Lists.{not-both}
+use Rattle.spec_laws.proofs.Lists.{not-both}
 use Rattle.map_tables.specs.declared.ShardRow.{ShardRow}
 use Rattle.map_tables.specs.declared.Holders.{Holders}
 use Rattle.map_tables.specs.View.{viewHolders, viewShard}

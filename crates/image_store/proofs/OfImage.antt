@@ -16,7 +16,7 @@ use Rattle.spec.specs.Log.{Entry, Log, upsert, delete}
 use Rattle.spec.specs.Layout.Format.{bytesOf, numberAt, concatMap, All}
 use Rattle.spec.specs.Node.Wire.{floatsOf}
 use Rattle.spec.specs.Node.WellFormed.{component, wellFormedVector, wellFormedOp, wellFormedEntry}
-use Rattle.spec.proofs.Lists.{and-left, and-right}
+use Rattle.spec_laws.proofs.Lists.{and-left, and-right}
 use Rattle.wire_write.proofs.Writes.{length-words}
 use Rattle.log_store.specs.View.{opFrom}
 use Rattle.log_store.specs.Table.{Row, rowsOf, zipped}

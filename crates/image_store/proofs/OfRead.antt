@@ -16,7 +16,7 @@ use Rattle.spec.specs.Log.{upsert, delete}
 use Rattle.spec.specs.Layout.Format.{numberAt}
 use Rattle.spec.specs.Nearest.Order.{bitsInDomain}
 use Rattle.spec.specs.Node.Wire.{floatsOf}
-use Rattle.spec.proofs.Map.Rows.{every-tail}
+use Rattle.spec_laws.proofs.Map.Rows.{every-tail}
 use Rattle.log_store.specs.View.{stretch, opOf, entryOf, logOf, opFrom}
 use Rattle.log_store.specs.Store.{lent, wellFormedStore}
 use Rattle.log_store.proofs.Facts.{facts, below-fact}

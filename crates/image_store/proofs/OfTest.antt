@@ -15,9 +15,9 @@ use Rattle.spec.specs.Layout.Format.{numberAt}
 use Rattle.spec.specs.Nearest.Order.{inDomain, bitsInDomain}
 use Rattle.spec.specs.Node.Wire.{floatOf, floatsOf}
 use Rattle.spec.specs.Node.WellFormed.{component, numberedFrom, wellFormedVector, wellFormedOp, wellFormedEntry}
-use Rattle.spec.proofs.Lists.{and-true, and-left, and-right}
-use Rattle.spec.proofs.Log.Numbered.{test-numbered, numbered-test}
-use Rattle.spec.proofs.Map.Rows.{every-tail, every-cons}
+use Rattle.spec_laws.proofs.Lists.{and-true, and-left, and-right}
+use Rattle.spec_laws.proofs.Log.Numbered.{test-numbered, numbered-test}
+use Rattle.spec_laws.proofs.Map.Rows.{every-tail, every-cons}
 use Rattle.log_store.specs.View.{opFrom, logOf}
 use Rattle.log_store.specs.Table.{playRows}
 use Rattle.log_store.specs.Store.{Store, lent, storeLog, everyBelow, codeFits, sameRows, wellFormedStore}

@@ -17,8 +17,8 @@ use Rattle.spec.specs.Layout.Format.{bytesOf, numberAt, concatMap, All}
 use Rattle.spec.specs.Node.Wire.{floatOf, bitsOf, floatsOf}
 use Rattle.spec.specs.Nearest.Order.{inDomain}
 use Rattle.spec.specs.Node.WellFormed.{component, wellFormedVector, wellFormedOp}
-use Rattle.spec.proofs.Lists.{and-left, and-right}
-use Rattle.spec.proofs.Map.Rows.{every-tail}
+use Rattle.spec_laws.proofs.Lists.{and-left, and-right}
+use Rattle.spec_laws.proofs.Map.Rows.{every-tail}
 use Rattle.wire_write.proofs.Writes.{length-words}
 use Rattle.log_store.specs.View.{opFrom}
 use Rattle.image_store.specs.Image.{words, patterns, opAt, entryAt}

@@ -5,7 +5,7 @@ use mathlib.Core.Bool.{Bool, true, false}
 use lib.Dec.{eqb, leb}
 use borrow.Author.Tests.{eqb-true, leb-true}
 use Rattle.spec.specs.Lists.{_and_}
-use Rattle.spec.proofs.Lists.{and-left, and-right}
+use Rattle.spec_laws.proofs.Lists.{and-left, and-right}
 use Rattle.image_store.specs.Read.{sizesFit}
 
 pub on : (t q r : Bool) → t ≡ true → r ≡ q → r ≡ t and q

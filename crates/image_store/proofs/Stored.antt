@@ -8,7 +8,7 @@ use native.Mathlib.Nat.{eq-zero-or-pos, mul-suc}
 use lib.ListN.{length, getD, take, drop, set}
 use lib.Seq.{sets, sets-eq, drop-at, length-take-le, getD-set-other}
 use Rattle.spec.specs.Layout.Format.{bytesOf, numberAt, concatMap, All}
-use Rattle.spec.proofs.LayoutLaws.Bytes.{number-bytes, length-bytes, cut-append}
+use Rattle.spec_laws.proofs.Wire.Bytes.{number-bytes, length-bytes, cut-append}
 use Rattle.image_store.specs.Image.{words}
 
 -- ---- what lies elsewhere

@@ -17,9 +17,9 @@ use Rattle.spec.specs.Layout.Format.{Bytes, bytesOf, numberAt, concatMap, All}
 use Rattle.spec.specs.Nearest.Order.{inDomain, bitsInDomain}
 use Rattle.spec.specs.Node.Wire.{floatOf, bitsOf, floatsOf}
 use Rattle.spec.specs.Node.WellFormed.{component, numberedFrom, wellFormedVector, wellFormedEntry}
-use Rattle.spec.proofs.Lists.{and-true, and-left, and-right}
-use Rattle.spec.proofs.LayoutLaws.Bytes.{length-bytes, number-below}
-use Rattle.spec.proofs.Map.Rows.{every-tail, every-cons}
+use Rattle.spec_laws.proofs.Lists.{and-true, and-left, and-right}
+use Rattle.spec_laws.proofs.Wire.Bytes.{length-bytes, number-below}
+use Rattle.spec_laws.proofs.Map.Rows.{every-tail, every-cons}
 use Rattle.log_store.specs.Table.{Row, rowsOf, rowBelow, otherRow, rowOp, playRows}
 use Rattle.log_store.specs.Store.{everyBelow, sameRows}
 use Rattle.log_store.proofs.Bits.{domain-number, floats-length}

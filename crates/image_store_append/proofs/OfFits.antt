@@ -11,8 +11,8 @@ use Rattle.spec.specs.Log.{Op, upsert, delete, Entry, Log}
 use Rattle.spec.specs.Layout.Format.{Bytes, numberAt, All}
 use Rattle.spec.specs.Node.Wire.{floatsOf}
 use Rattle.spec.specs.Node.WellFormed.{numberedFrom, wellFormedEntry}
-use Rattle.spec.proofs.Lists.{and-left, and-right}
-use Rattle.spec.proofs.LayoutLaws.Bytes.{number-below}
+use Rattle.spec_laws.proofs.Lists.{and-left, and-right}
+use Rattle.spec_laws.proofs.Wire.Bytes.{number-below}
 use Rattle.log_store.specs.View.{firsts, opFrom}
 use Rattle.log_store.specs.Table.{Row, rowBelow, otherRow, rowOp, playRows, playRowsFrom}
 use Rattle.log_store.specs.Store.{everyBelow, sameRows}

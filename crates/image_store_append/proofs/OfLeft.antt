@@ -11,7 +11,7 @@ use lib.Seq.{take-at, drop-append-add, drop-drop}
 use Rattle.spec.specs.Lists.{put, filter}
 use Rattle.spec.specs.Log.{Op, upsert, delete, Entry, Log}
 use Rattle.spec.specs.Node.Wire.{floatOf}
-use Rattle.spec.proofs.Lists.{by-test, and-left, and-right}
+use Rattle.spec_laws.proofs.Lists.{by-test, and-left, and-right}
 use Rattle.log_store.specs.View.{Columns, opFrom, logOf, written}
 use Rattle.log_store.specs.Table.{Row, rowBelow, otherRow, zipped, rowsOf, rowOp, playRows, Tabled}
 use Rattle.log_store.specs.Store.{Store, lent, storeLog, storeRows, wellFormedStore, Sized, Storable, Pushed}

@@ -8,7 +8,7 @@ use native.Mathlib.Nat.{add-zero}
 use lib.ListN.{length, getD, take, drop, set, length-append, length-drop, drop-of-length-le, take-append-drop}
 use lib.Seq.{sets, set-comm, set-getD, drop-cons, take-suc, take-all, getD-drop, set-split, split-at, length-take-le, length-sets}
 use Rattle.spec.specs.Layout.Format.{Bytes, bytesOf, numberAt, concatMap}
-use Rattle.spec.proofs.LayoutLaws.Bytes.{length-bytes}
+use Rattle.spec_laws.proofs.Wire.Bytes.{length-bytes}
 use Rattle.image_store.specs.Image.{words}
 use Rattle.image_store.proofs.Stored.{apart, number-same, words-same, words-take}
 use Rattle.image_store.proofs.Words.{words-length, words-at}

@@ -11,8 +11,8 @@ use lib.ListN.{length, getD, take, drop}
 use Rattle.spec.specs.Lists.{_and_, every}
 use Rattle.spec.specs.Layout.Format.{numberAt}
 use Rattle.spec.specs.Nearest.Order.{bitsInDomain}
-use Rattle.spec.proofs.Lists.{and-true, and-left, and-right, not-both}
-use Rattle.spec.proofs.Map.Rows.{every-tail, every-cons}
+use Rattle.spec_laws.proofs.Lists.{and-true, and-left, and-right, not-both}
+use Rattle.spec_laws.proofs.Map.Rows.{every-tail, every-cons}
 use Rattle.log_store.specs.Store.{everyBelow}
 use Rattle.log_store.proofs.Facts.{below-fact, fact-below}
 use Rattle.log_check.specs.Entries.{numberFits, shapeFits, shapeAt}

@@ -16,9 +16,9 @@ use Rattle.spec.specs.Layout.Format.{numberAt}
 use Rattle.spec.specs.Nearest.Order.{inDomain, bitsInDomain}
 use Rattle.spec.specs.Node.Wire.{floatOf, floatsOf}
 use Rattle.spec.specs.Node.WellFormed.{component, numberedFrom, wellFormedVector, wellFormedOp, wellFormedEntry}
-use Rattle.spec.proofs.Lists.{and-true, and-left, and-right, not-both, nth-lt, nth-same}
-use Rattle.spec.proofs.Log.Numbered.{Numbered, test-numbered, numbered-test}
-use Rattle.spec.proofs.Map.Rows.{every-tail, every-cons}
+use Rattle.spec_laws.proofs.Lists.{and-true, and-left, and-right, not-both, nth-lt, nth-same}
+use Rattle.spec_laws.proofs.Log.Numbered.{Numbered, test-numbered, numbered-test}
+use Rattle.spec_laws.proofs.Map.Rows.{every-tail, every-cons}
 use Rattle.log_store.specs.View.{firsts, opFrom}
 use Rattle.log_store.specs.Table.{Row, rowOp, rowBy, rowsPlayed, playRows, playRowsFrom}
 use Rattle.log_store.specs.Store.{everyBelow, sameRows}

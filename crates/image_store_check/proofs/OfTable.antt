@@ -9,7 +9,7 @@ use native.Mathlib.Omega.{arith}
 use lib.Dec.{eqb, ltb}
 use lib.ListN.{length, getD}
 use Rattle.spec.specs.Layout.Format.{numberAt}
-use Rattle.spec.proofs.Nearest.Tests.{Test, less, same, more, test}
+use Rattle.spec_laws.proofs.Nearest.Tests.{Test, less, same, more, test}
 use Rattle.log_store.specs.Table.{rowsOf, rowsPlayed}
 use Rattle.log_store.specs.Store.{sameRows}
 use Rattle.log_store.proofs.Facts.{same-rows}

@@ -17,7 +17,7 @@ use Rattle.spec.specs.Nearest.Order.{bitsInDomain}
 use Rattle.spec.specs.Nearest.Distance.{norm, Bounded}
 use Rattle.spec.specs.Nearest.Search.{hits}
 use Rattle.spec.specs.Node.Wire.{floatOf}
-use Rattle.spec.proofs.Lists.{and-left, and-right}
+use Rattle.spec_laws.proofs.Lists.{and-left, and-right}
 use Rattle.log_store.specs.View.{logOf, opFrom}
 use Rattle.log_store.specs.View as view
 use Rattle.log_store.specs.Table.{vectorsOf}

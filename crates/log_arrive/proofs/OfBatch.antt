@@ -19,7 +19,7 @@ use Rattle.spec.specs.declared.Metric.{Metric}
 use Rattle.spec.specs.declared.Metric.the-variants.{Euclidean}
 use Rattle.spec.specs.declared.Epoch.{Epoch}
 use Rattle.spec.specs.declared.Offset.{Offset}
-use Rattle.spec.proofs.Log.Store.{store-all-longer}
+use Rattle.spec_laws.proofs.Log.Store.{store-all-longer}
 use Rattle.log_store.specs.Store.{Store, Sized, Spares, replicaIn, wellFormedStore}
 use Rattle.log_store.specs.declared.replica.Outcome.{Outcome}
 use Rattle.log_store.proofs.Spared.{spares-none, spares-on}

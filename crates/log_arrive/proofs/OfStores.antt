@@ -11,9 +11,9 @@ use Rattle.spec.specs.Log.{Op, Entry, ShardReplica, through, gap, stale, lastOf
 use Rattle.spec.specs.Node.Client.{overfull}
 use Rattle.spec.specs.declared.Metric.{Metric}
 use Rattle.spec.specs.declared.Metric.the-variants.{Euclidean}
-use Rattle.spec.proofs.Lists.{not-both, and-left, and-right}
-use Rattle.spec.proofs.LayoutLaws.Tests.{and-true, and-false}
-use Rattle.spec.proofs.Log.Store.{push-length, store-cases}
+use Rattle.spec_laws.proofs.Lists.{not-both, and-left, and-right}
+use Rattle.spec_laws.proofs.Wire.Tests.{and-true, and-false}
+use Rattle.spec_laws.proofs.Log.Store.{push-length, store-cases}
 use Rattle.log_store.specs.Store.{Store, Sized, Arrived, replicaIn, wellFormedStore}
 use Rattle.log_store.specs.declared.replica.Outcome.{Outcome}
 use Rattle.log_store.specs.declared.replica.Outcome.the-variants.{Through, Gap, Stale, Full}

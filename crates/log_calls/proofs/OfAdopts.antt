@@ -12,7 +12,7 @@ use Rattle.spec.specs.Layout.Message as message
 use Rattle.spec.specs.Node.Shards.{gives}
 use Rattle.spec.specs.declared.Epoch.{Epoch}
 use Rattle.spec.specs.declared.Metric.{Metric}
-use Rattle.spec.proofs.Lists.{not-both}
+use Rattle.spec_laws.proofs.Lists.{not-both}
 use Rattle.wire_read.specs.Shown.{messageOf, newEpochPart}
 use Rattle.wire_read.specs.declared.NewEpochPart.{NewEpochPart}
 use Rattle.wire_read.specs.declared.Message.the-variants.{NewEpoch}

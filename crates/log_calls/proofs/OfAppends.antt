@@ -16,8 +16,8 @@ use Rattle.spec.specs.Node.Shards.{gives}
 use Rattle.spec.specs.Node.Client.{overfull}
 use Rattle.spec.specs.declared.Epoch.{Epoch}
 use Rattle.spec.specs.declared.Metric.{Metric}
-use Rattle.spec.proofs.Lists.{not-both}
-use Rattle.spec.proofs.Log.Store.{push-length}
+use Rattle.spec_laws.proofs.Lists.{not-both}
+use Rattle.spec_laws.proofs.Log.Store.{push-length}
 use Rattle.wire_read.specs.Shown.{messageOf, writePart}
 use Rattle.wire_read.specs.declared.WritePart.{WritePart}
 use Rattle.wire_read.specs.declared.Message.the-variants.{Write}

@@ -13,7 +13,7 @@ use Rattle.spec.specs.Node.Shards.{gives}
 use Rattle.spec.specs.Node.Client.{overfull}
 use Rattle.spec.specs.declared.Epoch.{Epoch}
 use Rattle.spec.specs.declared.Metric.{Metric}
-use Rattle.spec.proofs.Lists.{none-some, some-same}
+use Rattle.spec_laws.proofs.Lists.{none-some, some-same}
 use Rattle.wire_read.specs.Shown.{messageOf, replicatePart}
 use Rattle.wire_read.specs.declared.ReplicatePart.{ReplicatePart}
 use Rattle.wire_read.specs.declared.Message.the-variants.{Replicate}

@@ -16,8 +16,8 @@ use Rattle.spec.specs.Log.{Log}
 use Rattle.spec.specs.Node.WellFormed.{wellFormedVector}
 use Rattle.spec.specs.Node.Client.{SearchAnswer, found, searchRefused}
 use Rattle.spec.specs.declared.Metric.{Metric}
-use Rattle.spec.proofs.Lists.{and-left, and-right}
-use Rattle.spec.proofs.LayoutLaws.Tests.{and-true, and-false}
+use Rattle.spec_laws.proofs.Lists.{and-left, and-right}
+use Rattle.spec_laws.proofs.Wire.Tests.{and-true, and-false}
 use Rattle.log_store.specs.Table.{zipped, rowsOf, vectorOf, vectorsOf}
 use Rattle.log_store.specs.Store.{Store, Sized, storeLog, storeRows, wellFormedStore}
 use Rattle.log_store.proofs.Facts.{facts}

@@ -6,7 +6,7 @@ use lib.Dec.{eqb, ltb}
 use borrow.Author.Tests.{ltb-true, ltb-false, eqb-true, eqb-false}
 use native.Mathlib.Omega.{arith}
 use Rattle.spec.specs.Lists.{_and_}
-use Rattle.spec.proofs.Lists.{not-both}
+use Rattle.spec_laws.proofs.Lists.{not-both}
 use Rattle.log_check.specs.Conditions.{Decides}
 
 pub false-if : (b : Bool) → (b ≡ true → ⊥) → false ≡ b

@@ -10,7 +10,7 @@ use lib.ListN.{length, take, drop, getD}
 use lib.Seq.{take-nil}
 use Rattle.spec.specs.Lists.{_and_, every}
 use Rattle.spec.specs.Node.WellFormed.{component}
-use Rattle.spec.proofs.Map.Rows.{every-tail, every-cons}
+use Rattle.spec_laws.proofs.Map.Rows.{every-tail, every-cons}
 use Rattle.log_store.specs.Store.{everyBelow}
 use Rattle.log_check.proofs.Answers.{and-none, and-all}
 use Rattle.log_store.proofs.Checking.{every-on, every-stop, every-end}

@@ -12,8 +12,8 @@ use lib.Seq.{length-take-le}
 use Rattle.spec.specs.Lists.{_and_, every}
 use Rattle.spec.specs.Node.WellFormed.{component, wellFormedVector, wellFormedOp, wellFormedEntry}
 use Rattle.spec.specs.Log.{upsert, delete, Entry}
-use Rattle.spec.proofs.Lists.{and-true, and-left, and-right, not-both, nth-lt, nth-same}
-use Rattle.spec.proofs.Log.Numbered.{Numbered}
+use Rattle.spec_laws.proofs.Lists.{and-true, and-left, and-right, not-both, nth-lt, nth-same}
+use Rattle.spec_laws.proofs.Log.Numbered.{Numbered}
 use Rattle.log_store.specs.View.{Columns, firsts, stretch, opOf, entryOf, logOf}
 use Rattle.log_store.specs.Table.{rowsPlayed}
 use Rattle.log_store.specs.Store.{Store, storeLog, storeRows, everyBelow, codeFits, sameRows, wellFormedStore}

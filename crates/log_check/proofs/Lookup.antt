@@ -11,9 +11,9 @@ use borrow.Author.Tests.{eqb-true, eqb-false, eq-eqb, ne-eqb, ltb-true, ltb-fals
 use lib.ListN.{length, take, getD}
 use lib.Seq.{length-take-le, getD-take}
 use Rattle.spec.specs.Lists.{put, filter, rising}
-use Rattle.spec.proofs.Lists.{by-test, not-both, none-some, some-same}
-use Rattle.spec.proofs.Rising.{Below, rising-tail, rising-head, rising-cons}
-use Rattle.spec.proofs.Nearest.Tests.{Test, less, same, more, test}
+use Rattle.spec_laws.proofs.Lists.{by-test, not-both, none-some, some-same}
+use Rattle.spec_laws.proofs.Rising.{Below, rising-tail, rising-head, rising-cons}
+use Rattle.spec_laws.proofs.Nearest.Tests.{Test, less, same, more, test}
 use Rattle.log_store.specs.Table.{Row, zipped, rowsOf, rowBelow, otherRow, rowBy}
 use Rattle.log_store.proofs.Without.{rows-by-id}
 use Rattle.log_check.specs.Conditions.{rowAt, Rises, NoRow}

@@ -11,8 +11,8 @@ use lib.Dec.{eqb}
 use borrow.Author.Tests.{eqb-true, eqb-false}
 use lib.ListN.{length, getD}
 use Rattle.spec.specs.Lists.{rising}
-use Rattle.spec.proofs.Lists.{none-some, some-same}
-use Rattle.spec.proofs.Nearest.Tests.{Test, less, same, more, test}
+use Rattle.spec_laws.proofs.Lists.{none-some, some-same}
+use Rattle.spec_laws.proofs.Nearest.Tests.{Test, less, same, more, test}
 use Rattle.log_store.specs.Table.{Row, rowsOf, rowBelow, rowsPlayed}
 use Rattle.log_store.proofs.Rebuilt.{played-rise}
 use Rattle.log_check.specs.Conditions.{rowAt, Rises, NoRow, Names, RowsFit, Settled, AllSettled}

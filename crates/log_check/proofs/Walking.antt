@@ -9,8 +9,8 @@ use lib.Dec.{eqb, ltb}
 use borrow.Author.Tests.{eqb-true}
 use lib.ListN.{length, getD, set, replicate}
 use lib.Seq.{getD-set-other}
-use Rattle.spec.proofs.Lists.{not-both}
-use Rattle.spec.proofs.Nearest.Tests.{Test, less, same, more, test}
+use Rattle.spec_laws.proofs.Lists.{not-both}
+use Rattle.spec_laws.proofs.Nearest.Tests.{Test, less, same, more, test}
 use Rattle.log_store.specs.Table.{rowsOf, rowsPlayed}
 use Rattle.log_store.specs.Store.{sameRows}
 use Rattle.log_store.proofs.Facts.{same-rows, rows-same}

@@ -11,8 +11,8 @@ use Rattle.spec.specs.Lists.{every}
 use Rattle.spec.specs.Node.Wire.{opInDomain, entryInDomain}
 use Rattle.spec.specs.Layout.Format.{code, _▸_, fits, fitsN, next, value, valueN, numberAt, side}
 use Rattle.spec.specs.Layout.Parts.{u32, u64, vectorF, opF, entryF, opOf, entryOf, WireOp, wireUpsert, WireEntry}
-use Rattle.spec.proofs.Lists.{not-both}
-use Rattle.spec.proofs.LayoutLaws.Tests.{and-left, and-right}
+use Rattle.spec_laws.proofs.Lists.{not-both}
+use Rattle.spec_laws.proofs.Wire.Tests.{and-left, and-right}
 use Rattle.wire_read.specs.Shown.{part, opShown, entryShown}
 use Rattle.wire_read.specs.declared.Part.{Part}
 use Rattle.wire_read.specs.declared.EntryPart.{EntryPart}

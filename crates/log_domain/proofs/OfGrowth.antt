@@ -9,7 +9,7 @@ use borrow.Author.Tests.{eq-eqb, ne-eqb}
 use Rattle.spec.specs.Log.{Entry, ShardReplica, lastOffset, store, storeAll}
 use Rattle.spec.specs.Layout.Parts.{WireEntry}
 use Rattle.spec.specs.Node.Wire.{storedEntry}
-use Rattle.spec.proofs.Log.Store.{push-length, store-cases, store-epoch}
+use Rattle.spec_laws.proofs.Log.Store.{push-length, store-cases, store-epoch}
 use Rattle.spec.specs.Layout.Format.{next, value}
 use Rattle.spec.specs.Layout.Parts.{entryF, entryOf}
 use Rattle.wire_read.specs.Shown.{part, entryShown}

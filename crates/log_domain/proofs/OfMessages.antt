@@ -11,8 +11,8 @@ use borrow.Author.Tests.{leb-true}
 use Rattle.spec.specs.Layout.Format.{_▸_, fits, fitsN, next, value, valueN, numberAt, whole}
 use Rattle.spec.specs.Layout.Parts.{u32, u64, vectorF, tableF, entriesF, entryF, entryOf, endOf}
 use Rattle.spec.specs.Layout.Message as message
-use Rattle.spec.proofs.LayoutLaws.Tests.{and-left, and-right}
-use Rattle.spec.proofs.LayoutLaws.Data.{length-mapped, whenever-some}
+use Rattle.spec_laws.proofs.Wire.Tests.{and-left, and-right}
+use Rattle.spec_laws.proofs.Wire.Data.{length-mapped, whenever-some}
 use Rattle.wire_read.specs.Shown.{part, opShown, messageOf, replicatePart, copyPart, newEpochPart, writePart, searchPart}
 use Rattle.wire_read.specs.declared.ReplicatePart.{ReplicatePart}
 use Rattle.wire_read.specs.declared.CopyPart.{CopyPart}

@@ -16,7 +16,7 @@ use Rattle.spec.specs.Node.WellFormed.{wellFormedVector}
 use Rattle.spec.specs.Node.Client.{SearchAnswer, found, searchRefused}
 use Rattle.spec.specs.declared.Metric.{Metric}
 use Rattle.spec.specs.declared.Neighbor.{Neighbor}
-use Rattle.spec.proofs.Nearest.Search.{ordered-length}
+use Rattle.spec_laws.proofs.Nearest.Search.{ordered-length}
 use Rattle.log_store.specs.Table.{vectorOf, vectorsOf}
 use Rattle.log_store.specs.Store.{Store, storeLog, storeRows, wellFormedStore, Sized}
 use Rattle.log_store.proofs.Facts.{facts, keys-fit, places-fit}

@@ -11,7 +11,7 @@ use borrow.Author.Tests.{le-leb, lt-leb}
 use lib.ListN.{length, drop, getD, drop-of-length-le}
 use lib.Seq.{drop-cons}
 use Rattle.spec.specs.Nearest.Order.{inDomain}
-use Rattle.spec.proofs.Nearest.Tests.{is-true}
+use Rattle.spec_laws.proofs.Nearest.Tests.{is-true}
 use Rattle.spec.specs.Lists.{_and_, every}
 use Rattle.spec.specs.Node.WellFormed.{component, wellFormedVector}
 

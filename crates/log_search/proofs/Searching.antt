@@ -20,13 +20,13 @@ use Rattle.spec.specs.Nearest.Distance.{Bounded, allInDomain, norm, squares, di
 use Rattle.spec.specs.Nearest.Search.{Vector, neighbor, nearer, ordered, hits}
 use Rattle.spec.specs.Node.WellFormed.{component, wellFormedVector, wellFormedOp, wellFormedEntry}
 use Rattle.spec.specs.Log.{Op, upsert, delete, Log, entryAt, components, componentsAt, lookup}
-use Rattle.spec.proofs.Lists.{and-left, and-right}
-use Rattle.spec.proofs.Map.Rows.{every-tail}
-use Rattle.spec.proofs.Nearest.Classes.{before-plus}
-use Rattle.spec.proofs.Nearest.Exact.{sqrt-nearest, plus-float}
-use Rattle.spec.proofs.Nearest.NoNan.{squares-rootable}
-use Rattle.spec.proofs.Nearest.Rank.{nearer-holds, behind-not-nearer}
-use Rattle.spec.proofs.Nearest.Skip.{squares-fits, passed-over}
+use Rattle.spec_laws.proofs.Lists.{and-left, and-right}
+use Rattle.spec_laws.proofs.Map.Rows.{every-tail}
+use Rattle.spec_laws.proofs.Nearest.Classes.{before-plus}
+use Rattle.spec_laws.proofs.Nearest.Exact.{sqrt-nearest, plus-float}
+use Rattle.spec_laws.proofs.Nearest.NoNan.{squares-rootable}
+use Rattle.spec_laws.proofs.Nearest.Rank.{nearer-holds, behind-not-nearer}
+use Rattle.spec_laws.proofs.Nearest.Skip.{squares-fits, passed-over}
 use Rattle.log_store.specs.View.{columns, logOf, firsts, stretch, opOf}
 use Rattle.log_store.specs.Table.{Row, rowBelow, vectorOf, vectorsOf}
 use Rattle.log_store.specs.Store.{Store, storeLog, storeRows, Sized}

@@ -8,7 +8,7 @@ use Rattle.spec.specs.declared.Metric.{Metric}
 use Rattle.spec.specs.declared.Metric.the-variants.{Euclidean, Angular}
 use Rattle.spec.specs.Nearest.Root.{rootable}
 use Rattle.spec.specs.Nearest.Distance.{distance, squares, norm, Bounded}
-use Rattle.spec.proofs.Nearest.NoNan.{distance-no-nan, squares-rootable}
+use Rattle.spec_laws.proofs.Nearest.NoNan.{distance-no-nan, squares-rootable}
 use Rattle.float_distance.specs.Halves.{settled, kindOf, elementOf}
 use Rattle.float_distance.proofs.Halves.{halves, given-own}
 use Rattle.log_search.specs.Column.{Ready, rough}

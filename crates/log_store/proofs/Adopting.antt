@@ -15,10 +15,10 @@ use Rattle.spec.specs.Layout.Message.{Reply, replyStale, replyAdopted}
 use Rattle.spec.specs.declared.Metric.{Metric}
 use Rattle.spec.specs.declared.Epoch.{Epoch}
 use Rattle.spec.specs.declared.Offset.{Offset}
-use Rattle.spec.proofs.Lists.{take-within}
-use Rattle.spec.proofs.Map.Rows.{every-tail, every-cons}
-use Rattle.spec.proofs.Log.Numbered.{Numbered, numbered-within}
-use Rattle.spec.proofs.Log.Keep.{keep-lead}
+use Rattle.spec_laws.proofs.Lists.{take-within}
+use Rattle.spec_laws.proofs.Map.Rows.{every-tail, every-cons}
+use Rattle.spec_laws.proofs.Log.Numbered.{Numbered, numbered-within}
+use Rattle.spec_laws.proofs.Log.Keep.{keep-lead}
 use Rattle.log_store.specs.View.{Columns, firsts, entryOf, logOf, writtenAll}
 use Rattle.log_store.specs.Table.{Row, Tabled, rowsOf, playRows, rowsPlayed, vectorsOf}
 use Rattle.log_store.specs.Store.{Store, lent, storeLog, storeRows, replicaIn, wellFormedStore, Sized, Spares}

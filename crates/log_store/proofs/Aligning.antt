@@ -13,7 +13,7 @@ use lib.ListN.{length, getD, take, drop, drop-of-length-le}
 use lib.Seq.{drop-cons, length-take-le, getD-take}
 use Rattle.spec.specs.Lists.{_and_, nth, lead}
 use Rattle.spec.specs.Log.{Op, Entry, End, Log, epochAt, isEpoch, agrees}
-use Rattle.spec.proofs.Lists.{nth-getD, nth-none}
+use Rattle.spec_laws.proofs.Lists.{nth-getD, nth-none}
 use Rattle.log_store.specs.View.{Columns, columns, firsts, entryOf, opOf, logOf}
 use Rattle.log_store.specs.Align.{paired, tableOf, AgreesAt, KeptOf}
 use Rattle.log_store.proofs.Put.{lead-true, lead-false}

@@ -13,7 +13,7 @@ use Rattle.spec.specs.Log.{Entry, Log, Op, Stored, through, gap, stale, StoreRe
 use Rattle.spec.specs.declared.Metric.{Metric}
 use Rattle.spec.specs.declared.Epoch.{Epoch}
 use Rattle.spec.specs.declared.Offset.{Offset}
-use Rattle.spec.proofs.Log.Store.{push-length, store-other, store-next, store-old, store-far}
+use Rattle.spec_laws.proofs.Log.Store.{push-length, store-other, store-next, store-old, store-far}
 use Rattle.log_store.specs.View.{logOf}
 use Rattle.log_store.specs.Store.{Store, storeLog, replicaIn, wellFormedStore, Sized, Spares, Pushed, answerOf, Arrived}
 use Rattle.log_store.specs.declared.replica.Outcome.{Outcome}

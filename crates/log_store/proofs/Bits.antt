@@ -13,8 +13,8 @@ use lib.Ieee.Bits.{nanBits-is}
 use Rattle.spec.specs.Lists.{_and_, every}
 use Rattle.spec.specs.Nearest.Order.{inDomain, bitsInDomain}
 use Rattle.spec.specs.Node.Wire.{floatOf, floatsOf}
-use Rattle.spec.proofs.Lists.{not-both}
-use Rattle.spec.proofs.Map.Rows.{every-tail}
+use Rattle.spec_laws.proofs.Lists.{not-both}
+use Rattle.spec_laws.proofs.Map.Rows.{every-tail}
 
 -- each element of a list of which all pass, passes
 pub every-at {ℓ} : {A : Type ℓ} (p : A → Bool) (l : List A) (i : ℕ) (d : A) → every p l ≡ true → i < length l → p (getD l i d) ≡ true

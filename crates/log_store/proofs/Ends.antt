@@ -13,7 +13,7 @@ use lib.ListN.{length, take, drop, getD, set, length-set}
 use lib.Seq.{take-suc, length-take-le, take-suc-set, take-set-lt, take-set-le, getD-set-same}
 use Rattle.spec.specs.Lists.{_and_}
 use Rattle.spec.specs.Log.{Op, Entry, End, Log, withEnd, epochEnds}
-use Rattle.spec.proofs.Lists.{by-test, not-both, and-true}
+use Rattle.spec_laws.proofs.Lists.{by-test, not-both, and-true}
 use Rattle.log_store.specs.View.{Columns, columns, firsts, entryOf, logOf}
 use Rattle.log_store.specs.Align.{paired, tableOf, EndsOf}
 use Rattle.log_store.proofs.Firsts.{firsts-next}

@@ -14,9 +14,9 @@ use Rattle.spec.specs.Limits.{maxEntries, minFloats}
 use Rattle.spec.specs.Node.WellFormed.{numberedFrom, wellFormedEntry}
 use Rattle.spec.specs.Log.{Log, play}
 use Rattle.spec.specs.declared.Metric.{Metric}
-use Rattle.spec.proofs.Lists.{and-true, and-left, and-right, not-both}
-use Rattle.spec.proofs.Log.Numbered.{Numbered, test-numbered, numbered-test}
-use Rattle.spec.proofs.Log.Play.{InStep}
+use Rattle.spec_laws.proofs.Lists.{and-true, and-left, and-right, not-both}
+use Rattle.spec_laws.proofs.Log.Numbered.{Numbered, test-numbered, numbered-test}
+use Rattle.spec_laws.proofs.Log.Play.{InStep}
 use Rattle.log_store.specs.View.{Columns, logOf, Room}
 use Rattle.log_store.specs.Table.{Row, rowsOf, rowBelow, playRows, vectorsOf}
 use Rattle.log_store.specs.Store.{Store, storeLog, storeRows, replicaIn, everyBelow, codeFits, sameRows, wellFormedStore, Sized}

@@ -10,7 +10,7 @@ use native.Mathlib.Omega.{arith}
 use lib.ListN.{length, take, getD, length-append, List·getD-append}
 use lib.Seq.{getD-at, take-append-le, take-length, take-all}
 use Rattle.spec.specs.Lists.{nth}
-use Rattle.spec.proofs.Lists.{nth-getD, nth-none}
+use Rattle.spec_laws.proofs.Lists.{nth-getD, nth-none}
 use Rattle.log_store.specs.View.{firsts}
 
 module _ {ℓ} {A : Type ℓ} (f : ℕ → A) where

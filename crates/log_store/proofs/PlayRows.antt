@@ -12,9 +12,9 @@ use lib.ListN.{length, length-append}
 use Rattle.spec.specs.Lists.{nth, filter, put, rising}
 use Rattle.spec.specs.Nearest.Search.{Vector}
 use Rattle.spec.specs.Log.{Op, upsert, delete, Entry, Log, Vectors, entryAt, components, componentsAt, lookup, vectorBelow, otherId, applyOp, playFrom, play}
-use Rattle.spec.proofs.Lists.{by-test}
-use Rattle.spec.proofs.Rising.{put-rising, filter-rising}
-use Rattle.spec.proofs.Log.Numbered.{Numbered, own-offset}
+use Rattle.spec_laws.proofs.Lists.{by-test}
+use Rattle.spec_laws.proofs.Rising.{put-rising, filter-rising}
+use Rattle.spec_laws.proofs.Log.Numbered.{Numbered, own-offset}
 use Rattle.log_store.specs.Table.{Row, rowBelow, otherRow, rowOp, playRowsFrom, playRows, vectorOf, vectorsOf}
 use Rattle.log_store.proofs.Without.{rows-by-id}
 

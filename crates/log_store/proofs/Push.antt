@@ -18,10 +18,10 @@ use Rattle.spec.specs.Node.Wire.{floatOf, floatsOf}
 use Rattle.spec.specs.Node.WellFormed.{component, wellFormedVector, wellFormedOp, wellFormedEntry}
 use Rattle.spec.specs.Log.{Op, upsert, delete, Entry, Log, Vectors, applyOp, play, ShardReplica, push}
 use Rattle.spec.specs.declared.Metric.{Metric}
-use Rattle.spec.proofs.Lists.{and-true, by-test}
-use Rattle.spec.proofs.Map.Rows.{every-tail, every-cons}
-use Rattle.spec.proofs.Log.Numbered.{Numbered, numbered-snoc}
-use Rattle.spec.proofs.Log.Play.{play-snoc}
+use Rattle.spec_laws.proofs.Lists.{and-true, by-test}
+use Rattle.spec_laws.proofs.Map.Rows.{every-tail, every-cons}
+use Rattle.spec_laws.proofs.Log.Numbered.{Numbered, numbered-snoc}
+use Rattle.spec_laws.proofs.Log.Play.{play-snoc}
 use Rattle.log_store.specs.View.{Columns, Room, logOf, opFrom, written, writtenAll}
 use Rattle.log_store.specs.Table.{Row, Tabled, rowsOf, rowBelow, otherRow, rowOp, playRows, vectorsOf}
 use Rattle.log_store.specs.Store.{Store, lent, storeLog, storeRows, replicaIn, codeFits, wellFormedStore, Sized, Storable, Spares, Pushed}

@@ -7,7 +7,7 @@ use mathlib.Core.List.{List, [], _∷_, _++_}
 use native.Mathlib.Omega.{arith}
 use lib.ListN.{length, take, drop, getD}
 use Rattle.spec.specs.Lists.{lead, put, filter}
-use Rattle.spec.proofs.Lists.{by-test}
+use Rattle.spec_laws.proofs.Lists.{by-test}
 
 module _ {ℓ} {A : Type ℓ} where
   pub lead-true : (p : A → Bool) (y : A) (ys : List A) → p y ≡ true → lead p (y ∷ ys) ≡ suc (lead p ys)

@@ -10,7 +10,7 @@ use borrow.Author.Tests.{ltb-true, ltb-false, lt-ltb, le-ltb, eq-eqb, ne-eqb}
 use lib.ListN.{length, take, drop, getD, set, length-append, length-take, length-drop, take-append-drop}
 use lib.Seq.{take-at, length-take-le, take-append-le, drop-append-le, take-set-lt, set-split, split-at, getD-take, take-take}
 use Rattle.spec.specs.Lists.{lead, put, filter, rising}
-use Rattle.spec.proofs.Rising.{ByKey, Below, rising-tail, rising-head}
+use Rattle.spec_laws.proofs.Rising.{ByKey, Below, rising-tail, rising-head}
 use Rattle.log_store.specs.Table.{Row, zipped, rowsOf, rowBelow, otherRow, inserted, removed}
 use Rattle.log_store.proofs.Put.{lead-true, lead-false, filter-true, filter-false, put-level, put-between}
 

@@ -9,7 +9,7 @@ use lib.Dec.{eqb, ltb}
 use borrow.Author.Tests.{ltb-true, ltb-false, lt-ltb, le-ltb, eq-eqb, ne-eqb}
 use lib.ListN.{length, take, drop, getD}
 use Rattle.spec.specs.Lists.{lead, filter, rising}
-use Rattle.spec.proofs.Rising.{ByKey, Below, rising-tail, rising-head}
+use Rattle.spec_laws.proofs.Rising.{ByKey, Below, rising-tail, rising-head}
 use Rattle.log_store.specs.Table.{Row, rowsOf, rowBelow, otherRow, removed}
 use Rattle.log_store.proofs.Put.{lead-true, lead-false, filter-true, filter-false}
 use Rattle.log_store.proofs.Rows.{rows-length, rows-at, rows-lead, taken-out, no-row}

@@ -17,9 +17,9 @@ use Rattle.spec.specs.Map.Apply as model
 use Rattle.spec.specs.Map.Apply.{apply, settle, decide, commit, remembered, setsVersion, sessionAt, sessionBelow}
 use Rattle.spec.specs.Map.WellFormed.{wellFormedMap, commandFits}
 use Rattle.spec.specs.Layout.Request as request
-use Rattle.spec.proofs.Lists.{none-some}
-use Rattle.spec.proofs.Map.Sessions.{own-session}
-use Rattle.spec.proofs.Map.WellFormed.{map-parts, stays-well-formed}
+use Rattle.spec_laws.proofs.Lists.{none-some}
+use Rattle.spec_laws.proofs.Map.Sessions.{own-session}
+use Rattle.spec_laws.proofs.Map.WellFormed.{map-parts, stays-well-formed}
 use Rattle.map_tables.specs.Counted.{TablesCounted}
 use Rattle.map_tables.specs.Names.{viewKey}
 use Rattle.map_tables.specs.View.{answerOf, outcomeOf, viewMap, viewSessions, viewCommand, viewRequest, commandIn, sessionOf}

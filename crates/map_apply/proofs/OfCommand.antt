@@ -10,7 +10,7 @@ use Rattle.spec.specs.Keys.{Key}
 use Rattle.spec.specs.Map.Tables.{ShardInfo, Map, Answer}
 use Rattle.spec.specs.Map.Apply.{decide, commit, changeAnswer, changeShard, shardAt, setsVersion}
 use Rattle.spec.specs.Map.Change.{Change, add, remove, promote, shrink, expand, accepts, decideChange}
-use Rattle.spec.proofs.Lists.{by-test}
+use Rattle.spec_laws.proofs.Lists.{by-test}
 use Rattle.map_tables.specs.View.{changeCommand, changeOf, commandIn, viewPlacement}
 use Rattle.map_tables.specs.Names.{viewKey, viewAddress}
 use Rattle.map_tables.specs.declared.Request.{Request}

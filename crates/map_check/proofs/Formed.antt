@@ -9,8 +9,8 @@ use lib.Dec.{leb}
 use borrow.Author.Tests.{leb-true}
 use Rattle.spec.specs.Lists.{_and_, every}
 use Rattle.spec.specs.Map.WellFormed.{wellFormedMap}
-use Rattle.spec.proofs.Lists.{and-left, and-right}
-use Rattle.spec.proofs.Map.Rows.{every-to}
+use Rattle.spec_laws.proofs.Lists.{and-left, and-right}
+use Rattle.spec_laws.proofs.Map.Rows.{every-to}
 use Rattle.map_tables.specs.View.{viewMap}
 use Rattle.map_tables.specs.Counted.{rowCounted, TablesCounted}
 use Rattle.map_tables.specs.declared.ShardMap.{ShardMap}

@@ -11,7 +11,7 @@ use Rattle.spec.specs.Keys.{Name}
 use Rattle.spec.specs.Map.Tables.{NodeInfo, ShardInfo}
 use Rattle.spec.specs.Map.Change.{idBelow}
 use Rattle.spec.specs.Map.Create.{Placement, nodeAt, incarnationOf, replicaOf, addAll, newShard, shardBelow, withShards}
-use Rattle.spec.proofs.Map.Rows.{put-least}
+use Rattle.spec_laws.proofs.Map.Rows.{put-least}
 use Rattle.spec.specs.declared.DataNodeId.{DataNodeId}
 
 -- a row of an array read by f, where it is in use

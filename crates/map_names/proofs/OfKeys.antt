@@ -9,7 +9,7 @@ use borrow.Author.Tests.{leb-true}
 use Rattle.spec.specs.Keys.{Key, Name}
 use Rattle.spec.specs.Layout.Format.{fits, value}
 use Rattle.spec.specs.Layout.Parts.{u32, nameF, keyF, keyOf}
-use Rattle.spec.proofs.LayoutLaws.Tests.{and-left, and-right}
+use Rattle.spec_laws.proofs.Wire.Tests.{and-left, and-right}
 use Rattle.wire_read.specs.Shown.{keyShown}
 use Rattle.wire_read.proofs.Places.{text-length}
 use Rattle.wire_read.proofs.Items.{text-bytes}

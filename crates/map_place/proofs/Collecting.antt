@@ -7,7 +7,7 @@ use native.Mathlib.Numerals.{add-one}
 use lib.ListN.{length, take, drop, getD, set}
 use lib.Seq.{take-suc, drop-cons}
 use Rattle.spec.specs.Lists.{every, any, collect}
-use Rattle.spec.proofs.Lists.{by-test}
+use Rattle.spec_laws.proofs.Lists.{by-test}
 use Rattle.map_tables.proofs.Tables.{add-row, every-at, used-size, used-row}
 
 pub map-append {ℓ κ} : {A : Type ℓ} {B : Type κ} (v : A → B) (l m : List A) → map v (l ++ m) ≡ map v l ++ map v m

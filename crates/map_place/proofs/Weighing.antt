@@ -15,8 +15,8 @@ use Rattle.spec.specs.Map.Change.{isOn}
 use Rattle.spec.specs.Map.Apply.{update}
 use Rattle.spec.specs.Map.Place.{Load, onNode, isLoad, isListed, raised, Round, chosenOf, chooseNode, chooseNodes, lightest}
 use Rattle.spec.specs.declared.Replica.{Replica}
-use Rattle.spec.proofs.Lists.{by-test}
-use Rattle.spec.proofs.Map.Rows.{every-tail, every-cons, every-to}
+use Rattle.spec_laws.proofs.Lists.{by-test}
+use Rattle.spec_laws.proofs.Map.Rows.{every-tail, every-cons, every-to}
 use Rattle.map_place.specs.Read.{Light}
 
 -- ---- the replicas of one shard

@@ -10,9 +10,9 @@ use lib.ListN.{length}
 use Rattle.spec.specs.Map.WellFormed.{commandFits}
 use Rattle.spec.specs.Layout.Format.{Bytes, fits, value, next, whole}
 use Rattle.spec.specs.Layout.Request as request
-use Rattle.spec.proofs.LayoutLaws.Tests.{and-left, and-right}
-use Rattle.spec.proofs.LayoutLaws.Data.{whenever-some}
-use Rattle.spec.proofs.Map.Stream.{ends-inside, ends-later}
+use Rattle.spec_laws.proofs.Wire.Tests.{and-left, and-right}
+use Rattle.spec_laws.proofs.Wire.Data.{whenever-some}
+use Rattle.spec_laws.proofs.Map.Stream.{ends-inside, ends-later}
 use Rattle.wire_read.specs.Shown.{requestShown, requestPart, requestReadOf, readOr, messageOf}
 use Rattle.wire_read.specs.declared.CommandPart.{CommandPart}
 use Rattle.wire_read.specs.declared.CommandPart.the-variants as part

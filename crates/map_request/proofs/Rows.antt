@@ -12,8 +12,8 @@ use Rattle.spec.specs.Lists.{every}
 use Rattle.spec.specs.Layout.Format.{fits, fitsN, next, value, valueN, numberAt}
 use Rattle.spec.specs.Layout.Parts.{u64}
 use Rattle.spec.specs.declared.DataNodeId.{DataNodeId}
-use Rattle.spec.proofs.LayoutLaws.Tests.{and-left, and-right}
-use Rattle.spec.proofs.Map.Rows.{every-tail, every-cons}
+use Rattle.spec_laws.proofs.Wire.Tests.{and-left, and-right}
+use Rattle.spec_laws.proofs.Map.Rows.{every-tail, every-cons}
 use Rattle.wire_read.specs.declared.Part.{Part}
 use Rattle.wire_read.proofs.Places.{length-valueN}
 use Rattle.wire_read.proofs.Skips.{fixed-fits, fixed-next}

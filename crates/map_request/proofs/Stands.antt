@@ -16,8 +16,8 @@ use Rattle.spec.specs.Map.WellFormed.{commandFits}
 use Rattle.spec.specs.Layout.Format.{Format, Value, code, word, text, _▸_, either, fits, fitsN, next, value, valueN, numberAt, side}
 use Rattle.spec.specs.Layout.Parts.{u64, u32, nameF, addressF, keyF, placementF, metricOf, keyOf}
 use Rattle.spec.specs.Layout.Request as request
-use Rattle.spec.proofs.LayoutLaws.Tests.{and-left, and-right, and-intro}
-use Rattle.spec.proofs.Map.Rows.{every-cons}
+use Rattle.spec_laws.proofs.Wire.Tests.{and-left, and-right, and-intro}
+use Rattle.spec_laws.proofs.Map.Rows.{every-cons}
 use Rattle.wire_read.specs.Shown.{part, keyShown, commandShown}
 use Rattle.wire_read.specs.declared.Part.{Part}
 use Rattle.wire_read.proofs.Places.{text-length, length-valueN}

@@ -13,13 +13,13 @@ use Rattle.spec.specs.Map.Tables.{ShardInfo, refused}
 use Rattle.spec.specs.Map.Change.{add, expand, accepts, rejects, decideChange, holds, idBelow}
 use Rattle.spec.specs.Map.WellFormed.{shardFits}
 use Rattle.spec.specs.declared.DataNodeId.{DataNodeId}
-use Rattle.spec.proofs.Lists.{and-left, and-right, and-true}
-use Rattle.spec.proofs.Rising.{put-rising}
-use Rattle.spec.proofs.Map.Rows.{every-put}
-use Rattle.spec.proofs.Map.Orders.{ids}
-use Rattle.spec.proofs.Map.Sets.{few-in-sync}
-use Rattle.spec.proofs.Map.Shards.{expand-taken}
-use Rattle.spec.proofs.Map.WellFormed.{shard-parts}
+use Rattle.spec_laws.proofs.Lists.{and-left, and-right, and-true}
+use Rattle.spec_laws.proofs.Rising.{put-rising}
+use Rattle.spec_laws.proofs.Map.Rows.{every-put}
+use Rattle.spec_laws.proofs.Map.Orders.{ids}
+use Rattle.spec_laws.proofs.Map.Sets.{few-in-sync}
+use Rattle.spec_laws.proofs.Map.Shards.{expand-taken}
+use Rattle.spec_laws.proofs.Map.WellFormed.{shard-parts}
 use Rattle.map_tables.specs.declared.ShardRow.{ShardRow}
 use Rattle.map_tables.specs.Counted.{Sized, rowCounted}
 

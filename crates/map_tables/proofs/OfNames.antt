@@ -11,8 +11,8 @@ use lib.Dec.{eqb, ltb}
 use borrow.Author.Tests.{eq-eqb, ne-eqb, lt-ltb, le-ltb}
 use Rattle.spec.specs.Lists.{_and_, _or_}
 use Rattle.spec.specs.Keys.{Name, sameName, nameBelow, Key, sameKey, keyBelow}
-use Rattle.spec.proofs.Lists.{not-both}
-use Rattle.spec.proofs.Map.Orders.{same-name, name-same}
+use Rattle.spec_laws.proofs.Lists.{not-both}
+use Rattle.spec_laws.proofs.Map.Orders.{same-name, name-same}
 
 -- how long a name is
 pub short : (n : ℕ) (xs : List ℕ) → n < length xs → n ≡ length (take n xs)

@@ -6,7 +6,7 @@ use Prim.Native.Nat.{ℕ, zero, suc, _<_}
 use lib.ListN.{take, drop, set}
 use lib.Seq.{take-set-lt}
 use Rattle.spec.specs.Lists.{every}
-use Rattle.spec.proofs.Map.Rows.{every-tail, every-cons}
+use Rattle.spec_laws.proofs.Map.Rows.{every-tail, every-cons}
 
 module _ {ℓ} {A : Type ℓ} (p : A → Bool) where
   every-set : (l : List A) (i : ℕ) (x : A) → every p l ≡ true → p x ≡ true → every p (set l i x) ≡ true

@@ -11,7 +11,7 @@ use lib.ListN.{length, take, drop, getD, set, length-map, length-append, drop-of
 use lib.Seq.{drop-cons, take-suc, take-suc-set, drop-set-lt, append-snoc, length-take-le, getD-take, take-add, take-at, drop-at, take-append-add, take-set-lt, set-split}
 use Rattle.spec.specs.Lists.{find, filter, any, every, lead, put}
 use Rattle.spec.specs.Map.Apply.{update}
-use Rattle.spec.proofs.Lists.{by-test, not-both}
+use Rattle.spec_laws.proofs.Lists.{by-test, not-both}
 use Rattle.map_tables.specs.Find.{firstAt, placeAt}
 
 -- ---- scanning a list

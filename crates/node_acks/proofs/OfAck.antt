@@ -12,7 +12,7 @@ use Rattle.spec.specs.Node.Held as held
 use Rattle.spec.specs.Node.Shards.{Result, gives, leadsAt, ofNode}
 use Rattle.spec.specs.Node.Ack as ack
 use Rattle.spec.specs.declared.Peer.{Peer}
-use Rattle.spec.proofs.Lists.{not-both}
+use Rattle.spec_laws.proofs.Lists.{not-both}
 use Rattle.node_shard.specs.declared.Held.{Held}
 use Rattle.node_shard.specs.declared.Sent.{Sent}
 use Rattle.node_shard.specs.declared.Reply.{Reply}

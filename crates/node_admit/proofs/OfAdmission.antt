@@ -14,7 +14,7 @@ use Rattle.spec.specs.Node.Shards.{leadsAt}
 use Rattle.spec.specs.Node.Client.{isMember, ackCount, overfull, writeHeld, searchHeld}
 use Rattle.spec.specs.Node.Backup.{leadsFrom, newEpochHeld}
 use Rattle.spec.specs.declared.Peer.{Peer}
-use Rattle.spec.proofs.Log.Store.{push-length}
+use Rattle.spec_laws.proofs.Log.Store.{push-length}
 use Rattle.node_shard.specs.declared.Held.{Held}
 use Rattle.node_shard.proofs.Loops.{take-next}
 use Rattle.node_admit.specs.declared.Admit.the-variants as A

@@ -16,8 +16,8 @@ use Rattle.spec.specs.Node.Shards.{leadsAt, ofNode, onNode, rowBelow}
 use Rattle.spec.specs.Node.Worker.{sendOf, stepRow, stepHeld}
 use Rattle.spec.specs.Node.WellFormed.{ackFits}
 use Rattle.spec.specs.declared.Peer.{Peer}
-use Rattle.spec.proofs.Lists.{and-left, and-right}
-use Rattle.spec.proofs.Map.Rows.{every-tail}
+use Rattle.spec_laws.proofs.Lists.{and-left, and-right}
+use Rattle.spec_laws.proofs.Map.Rows.{every-tail}
 use Rattle.node_shard.specs.declared.Held.{Held}
 use Rattle.node_shard.specs.View.{others, noPeer}
 use Rattle.node_shard.specs.Formed.{formedHeld}

@@ -17,7 +17,7 @@ use Rattle.spec.specs.Node.Held as held
 use Rattle.spec.specs.Node.Shards.{Result, gives, withHeld, withReplica, heldBelow, demoted, begun}
 use Rattle.spec.specs.Node.Backup.{BackupAnswer, replied, newEpochHeld}
 use Rattle.spec.specs.declared.Metric.{Metric}
-use Rattle.spec.proofs.Lists.{by-test, not-both}
+use Rattle.spec_laws.proofs.Lists.{by-test, not-both}
 use Rattle.node_shard.specs.declared.Held.{Held}
 use Rattle.node_shard.specs.View.{viewHeld}
 use Rattle.node_admit.specs.Headers.{Begins, Realigns}

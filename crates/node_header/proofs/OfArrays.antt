@@ -12,8 +12,8 @@ use Rattle.spec.specs.Lists.{_and_, any, every}
 use Rattle.spec.specs.Limits.{maxHeld, maxName, maxEntries, maxReplicas, maxWorkers}
 use Rattle.spec.specs.Keys.{Key}
 use Rattle.spec.specs.Log.{Log, Vectors}
-use Rattle.spec.proofs.Lists.{and-true, and-left, and-right}
-use Rattle.spec.proofs.Map.Rows.{every-tail, every-cons}
+use Rattle.spec_laws.proofs.Lists.{and-true, and-left, and-right}
+use Rattle.spec_laws.proofs.Map.Rows.{every-tail, every-cons}
 use Rattle.spec.specs.declared.Peer.{Peer}
 use Rattle.spec.specs.declared.Replica.{Replica}
 use Rattle.spec.specs.Node.Held as held

@@ -12,8 +12,8 @@ use Rattle.spec.specs.Lists.{_and_, any, every, rising}
 use Rattle.spec.specs.Limits.{maxHeld, maxName, maxEntries, maxReplicas, maxWorkers}
 use Rattle.spec.specs.Node.Shards.{heldBelow}
 use Rattle.spec.specs.Node.WellFormed.{wellFormedHeld, wellFormedHeader}
-use Rattle.spec.proofs.Lists.{and-true, and-left, and-right}
-use Rattle.spec.proofs.Map.Rows.{every-to}
+use Rattle.spec_laws.proofs.Lists.{and-true, and-left, and-right}
+use Rattle.spec_laws.proofs.Map.Rows.{every-to}
 use Rattle.node_shard.specs.Formed.{formedHeld}
 use Rattle.node_shard.proofs.Loops.{used-next, used-over}
 use Rattle.node_shard.proofs.OfView.{formed-view, view-formed}

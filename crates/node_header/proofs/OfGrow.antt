@@ -15,8 +15,8 @@ use Rattle.spec.specs.Keys.{Key, keyBelow, sameKey}
 use Rattle.spec.specs.Log.{Log, Vectors}
 use Rattle.spec.specs.Node.Held as held
 use Rattle.spec.specs.Node.Shards.{heldBelow, ofKey, heldShard, withHeld}
-use Rattle.spec.proofs.Lists.{not-both, none-some, and-true, and-left, and-right}
-use Rattle.spec.proofs.Map.Orders.{keys, key-same}
+use Rattle.spec_laws.proofs.Lists.{not-both, none-some, and-true, and-left, and-right}
+use Rattle.spec_laws.proofs.Map.Orders.{keys, key-same}
 use Rattle.node_shard.specs.declared.Held.{Held}
 use Rattle.node_shard.specs.View.{viewHeld, insertAt}
 use Rattle.map_tables.specs.declared.ShardKey.{ShardKey}

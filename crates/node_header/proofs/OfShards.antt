@@ -11,7 +11,7 @@ use Rattle.spec.specs.Log.{Log, delete}
 use Rattle.spec.specs.Map.Apply.{update}
 use Rattle.spec.specs.Node.Held as held
 use Rattle.spec.specs.Node.Shards.{Result, gives, ofKey, heldShard, withHeld, atShard}
-use Rattle.spec.proofs.Node.Shards.{at-absent, at-held}
+use Rattle.spec_laws.proofs.Node.Shards.{at-absent, at-held}
 use Rattle.node_shard.specs.declared.Held.{Held}
 use Rattle.map_tables.proofs.Tables.{found, missed, changed-row}
 use Rattle.node_header.specs.declared.Kept.{Kept}

@@ -12,7 +12,7 @@ use Rattle.spec.specs.Layout.Message as message
 use Rattle.spec.specs.Node.Ack as ack
 use Rattle.spec.specs.Node.Shown as show
 use Rattle.spec.specs.Node.Calls as calls
-use Rattle.spec.proofs.Node.Refusals.{shown-refused, ack-refused}
+use Rattle.spec_laws.proofs.Node.Refusals.{shown-refused, ack-refused}
 use Rattle.spec.specs.declared.Epoch.{Epoch}
 use Rattle.spec.specs.declared.Offset.{Offset}
 use Rattle.map_tables.specs.declared.ShardMap.{ShardMap}

@@ -14,8 +14,8 @@ use Rattle.spec.specs.Log.{Log, Vectors}
 use Rattle.spec.specs.Map.Apply.{update}
 use Rattle.spec.specs.Node.Held as held
 use Rattle.spec.specs.Node.Shards.{Result, gives, ofKey, withHeld, atShard}
-use Rattle.spec.proofs.Lists.{by-test, and-left, and-right, not-both}
-use Rattle.spec.proofs.Node.Shards.{at-held}
+use Rattle.spec_laws.proofs.Lists.{by-test, and-left, and-right, not-both}
+use Rattle.spec_laws.proofs.Node.Shards.{at-held}
 use Rattle.node_shard.specs.declared.Held.{Held}
 use Rattle.node_shard.specs.View.{viewHeld}
 use Rattle.map_tables.specs.Names.{viewKey}

@@ -9,7 +9,7 @@ use lib.ListN.{getD, set}
 use lib.Seq.{getD-set-same, set-getD}
 use borrow.Author.Tests.{le-ltb}
 use Rattle.spec.specs.Keys.{Key}
-use Rattle.spec.proofs.Lists.{not-both}
+use Rattle.spec_laws.proofs.Lists.{not-both}
 use Rattle.node_shard.specs.declared.Held.{Held}
 use Rattle.log_store.specs.Store.{Store, Sized, wellFormedStore}
 use Rattle.node_header.specs.declared.Kept.{Kept}

@@ -18,7 +18,7 @@ use Rattle.spec.specs.Node.Client.{overfull}
 use Rattle.spec.specs.Node.Backup.{BackupAnswer, replied, backupRefused, replyOf, leadsFrom, replicateHeld, copyHeld, newEpochHeld}
 use Rattle.spec.specs.declared.Metric.{Metric}
 use Rattle.spec.specs.declared.Offset.{Offset}
-use Rattle.spec.proofs.Lists.{by-test, not-both, some-same}
+use Rattle.spec_laws.proofs.Lists.{by-test, not-both, some-same}
 use Rattle.node_shard.specs.declared.Held.{Held}
 use Rattle.node_shard.specs.View.{viewHeld}
 use Rattle.node_admit.specs.declared.Epochs.the-variants as E

@@ -14,7 +14,7 @@ use Rattle.spec.specs.Log.{Log, entriesFrom}
 use Rattle.spec.specs.Layout.Format.{inRange}
 use Rattle.spec.specs.Node.Worker.{copyOf}
 use Rattle.spec.specs.Node.Calls.{RequestAnswer, requestRefused, writtenIn}
-use Rattle.spec.proofs.Lists.{and-left}
+use Rattle.spec_laws.proofs.Lists.{and-left}
 use Rattle.wire_write.specs.Written.{textFits}
 use Rattle.log_store.specs.Store.{Store, storeLog}
 use Rattle.log_calls.specs.Fits.{lentFits}

@@ -11,7 +11,7 @@ use lib.ListN.{length, getD}
 use Rattle.spec.specs.Lists.{find, filter, lead}
 use Rattle.spec.specs.Nearest.Search.{Vector}
 use Rattle.spec.specs.Log.{Log, Vectors, play}
-use Rattle.spec.proofs.Log.Numbered.{Numbered}
+use Rattle.spec_laws.proofs.Log.Numbered.{Numbered}
 use Rattle.log_store.specs.Table.{Row, otherRow, playRows, vectorOf, vectorsOf}
 use Rattle.log_store.proofs.Put.{lead-true, lead-false, filter-true, filter-false}
 use Rattle.log_store.proofs.Rows.{no-row}

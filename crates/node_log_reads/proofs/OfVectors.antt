@@ -11,7 +11,7 @@ use lib.ListN.{length, take, getD, length-map}
 use Rattle.spec.specs.Lists.{_and_, find, lead}
 use Rattle.spec.specs.Refusals.{numberOf, malformed}
 use Rattle.spec.specs.Log.{play, lookup}
-use Rattle.spec.proofs.Lists.{not-both}
+use Rattle.spec_laws.proofs.Lists.{not-both}
 use Rattle.log_store.specs.Table.{Row, playRows, vectorOf, vectorsOf}
 use Rattle.log_store.specs.Store.{Store, storeLog, storeRows}
 use Rattle.log_store.proofs.Rows.{rows-length, rows-at, rows-lead, no-row}

@@ -13,8 +13,8 @@ use Rattle.spec.specs.Log.{Op, Entry, ShardReplica, append, push, lastOffset}
 use Rattle.spec.specs.Node.Held as held
 use Rattle.spec.specs.Node.Shards.{Result, gives, leadsAt, withReplica}
 use Rattle.spec.specs.Node.Client.{WriteAnswer, accepted, writeRefused, ackCount, overfull, writeHeld}
-use Rattle.spec.proofs.Lists.{by-test, not-both}
-use Rattle.spec.proofs.Log.Store.{push-length}
+use Rattle.spec_laws.proofs.Lists.{by-test, not-both}
+use Rattle.spec_laws.proofs.Log.Store.{push-length}
 use Rattle.node_shard.specs.declared.Held.{Held}
 use Rattle.node_shard.specs.View.{viewHeld}
 use Rattle.node_admit.specs.declared.Admit.{Admit}

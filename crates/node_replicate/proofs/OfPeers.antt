@@ -15,8 +15,8 @@ use Rattle.spec.specs.Node.Shards.{Result, gives, heldShard, atShard}
 use Rattle.spec.specs.Node.Wire.{opInDomain, entryInDomain, storedOp, storedEntry}
 use Rattle.spec.specs.Node.Backup.{BackupAnswer, backupRefused, unheld, replicateHeld, onReplicate, copyHeld, onCopy}
 use Rattle.spec.specs.Node.Calls as calls
-use Rattle.spec.proofs.Lists.{not-both}
-use Rattle.spec.proofs.Node.Shards.{at-absent}
+use Rattle.spec_laws.proofs.Lists.{not-both}
+use Rattle.spec_laws.proofs.Node.Shards.{at-absent}
 use Rattle.node_shard.specs.declared.Held.{Held}
 use Rattle.log_store.specs.Store.{Store}
 use Rattle.wire_read.specs.Shown.{messageOf}

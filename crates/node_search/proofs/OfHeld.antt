@@ -15,7 +15,7 @@ use Rattle.spec.specs.Node.Lease.{before, leased}
 use Rattle.spec.specs.Node.Client as client
 use Rattle.spec.specs.Node.WellFormed.{wellFormedVector}
 use Rattle.spec.specs.declared.Neighbor.{Neighbor}
-use Rattle.spec.proofs.Node.Shards.{at-held}
+use Rattle.spec_laws.proofs.Node.Shards.{at-held}
 use Rattle.node_shard.specs.declared.Held.{Held}
 use Rattle.node_admit.specs.declared.Admit.{Admit}
 use Rattle.node_admit.specs.declared.Admit.the-variants as A

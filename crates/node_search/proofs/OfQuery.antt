@@ -12,7 +12,7 @@ use Rattle.spec.specs.Lists.{every}
 use Rattle.spec.specs.Nearest.Order.{bitsInDomain}
 use Rattle.spec.specs.Node.Wire.{floatOf, floatsOf, patternsInDomain}
 use Rattle.spec.specs.Node.WellFormed.{component, wellFormedVector}
-use Rattle.spec.proofs.Lists.{not-both}
+use Rattle.spec_laws.proofs.Lists.{not-both}
 use Rattle.log_store.proofs.Bits.{floats-length, write-on}
 use Rattle.log_store.proofs.Checking.{component-is, every-on, every-stop, every-end}
 use Rattle.log_search.proofs.Asked.{query-start}

@@ -19,8 +19,8 @@ use Rattle.spec.specs.Node.WellFormed.{wellFormedVector}
 use Rattle.spec.specs.Node.Client as client
 use Rattle.spec.specs.Node.Refused.{counted, countSearch, searchTurnedDown}
 use Rattle.spec.specs.Node.Calls as calls
-use Rattle.spec.proofs.Lists.{not-both}
-use Rattle.spec.proofs.Node.Refusals.{search-same}
+use Rattle.spec_laws.proofs.Lists.{not-both}
+use Rattle.spec_laws.proofs.Node.Refusals.{search-same}
 use Rattle.wire_read.specs.declared.SearchPart.{SearchPart}
 use Rattle.wire_read.proofs.Decoded.{search-decoded}
 use Rattle.log_arrive.specs.Parts.{bitsIn}

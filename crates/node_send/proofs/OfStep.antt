@@ -16,7 +16,7 @@ use Rattle.spec.specs.Node.Worker.{Step, stop, wait, align, send, sendOf, stepR
 use Rattle.spec.specs.Node.Calls.{requestOf}
 use Rattle.spec.specs.declared.Metric.{Metric}
 use Rattle.spec.specs.declared.Peer.{Peer}
-use Rattle.spec.proofs.Lists.{by-test}
+use Rattle.spec_laws.proofs.Lists.{by-test}
 use Rattle.node_admit.specs.declared.Step as words
 use Rattle.node_admit.specs.declared.Step.the-variants as S
 use Rattle.node_admit.specs.Steps.{stepWord}

@@ -19,8 +19,8 @@ use Rattle.spec.specs.Node.Wire.{bitsOf, wireOp}
 use Rattle.spec.specs.Node.Worker.{messageBytes, loneOf}
 use Rattle.spec.specs.Node.WellFormed.{component, wellFormedVector, wellFormedOp}
 use Rattle.spec.specs.Nearest.Order.{inDomain}
-use Rattle.spec.proofs.Lists.{and-true, and-left, and-right, not-both}
-use Rattle.spec.proofs.LayoutLaws.Bytes.{length-bytes}
+use Rattle.spec_laws.proofs.Lists.{and-true, and-left, and-right, not-both}
+use Rattle.spec_laws.proofs.Wire.Bytes.{length-bytes}
 use Rattle.wire_write.specs.Written.{countFits, opBytes, opFits, opSize, wireOf}
 use Rattle.wire_write.proofs.Writes.{sets-then, op-size, headBytes, message-length, message-put}
 use Rattle.wire_write.proofs.Entries.{entry-size}

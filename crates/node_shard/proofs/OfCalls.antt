@@ -14,7 +14,7 @@ use Rattle.spec.specs.Node.Shards.{Result, gives, ofKey, heldShard, withHeld}
 use Rattle.spec.specs.Node.Client.{WaitAnswer, waitRefused, waitHeld, onWait}
 use Rattle.spec.specs.Node.Ack.{AckAnswer, ackRefused, Sent, badReply, ackHeld, onAck, OutcomeAnswer, outcomeRefused, outcomeHeld, outcomeAt, Proposal, leaves, onOutcome}
 use Rattle.spec.specs.Node.Calls.{lateTime, waitWith, ackOf, outcomeWith}
-use Rattle.spec.proofs.Node.Shards.{at-held, update-same}
+use Rattle.spec_laws.proofs.Node.Shards.{at-held, update-same}
 use Rattle.node_shard.specs.Answers.{waitCall, outcomeCall}
 use Rattle.node_shard.specs.Acks.{ackCall}
 

@@ -9,7 +9,7 @@ use Rattle.spec.specs.Lists.{_and_, every, rising}
 use Rattle.spec.specs.Limits.{maxReplicas, maxEntries, maxWorkers}
 use Rattle.spec.specs.Node.Shards.{rowBelow}
 use Rattle.spec.specs.Node.WellFormed.{ackFits}
-use Rattle.spec.proofs.Lists.{and-left, and-right}
+use Rattle.spec_laws.proofs.Lists.{and-left, and-right}
 use Rattle.node_shard.specs.declared.Held.{Held}
 use Rattle.node_shard.specs.Formed.{formedHeld}
 

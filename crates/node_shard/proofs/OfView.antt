@@ -14,8 +14,8 @@ use Rattle.spec.specs.Log.{Log, Vectors}
 use Rattle.spec.specs.Map.WellFormed.{nameFits}
 use Rattle.spec.specs.Node.Shards.{rowBelow}
 use Rattle.spec.specs.Node.WellFormed.{ackFits, wellFormedHeld}
-use Rattle.spec.proofs.Lists.{and-true, and-left, and-right}
-use Rattle.spec.proofs.Node.Formed.{held-formed, formed-held}
+use Rattle.spec_laws.proofs.Lists.{and-true, and-left, and-right}
+use Rattle.spec_laws.proofs.Node.Formed.{held-formed, formed-held}
 use Rattle.node_shard.specs.declared.Held.{Held}
 use Rattle.node_shard.specs.View.{viewHeld}
 use Rattle.node_shard.specs.Formed.{formedHeld}

@@ -15,8 +15,8 @@ use Rattle.spec.specs.Map.Create.{shardBelow}
 use Rattle.spec.specs.Node.Held as held
 use Rattle.spec.specs.Node.Shown as show
 use Rattle.spec.specs.Node.Calls as calls
-use Rattle.spec.proofs.Lists.{not-both, and-true, and-left, and-right}
-use Rattle.spec.proofs.Map.Rows.{every-cons}
+use Rattle.spec_laws.proofs.Lists.{not-both, and-true, and-left, and-right}
+use Rattle.spec_laws.proofs.Map.Rows.{every-cons}
 use Rattle.map_tables.specs.declared.ShardMap.{ShardMap}
 use Rattle.map_tables.specs.Names.{viewKey}
 use Rattle.map_tables.specs.View as view

@@ -16,7 +16,7 @@ use Rattle.spec.specs.Keys.{Key, keyBelow}
 use Rattle.spec.specs.Map.Tables as tables
 use Rattle.spec.specs.Node.Shown as show
 use Rattle.spec.specs.Map.Create.{shardBelow}
-use Rattle.spec.proofs.Lists.{not-both, and-left, and-right}
+use Rattle.spec_laws.proofs.Lists.{not-both, and-left, and-right}
 use Rattle.node_shard.proofs.Loops.{used-next, used-over, take-put}
 use Rattle.map_tables.specs.declared.ShardRow.{ShardRow}
 use Rattle.map_tables.specs.declared.Shards.{Shards}

@@ -15,8 +15,8 @@ use Rattle.spec.specs.Node.Shown.{isNode, newRow, withRow, withRows}
 use Rattle.spec.specs.declared.Peer.{Peer}
 use Rattle.spec.specs.declared.Replica.{Replica}
 use Rattle.spec.specs.declared.DataNodeId.{DataNodeId}
-use Rattle.spec.proofs.Lists.{by-test, not-both}
-use Rattle.spec.proofs.Map.Rows.{put-least}
+use Rattle.spec_laws.proofs.Lists.{by-test, not-both}
+use Rattle.spec_laws.proofs.Map.Rows.{put-least}
 use Rattle.node_shard.specs.View.{others, below, insertAt}
 use Rattle.node_shard.proofs.Loops.{used-next, used-over, lead-most}
 use Rattle.node_shard.proofs.OfRows.{row-there, row-absent}

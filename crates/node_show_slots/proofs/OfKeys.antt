@@ -7,8 +7,8 @@ use native.Mathlib.Omega.{arith}
 use lib.ListN.{length, getD}
 use Rattle.spec.specs.Lists.{_and_, rising}
 use Rattle.spec.specs.Keys.{Key, keyBelow}
-use Rattle.spec.proofs.Lists.{not-both, and-true, and-left, and-right}
-use Rattle.spec.proofs.Map.Orders.{keys}
+use Rattle.spec_laws.proofs.Lists.{not-both, and-true, and-left, and-right}
+use Rattle.spec_laws.proofs.Map.Orders.{keys}
 
 -- a rising list without one of its elements
 pub rising-tail : (k : Key) (l : List Key) → rising keyBelow (k ∷ l) ≡ true → rising keyBelow l ≡ true

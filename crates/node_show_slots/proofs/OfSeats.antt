@@ -13,9 +13,9 @@ use borrow.Author.Tests.{ne-eqb, lt-ltb, le-ltb}
 use Rattle.spec.specs.Lists.{any, every, lead, rising}
 use Rattle.spec.specs.Limits.{maxHeld}
 use Rattle.spec.specs.Keys.{Key, keyBelow, sameKey}
-use Rattle.spec.proofs.Lists.{and-left}
-use Rattle.spec.proofs.Map.Orders.{key-same, same-key}
-use Rattle.spec.proofs.Map.Rows.{every-tail}
+use Rattle.spec_laws.proofs.Lists.{and-left}
+use Rattle.spec_laws.proofs.Map.Orders.{key-same, same-key}
+use Rattle.spec_laws.proofs.Map.Rows.{every-tail}
 use Rattle.node_shard.proofs.Loops.{take-next, take-put}
 use Rattle.node_header.specs.Grow.{freeFrom, lowestSlot}
 use Rattle.node_header.proofs.OfLists.{by-case}

@@ -10,8 +10,8 @@ use lib.Seq.{length-take-le, getD-take, take-set-lt}
 use borrow.Author.Tests.{eqb-true, eqb-false, ne-eqb, eq-eqb, lt-ltb, le-ltb, lt-leb, ltb-true, leb-false, not-true}
 use Rattle.spec.specs.Lists.{_and_, _or_, any, every}
 use Rattle.spec.specs.Limits.{maxHeld}
-use Rattle.spec.proofs.Lists.{not-both, and-true, and-left, and-right}
-use Rattle.spec.proofs.Map.Rows.{every-tail, every-cons}
+use Rattle.spec_laws.proofs.Lists.{not-both, and-true, and-left, and-right}
+use Rattle.spec_laws.proofs.Map.Rows.{every-tail, every-cons}
 use Rattle.node_shard.proofs.Loops.{take-next, take-put}
 use Rattle.map_tables.proofs.Tables.{map-set, every-at}
 use Rattle.node_header.specs.declared.Kept.{Kept}

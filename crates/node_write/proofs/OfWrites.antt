@@ -18,7 +18,7 @@ use Rattle.spec.specs.Node.Lease.{before, leased}
 use Rattle.spec.specs.Node.Client as client
 use Rattle.spec.specs.Node.Refused.{counted}
 use Rattle.spec.specs.Node.Calls as calls
-use Rattle.spec.proofs.Lists.{not-both}
+use Rattle.spec_laws.proofs.Lists.{not-both}
 use Rattle.node_shard.specs.declared.Held.{Held}
 use Rattle.node_admit.specs.View.{viewExpiry}
 use Rattle.node_admit.specs.declared.Admit.{Admit}

@@ -18,7 +18,7 @@ use Rattle.spec.specs.Lists.{every}
 use Rattle.spec.specs.Nearest.Order.{inDomain, bitsInDomain}
 use Rattle.spec.specs.Nearest.Distance.{allInDomain, vectorInDomain}
 use Rattle.spec.specs.Node.Wire as wire
-use Rattle.spec.proofs.Lists.{not-both}
+use Rattle.spec_laws.proofs.Lists.{not-both}
 use Rattle.num_position.specs.Positions.{within, isMinus, arcseconds, leftOver, numbersOf, floatsOf}
 use Rattle.num_position.specs.declared.Position.{Position}
 use Rattle.num_position.proofs.OfSizes.{within-sizes, sizes-bounds}

@@ -8,7 +8,7 @@ use borrow.Author.Tests.{eqb-true, eqb-false, eq-eqb, leb-true, le-leb}
 use lib.Dec.{leb, eqb}
 use lib.IntN.{ℤ, pos, negsuc, negℤ, natAbs}
 use Rattle.spec.specs.Lists.{_and_}
-use Rattle.spec.proofs.Lists.{not-both, and-true}
+use Rattle.spec_laws.proofs.Lists.{not-both, and-true}
 use Rattle.num_position.specs.Positions.{Turned, turned, outOfRange, noThousandth, numberOf, thousandthsOf, decSize, inRange, within, signedBy, positionOf, isMinus, fieldsBy, fieldsOf, hasThousandth, toPosition, toFields, toVector, floatsOf}
 use Rattle.num_position.specs.Sizes.{sizesWithin}
 use Rattle.num_position.specs.declared.Fields.{Fields}

@@ -6,7 +6,7 @@ use native.Mathlib.Omega.{arith}
 use borrow.Author.Tests.{leb-true, le-leb, eqb-true, eqb-false, eq-eqb, ne-eqb, not-true}
 use lib.Dec.{leb, eqb}
 use Rattle.spec.specs.Lists.{_and_}
-use Rattle.spec.proofs.Lists.{and-true, and-left, and-right}
+use Rattle.spec_laws.proofs.Lists.{and-true, and-left, and-right}
 use Rattle.num_position.specs.Positions.{decSize, raIn, decIn, signIn, inRange}
 use Rattle.num_position.specs.declared.Fields.{Fields}
 

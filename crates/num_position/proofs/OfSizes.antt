@@ -12,7 +12,7 @@ use lib.Ieee.{Float, binary32, ofInt}
 use mir.Syntax.{w32, w64}
 use mir.Val.{Fits, SFits}
 use Rattle.spec.specs.Lists.{_and_}
-use Rattle.spec.proofs.Lists.{not-both, and-left, and-right}
+use Rattle.spec_laws.proofs.Lists.{not-both, and-left, and-right}
 use Rattle.num_position.specs.Positions.{Turned, turned, outOfRange, noThousandth, within, isMinus, fieldsBy, fieldsOf, floatsOf, arcseconds, leftOver, toFields, toVector}
 use Rattle.num_position.specs.Sizes.{sizesWithin, sizesOf, sizedOf}
 use Rattle.num_position.specs.declared.Fields.{Fields}

@@ -10,3 +10,6 @@ pub mod Malformed
 pub mod Bytes
 pub mod Serving
 pub mod Storing
+pub mod Nearest
+pub mod Example
+pub mod Edits

@@ -1,9 +1,2 @@
 pub mod Opened
 pub mod Cases
-pub mod LayoutLaws
-pub mod Nearest
-pub mod Lists
-pub mod Rising
-pub mod Log
-pub mod Node
-pub mod Map

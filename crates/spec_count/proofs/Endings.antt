@@ -14,7 +14,7 @@ use Rattle.spec.specs.Map.Tables.{NodeInfo, Spec, Map, refused}
 use Rattle.spec.specs.Map.Change.{accepts, rejects}
 use Rattle.spec.specs.Map.Create.{Placement, nodeAt, isAlive, hasCollection, zeroIn, listMatches, matches, firstNotAlive, createOn, createRoom, createAnswer}
 use Rattle.spec.specs.Map.Calls.{reasonNumber}
-use Rattle.spec.proofs.Lists.{and-left}
+use Rattle.spec_laws.proofs.Lists.{and-left}
 use Rattle.spec_count.specs.Closed.{roomFor}
 use Rattle.spec_count.proofs.Room.{room-for}
 

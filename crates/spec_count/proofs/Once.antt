@@ -9,7 +9,7 @@ use lib.Dec.{eqb}
 use lib.ListN.{length}
 use borrow.Author.Tests.{eq-eqb}
 use Rattle.spec.specs.Lists.{_or_, any}
-use Rattle.spec.proofs.Lists.{not-both}
+use Rattle.spec_laws.proofs.Lists.{not-both}
 use Rattle.spec_count.specs.Tuples.{before, tuples, sequences, In, Distinct}
 use Rattle.spec_count.specs.Counts.{placementsOf, repeats}
 use Rattle.spec_count.proofs.Members.{Image, image-of, Headed, headed, tuple-of, sequence-of}

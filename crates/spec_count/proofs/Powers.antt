@@ -9,7 +9,7 @@ use lib.ListN.{length, length-append}
 use lib.Dec.{eqb, leb, ltb}
 use borrow.Author.Tests.{eqb-true, eqb-false, leb-true, leb-false, eq-eqb, ne-eqb, le-leb, lt-leb, lt-ltb, le-ltb}
 use Rattle.spec.specs.Lists.{_and_, every}
-use Rattle.spec.proofs.Lists.{by-test}
+use Rattle.spec_laws.proofs.Lists.{by-test}
 use Rattle.spec_count.specs.Tuples.{tuples, sequences, howMany}
 use Rattle.spec_count.specs.Closed.{geometric}
 use Rattle.spec_count.proofs.HowMany.{many-append, many-same, many-all, many-sized, every-true}

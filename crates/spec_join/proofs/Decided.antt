@@ -10,8 +10,8 @@ use lib.Dec.{eqb, ltb, leb}
 use lib.ListN.{length}
 use Rattle.spec.specs.Lists.{_and_, nth, every, any, rising}
 use Rattle.spec.specs.Layout.ShardOf.{shardOf}
-use Rattle.spec.proofs.Lists.{and-true, and-left, and-right, not-both, some-same, nth-nil}
-use Rattle.spec.proofs.Map.Rows.{every-tail, every-cons}
+use Rattle.spec_laws.proofs.Lists.{and-true, and-left, and-right, not-both, some-same, nth-nil}
+use Rattle.spec_laws.proofs.Map.Rows.{every-tail, every-cons}
 use Rattle.spec_join.specs.Join.{Hit, Answer, nearerHit, inOrder, apart, shardBelow, soundAnswer, sound, owned, allHits, joined, Joined, found, undecodable, outOfOrder, otherShard, noRoom, joinAnswers}
 use Rattle.spec_join.specs.Words.{InOrder, Apart, Sound, Owned}
 use Rattle.spec_join.proofs.Joins.{joined-length}

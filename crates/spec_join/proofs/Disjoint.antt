@@ -7,7 +7,7 @@ use native.Mathlib.Omega.{arith}
 use lib.ListN.{length}
 use Rattle.spec.specs.Lists.{nth}
 use Rattle.spec.specs.Layout.ShardOf.{shardOf}
-use Rattle.spec.proofs.Lists.{nth-lt, lt-nth}
+use Rattle.spec_laws.proofs.Lists.{nth-lt, lt-nth}
 use Rattle.spec_join.specs.Join.{Hit, Answer}
 use Rattle.spec_join.specs.Words.{Sound, Owned}
 

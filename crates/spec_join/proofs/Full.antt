@@ -16,11 +16,11 @@ use Rattle.spec.specs.Layout.ShardOf.{shardOf}
 use Rattle.spec.specs.Log.{Vectors, vectorBelow}
 use Rattle.spec.specs.Nearest.Search.{Vector, neighbor, nearer, insert, ordered}
 use Rattle.spec.specs.Nearest.Search as nearest
-use Rattle.spec.proofs.Lists.{and-true, by-test}
-use Rattle.spec.proofs.Rising.{rising-head, rising-tail}
-use Rattle.spec.proofs.Log.Ids.{by-id}
-use Rattle.spec.proofs.Nearest.Search.{hits-first}
-use Rattle.spec.proofs.Nearest.Select.{Other, Absent, Distinct, distinct-perm}
+use Rattle.spec_laws.proofs.Lists.{and-true, by-test}
+use Rattle.spec_laws.proofs.Rising.{rising-head, rising-tail}
+use Rattle.spec_laws.proofs.Log.Ids.{by-id}
+use Rattle.spec_laws.proofs.Nearest.Search.{hits-first}
+use Rattle.spec_laws.proofs.Nearest.Select.{Other, Absent, Distinct, distinct-perm}
 use Rattle.spec_join.specs.Join.{Hit, Answer, hit, nearerHit, inOrder, apart, soundAnswer, insertHit, orderedHits}
 use Rattle.spec_join.specs.Collection.{fullAnswer}
 use Rattle.spec_join.proofs.Order.{nearer-is}

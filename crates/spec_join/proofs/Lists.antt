@@ -5,7 +5,7 @@ use mathlib.Core.List.{List, [], _∷_, _++_, map, List·Permᴰ, List·Permᴰ�
 use Prim.Native.Nat.{ℕ, zero, suc}
 use lib.ListN.{take}
 use Rattle.spec.specs.Lists.{every}
-use Rattle.spec.proofs.Map.Rows.{every-tail, every-cons}
+use Rattle.spec_laws.proofs.Map.Rows.{every-tail, every-cons}
 
 module _ {A : Type 0} (p : A → Bool) where
   pub every-perm : {l m : List A} → List·Permᴰ l m → every p l ≡ true → every p m ≡ true

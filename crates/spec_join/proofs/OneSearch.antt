@@ -15,10 +15,10 @@ use Rattle.spec.specs.Layout.ShardOf.{shardOf}
 use Rattle.spec.specs.Log.{Vectors}
 use Rattle.spec.specs.Nearest.Search.{Vector, neighbor}
 use Rattle.spec.specs.Nearest.Search as nearest
-use Rattle.spec.proofs.Lists.{and-true}
-use Rattle.spec.proofs.Map.Rows.{every-cons}
-use Rattle.spec.proofs.Rising.{rising-cons}
-use Rattle.spec.proofs.Nearest.Search.{hits-length}
+use Rattle.spec_laws.proofs.Lists.{and-true}
+use Rattle.spec_laws.proofs.Map.Rows.{every-cons}
+use Rattle.spec_laws.proofs.Rising.{rising-cons}
+use Rattle.spec_laws.proofs.Nearest.Search.{hits-length}
 use Rattle.spec_join.specs.Join.{Hit, Answer, hit, shardBelow, soundAnswer, sound, owned, orderedHits, allHits, joined, found, joinAnswers}
 use Rattle.spec_join.specs.Collection.{fullAnswer, fullAnswers, HoldOwn}
 use Rattle.spec_join.proofs.Ordered.{ordered-same, first-behind, first-kept}

@@ -15,8 +15,8 @@ use Rattle.spec.specs.Nearest.Search as nearest
 use Rattle.spec.specs.Lists.{_and_}
 use Rattle.spec.specs.Layout.Format.{encode, fits, next, value, concatMap, Good, All}
 use Rattle.spec.specs.Layout.Format as format
-use Rattle.spec.proofs.LayoutLaws.Formats.{wrote}
-use Rattle.spec.proofs.LayoutLaws.Bytes.{cut-append, room}
+use Rattle.spec_laws.proofs.Wire.Formats.{wrote}
+use Rattle.spec_laws.proofs.Wire.Bytes.{cut-append, room}
 use Rattle.spec_join.specs.Join.{Hit, Answer, hit, found, joinAnswers}
 use Rattle.spec_join.specs.Answers.{hitOf, wireHit, answerF, answerOf, wireAnswer, andThen, answersFrom, answersIn}
 use Rattle.spec_join.specs.Collection.{fullAnswers, HoldOwn}

@@ -16,11 +16,11 @@ use Rattle.spec.specs.Map.Create.{isNamed, hasCollection}
 use Rattle.spec.specs.Map.Apply.{nodeBelow}
 use Rattle.spec.specs.Map.Place.{Placed, place}
 use Rattle.spec.specs.Map.WellFormed.{wellFormedMap}
-use Rattle.spec.proofs.Lists.{by-test, not-both, and-true, and-left, and-right, none-some, some-same}
-use Rattle.spec.proofs.Rising.{ByKey, Below, rising-tail, rising-cons}
-use Rattle.spec.proofs.Map.Orders.{nodes-by-id, by-key, numbers}
-use Rattle.spec.proofs.Map.Lightest.{Has, above}
-use Rattle.spec.proofs.Map.WellFormed.{map-parts}
+use Rattle.spec_laws.proofs.Lists.{by-test, not-both, and-true, and-left, and-right, none-some, some-same}
+use Rattle.spec_laws.proofs.Rising.{ByKey, Below, rising-tail, rising-cons}
+use Rattle.spec_laws.proofs.Map.Orders.{nodes-by-id, by-key, numbers}
+use Rattle.spec_laws.proofs.Map.Lightest.{Has, above}
+use Rattle.spec_laws.proofs.Map.WellFormed.{map-parts}
 use Rattle.spec_losses.specs.Losses.{Loss, markedDead, samePlaced, lossOf, matters, lossesOf, lossesIn, losses, lost, lossesCall}
 use Rattle.spec_losses.proofs.Same.{Answered, place-answered, placed-apart, apart-placed}
 

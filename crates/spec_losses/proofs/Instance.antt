@@ -17,7 +17,7 @@ use Rattle.spec.specs.Map.Calls.{applyCall}
 use Rattle.spec.specs.Map.Place.{Load, Placed, nowhere, placedOn, notPlaced, place}
 use Rattle.spec.specs.Layout.Request.{markDead, Request}
 use Rattle.spec.specs.Cases.Commands.{c, d, sized, node, from}
-use Rattle.spec.proofs.Map.Lightest.{Has}
+use Rattle.spec_laws.proofs.Map.Lightest.{Has}
 use Rattle.spec.proofs.Opened.{opened}
 use Rattle.spec_losses.specs.Losses.{Loss, markedDead, sameAll, sameLists, samePlaced, lossOf, matters, lossesOf, lossesIn, losses, lost, lossesCall}
 use Rattle.spec_losses.specs.Loads.{liveLoads}

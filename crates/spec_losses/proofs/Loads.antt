@@ -14,9 +14,9 @@ use Rattle.spec.specs.Map.Tables.{NodeInfo, Spec, Map}
 use Rattle.spec.specs.Map.Create.{isNode}
 use Rattle.spec.specs.Map.Apply.{nodeBelow, update, dead}
 use Rattle.spec.specs.Map.Place.{Load, loadsOf, replicasOf, place}
-use Rattle.spec.proofs.Rising.{rising-tail}
-use Rattle.spec.proofs.Map.Orders.{nodes-by-id}
-use Rattle.spec.proofs.Map.Lightest.{Has, above}
+use Rattle.spec_laws.proofs.Rising.{rising-tail}
+use Rattle.spec_laws.proofs.Map.Orders.{nodes-by-id}
+use Rattle.spec_laws.proofs.Map.Lightest.{Has, above}
 use Rattle.spec_losses.specs.Losses.{markedDead}
 use Rattle.spec_losses.specs.Loads.{liveLoads, withoutLoad}
 

@@ -19,8 +19,8 @@ use Rattle.spec.specs.Map.Calls.{applyCall}
 use Rattle.spec.specs.Map.Place.{loadsOf, place}
 use Rattle.spec.specs.Map.WellFormed.{wellFormedMap}
 use Rattle.spec.specs.Layout.Request.{markDead, Request}
-use Rattle.spec.proofs.Lists.{some-same}
-use Rattle.spec.proofs.Map.Lightest.{Has}
+use Rattle.spec_laws.proofs.Lists.{some-same}
+use Rattle.spec_laws.proofs.Map.Lightest.{Has}
 use Rattle.spec_losses.specs.Losses.{Loss, markedDead, losses}
 use Rattle.spec_losses.proofs.Exactly.{listed-matters}
 

@@ -14,7 +14,7 @@ use Rattle.spec.specs.Refusals.{Refusal, noRoom}
 use Rattle.spec.specs.Map.Tables.{Spec, Map}
 use Rattle.spec.specs.Map.Create.{Placement}
 use Rattle.spec.specs.Map.Place.{Load, Placed, nowhere, placedOn, notPlaced, placeShards, placeOn, place}
-use Rattle.spec.proofs.Map.Lightest.{Has}
+use Rattle.spec_laws.proofs.Map.Lightest.{Has}
 use Rattle.spec_losses.specs.Losses.{Loss, markedDead, losses}
 use Rattle.spec_losses.specs.Loads.{liveLoads}
 use Rattle.spec_losses.proofs.Loads.{dead-fewer}

@@ -12,7 +12,7 @@ use Rattle.spec.specs.Refusals.{Refusal, noRoom, numberOf}
 use Rattle.spec.specs.Map.Tables.{Spec, Map}
 use Rattle.spec.specs.Map.Create.{Placement}
 use Rattle.spec.specs.Map.Place.{Load, Placed, nowhere, placedOn, notPlaced, placeShards, placeOn, loadsOf, place}
-use Rattle.spec.proofs.Lists.{by-test, not-both, and-true, and-left, and-right}
+use Rattle.spec_laws.proofs.Lists.{by-test, not-both, and-true, and-left, and-right}
 use Rattle.spec_losses.specs.Losses.{sameAll, sameLists, samePlaced}
 
 -- ---- lists

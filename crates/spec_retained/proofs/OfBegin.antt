@@ -17,9 +17,9 @@ use Rattle.spec.specs.Node.Shards.{Result, gives, heldShard, withHeld, withRepl
 use Rattle.spec.specs.Node.Backup.{BackupAnswer, newEpochHeld, beginEpoch, newEpochAt, onNewEpoch}
 use Rattle.spec.specs.Node.Calls.{newEpochOf, newEpochWith}
 use Rattle.spec.specs.declared.Metric.{Metric}
-use Rattle.spec.proofs.Lists.{by-test, not-both}
-use Rattle.spec.proofs.Map.Orders.{keys}
-use Rattle.spec.proofs.Node.After.{new-epoch-after}
+use Rattle.spec_laws.proofs.Lists.{by-test, not-both}
+use Rattle.spec_laws.proofs.Map.Orders.{keys}
+use Rattle.spec_laws.proofs.Node.After.{new-epoch-after}
 
 -- a shard of the key without any entry
 pub record Fresh (k : Key) (g : Held) : Type 0 where

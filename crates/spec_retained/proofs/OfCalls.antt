@@ -16,9 +16,9 @@ use Rattle.spec.specs.Node.Wire.{opInDomain, entryInDomain, storedOp, storedEnt
 use Rattle.spec.specs.Node.Client.{WriteAnswer, writeHeld, onWrite}
 use Rattle.spec.specs.Node.Backup.{BackupAnswer, replicateHeld, newEpochHeld, copyHeld, onReplicate, onCopy, newEpochAt, onNewEpoch}
 use Rattle.spec.specs.Node.Calls.{lateTime, writeOf, writeWith, replicateOf, replicateWith, newEpochOf, newEpochWith, copyOf, copyWith}
-use Rattle.spec.proofs.Lists.{by-test, none-some, some-same, nth-nil}
-use Rattle.spec.proofs.Node.Shards.{at-cases}
-use Rattle.spec.proofs.Node.After.{write-after, replicate-after, new-epoch-after, copy-after}
+use Rattle.spec_laws.proofs.Lists.{by-test, none-some, some-same, nth-nil}
+use Rattle.spec_laws.proofs.Node.Shards.{at-cases}
+use Rattle.spec_laws.proofs.Node.After.{write-after, replicate-after, new-epoch-after, copy-after}
 use Rattle.spec_retained.specs.Retained.{Carries, CarriesAll}
 use Rattle.spec_retained.proofs.OfLogs.{append-retains, store-retains, store-all-retains, adopted-retains, not-over, adopted-length}
 

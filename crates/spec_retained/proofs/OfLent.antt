@@ -15,7 +15,7 @@ use Rattle.spec.specs.Node.Wire.{opInDomain, entryInDomain}
 use Rattle.spec.specs.Node.Client.{WriteAnswer, writeRefused}
 use Rattle.spec.specs.Node.Backup.{BackupAnswer, backupRefused}
 use Rattle.spec.specs.Node.Calls.{lateTime, writeOf, writeWith, replicateOf, replicateWith, newEpochOf, newEpochWith, copyOf, copyWith}
-use Rattle.spec.proofs.Lists.{by-test}
+use Rattle.spec_laws.proofs.Lists.{by-test}
 
 -- a result that is a refusal
 abbrev pub Refuses : Result BackupAnswer Node → Type 0

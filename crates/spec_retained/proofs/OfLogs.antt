@@ -12,9 +12,9 @@ use borrow.Author.Tests.{ltb-false}
 use Rattle.spec.specs.Limits.{maxEntries}
 use Rattle.spec.specs.Log.{Op, Entry, End, Log, ShardReplica, lastOffset, push, append, store, storeAll, keep, cutTo, adopted}
 use Rattle.spec.specs.Node.Client.{overfull}
-use Rattle.spec.proofs.Lists.{by-test, Within, within-length, within-take, within-append}
-use Rattle.spec.proofs.Log.Keep.{keep-length, keep-within}
-use Rattle.spec.proofs.Log.Store.{store-holds, store-all-holds}
+use Rattle.spec_laws.proofs.Lists.{by-test, Within, within-length, within-take, within-append}
+use Rattle.spec_laws.proofs.Log.Keep.{keep-length, keep-within}
+use Rattle.spec_laws.proofs.Log.Store.{store-holds, store-all-holds}
 use Rattle.spec_retained.specs.Retained.{Retains}
 
 pub retains-same : (l : Log) → Retains l l

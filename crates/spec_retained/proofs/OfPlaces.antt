@@ -10,7 +10,7 @@ use Rattle.spec.specs.Lists.{nth, lead, find}
 use Rattle.spec.specs.Keys.{Key, sameKey}
 use Rattle.spec.specs.Node.Held.{Held, Node}
 use Rattle.spec.specs.Node.Shards.{ofKey, heldShard}
-use Rattle.spec.proofs.Lists.{none-some, some-same, nth-nil}
+use Rattle.spec_laws.proofs.Lists.{none-some, some-same, nth-nil}
 use Rattle.spec_retained.specs.Retained.{Carries, CarriesAll}
 
 -- the shards before that of a key

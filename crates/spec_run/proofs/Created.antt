@@ -29,12 +29,12 @@ use Rattle.spec.specs.Node.Calls.{callShown, shownWith}
 use Rattle.spec.specs.declared.DataNodeId.{DataNodeId}
 use Rattle.spec.specs.declared.Replica.{Replica}
 use Rattle.spec.specs.declared.Metric.{Metric}
-use Rattle.spec.proofs.Lists.{by-test, not-both, and-true, and-left, and-right, none-some, some-same}
-use Rattle.spec.proofs.Rising.{rising-tail}
-use Rattle.spec.proofs.Map.Rows.{find-put, find-true}
-use Rattle.spec.proofs.Map.Orders.{nodes-by-id, name-same, same-name, name-not-below}
-use Rattle.spec.proofs.Map.Sets.{in-put, rest-of-put}
-use Rattle.spec.proofs.Map.WellFormed.{stays-well-formed, map-parts}
+use Rattle.spec_laws.proofs.Lists.{by-test, not-both, and-true, and-left, and-right, none-some, some-same}
+use Rattle.spec_laws.proofs.Rising.{rising-tail}
+use Rattle.spec_laws.proofs.Map.Rows.{find-put, find-true}
+use Rattle.spec_laws.proofs.Map.Orders.{nodes-by-id, name-same, same-name, name-not-below}
+use Rattle.spec_laws.proofs.Map.Sets.{in-put, rest-of-put}
+use Rattle.spec_laws.proofs.Map.WellFormed.{stays-well-formed, map-parts}
 use Rattle.spec_run.specs.Fresh.{Distinct, Live, AllLive, Created, Shown, Fresh}
 use Rattle.spec_run.specs.State.{State}
 use Rattle.spec_run.proofs.Ids as ids

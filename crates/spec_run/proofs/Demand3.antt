@@ -12,8 +12,8 @@ use Rattle.spec.specs.Map.Tables.{ShardInfo}
 use Rattle.spec.specs.Map.Apply.{shardAt}
 use Rattle.spec.specs.Node.Held.{Held}
 use Rattle.spec.specs.Node.Shards.{heldShard}
-use Rattle.spec.proofs.Lists.{not-both}
-use Rattle.spec.proofs.Map.Orders.{same-key}
+use Rattle.spec_laws.proofs.Lists.{not-both}
+use Rattle.spec_laws.proofs.Map.Orders.{same-key}
 use Rattle.spec_run.specs.State.{State}
 use Rattle.spec_run.specs.Event.{Event}
 use Rattle.spec_run.specs.Step.{run}

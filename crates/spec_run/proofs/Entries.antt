@@ -10,8 +10,8 @@ use Rattle.spec.specs.Keys.{Key}
 use Rattle.spec.specs.Lists.{nth}
 use Rattle.spec.specs.Log.{Entry, ShardReplica, entryAt}
 use Rattle.spec.specs.Node.Held.{Held}
-use Rattle.spec.proofs.Lists.{none-some}
-use Rattle.spec.proofs.Log.Numbered.{entry-lt, entry-offset}
+use Rattle.spec_laws.proofs.Lists.{none-some}
+use Rattle.spec_laws.proofs.Log.Numbered.{entry-lt, entry-offset}
 use Rattle.spec_run.specs.State.{State}
 use Rattle.spec_run.specs.Event.{Event}
 use Rattle.spec_run.specs.Step.{run}

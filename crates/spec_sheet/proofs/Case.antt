@@ -10,7 +10,7 @@ use Rattle.spec.specs.Map.Tables.{emptyMap}
 use Rattle.spec.specs.Map.Calls.{requestsIn, mapAfter}
 use Rattle.spec.specs.declared.Metric.the-variants.{Euclidean}
 use Rattle.spec.proofs.Opened.{opened}
-use Rattle.spec.proofs.Map.Example.{request}
+use Rattle.spec.proofs.Cases.Example.{request}
 use Rattle.spec_sheet.proofs.Sheet.{sumOf}
 
 abbrev key : ℕ → Key

@@ -23,11 +23,11 @@ use Rattle.spec.specs.Map.WellFormed.{wellFormedMap, shardFits}
 use Rattle.spec.specs.Map.Calls.{requestsIn, endIn, mapAfter}
 use Rattle.spec_sheet.specs.Sheet.{Loaded, Sheet, recordsIn, isUnknown, unknownOn, unknownIn, loadedOf, sheetOf, sheetFor}
 use Rattle.spec.specs.declared.Replica.{Replica}
-use Rattle.spec.proofs.Map.Orders.{nodes-by-id}
-use Rattle.spec.proofs.Map.Rows.{every-tail, length-filter}
-use Rattle.spec.proofs.Map.Stream.{nothing-behind, turnMap, applied-in-parts}
-use Rattle.spec.proofs.Map.WellFormed.{map-parts, shard-parts}
-use Rattle.spec.proofs.Rising.{rising-tail, rising-head}
+use Rattle.spec_laws.proofs.Map.Orders.{nodes-by-id}
+use Rattle.spec_laws.proofs.Map.Rows.{every-tail, length-filter}
+use Rattle.spec_laws.proofs.Map.Stream.{nothing-behind, turnMap, applied-in-parts}
+use Rattle.spec_laws.proofs.Map.WellFormed.{map-parts, shard-parts}
+use Rattle.spec_laws.proofs.Rising.{rising-tail, rising-head}
 
 -- ---- sums over the node table
 

@@ -20,8 +20,8 @@ use Rattle.spec.specs.Layout.Format.{Bytes}
 use Rattle.spec.specs.Layout.Request.{Request, dropCollection, register, promotePrimary, encodeRequest}
 use Rattle.spec.specs.Layout.Writable.{GoodRequest}
 use Rattle.spec.proofs.Opened.{opened}
-use Rattle.spec.proofs.LayoutLaws.Requests.{request-back}
-use Rattle.spec.proofs.Map.Rows.{every-tail}
+use Rattle.spec_laws.proofs.Wire.Requests.{request-back}
+use Rattle.spec_laws.proofs.Map.Rows.{every-tail}
 use Rattle.spec_words.specs.Decimal.{spelled, decimal, value}
 use Rattle.spec_words.specs.Words.{words, textOf}
 use Rattle.spec_words.specs.Calls.{said, shortBuffer, AppliedInWords, inWords, applyInWords}

@@ -11,7 +11,7 @@ use Rattle.spec.specs.Map.Tables.{Map}
 use Rattle.spec.specs.Map.Apply.{Applied}
 use Rattle.spec.specs.Map.Calls.{applyCall}
 use Rattle.spec.specs.Layout.Request.{Request}
-use Rattle.spec.proofs.Lists.{by-test}
+use Rattle.spec_laws.proofs.Lists.{by-test}
 use Rattle.spec_words.specs.Words.{textOf}
 use Rattle.spec_words.specs.Calls.{Worded, said, shortBuffer, AppliedInWords, inWords, applyInWords}
 

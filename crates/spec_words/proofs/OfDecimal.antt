@@ -10,8 +10,8 @@ use lib.ListN.{length, getD, length-append}
 use lib.Dec.{ltb, leb}
 use borrow.Author.Tests.{ltb-true, ltb-false, lt-ltb, le-ltb, le-leb}
 use Rattle.spec.specs.Lists.{_and_, every}
-use Rattle.spec.proofs.Lists.{and-true}
-use Rattle.spec.proofs.Map.Rows.{every-tail, every-cons}
+use Rattle.spec_laws.proofs.Lists.{and-true}
+use Rattle.spec_laws.proofs.Map.Rows.{every-tail, every-cons}
 use Rattle.spec_words.specs.Decimal.{digit, spelled, decimal, isDigit, valueFrom, value}
 
 -- ---- digit by digit

@@ -27,7 +27,7 @@ use Rattle.spec.specs.Refusals.{
   shrinksPrimary,
   alreadyInSync,
 }
-use Rattle.spec.proofs.Map.Rows.{every-tail, every-cons}
+use Rattle.spec_laws.proofs.Map.Rows.{every-tail, every-cons}
 use Rattle.spec_words.specs.Decimal.{isDigit, decimal, value}
 use Rattle.spec_words.specs.Texts.{
   saysOlder,

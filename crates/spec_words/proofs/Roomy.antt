@@ -39,10 +39,10 @@ use Rattle.spec.specs.Map.WellFormed.{rejectionFits, outcomeFits, sessionFits, 
 use Rattle.spec.specs.Layout.Format.{All, Bytes}
 use Rattle.spec.specs.Layout.Writable.{U64, GoodName, GoodKey, GoodList, GoodCommand, GoodRequest}
 use Rattle.spec.specs.Layout.Request.{Command, create, dropCollection, register, markDead, addReplica, removeReplica, promotePrimary, shrinkInSync, expandInSync, bench, Request, decodeRequest}
-use Rattle.spec.proofs.Lists.{by-test, none-some, some-same}
-use Rattle.spec.proofs.Map.Rows.{every-find}
-use Rattle.spec.proofs.Map.WellFormed.{map-parts}
-use Rattle.spec.proofs.LayoutLaws.Requests.{request-forth}
+use Rattle.spec_laws.proofs.Lists.{by-test, none-some, some-same}
+use Rattle.spec_laws.proofs.Map.Rows.{every-find}
+use Rattle.spec_laws.proofs.Map.WellFormed.{map-parts}
+use Rattle.spec_laws.proofs.Wire.Requests.{request-forth}
 use Rattle.spec_words.specs.Words.{textOf}
 use Rattle.spec_words.specs.Calls.{said, applyInWords}
 use Rattle.spec_words.specs.Small.{Named, OutcomeNumbers, SmallAnswer, MapNumbers}

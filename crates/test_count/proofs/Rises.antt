@@ -6,7 +6,7 @@ use mathlib.Core.List.{List}
 use Rattle.spec.specs.Lists.{rising}
 use Rattle.spec.specs.Map.Create.{shardBelow}
 use Rattle.spec.specs.Map.Tables as tables
-use Rattle.spec.proofs.Map.WellFormed.{map-parts}
+use Rattle.spec_laws.proofs.Map.WellFormed.{map-parts}
 use Rattle.map_tables.specs.View.{viewMap}
 use Rattle.map_check.proofs.Formed.{lent-formed}
 use Rattle.image_map.specs.Image.{mapAt}

@@ -15,8 +15,8 @@ use Rattle.spec.specs.Layout.Format.{Format, Value, many, _▸_, fits, fitsN, n
 use Rattle.spec.specs.Layout.Parts.{u64, u32, opF, entryF, opOf, entryOf, endOf, whenever}
 use Rattle.spec.specs.Layout.Request as request
 use Rattle.spec.specs.Layout.Message as message
-use Rattle.spec.proofs.LayoutLaws.Tests.{and-left, and-right}
-use Rattle.spec.proofs.LayoutLaws.Data.{length-mapped}
+use Rattle.spec_laws.proofs.Wire.Tests.{and-left, and-right}
+use Rattle.spec_laws.proofs.Wire.Data.{length-mapped}
 use Rattle.wire_read.specs.Shown.{part, opShown, entryShown, commandShown, shownOr, requestShown, replicateShown, newEpochShown, copyShown, writeShown, searchShown, replyShown, messageOf}
 use Rattle.wire_read.specs.declared.Part.{Part}
 use Rattle.wire_read.specs.declared.EntryPart.{EntryPart}

@@ -23,7 +23,7 @@ use Rattle.spec.specs.declared.DataNodeId.{DataNodeId}
 use Rattle.spec.specs.declared.Replica.{Replica}
 use Rattle.spec.specs.declared.Role.the-variants.{Primary}
 use Rattle.spec.specs.declared.Metric.the-variants.{Euclidean}
-use Rattle.spec.proofs.Lists.{none-some, some-same, not-both, and-true}
+use Rattle.spec_laws.proofs.Lists.{none-some, some-same, not-both, and-true}
 use Rattle.spec_run.specs.State.{Write}
 use Rattle.spec_run.specs.Event.{Event, leaseGranted, clientWrites, nodeWaits}
 use Rattle.spec_run.specs.Fresh.{Created, Fresh}

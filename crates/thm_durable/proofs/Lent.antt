@@ -17,8 +17,8 @@ use Rattle.spec.specs.Map.WellFormed.{wellFormedMap}
 use Rattle.spec.specs.Node.Held as held
 use Rattle.spec.specs.Node.Shards.{ofKey, heldShard}
 use Rattle.spec.specs.Node.WellFormed.{wellFormedHeader, wellFormedLog, logIfHeld, wellFormedLent}
-use Rattle.spec.proofs.Lists.{and-true, and-left, and-right}
-use Rattle.spec.proofs.Node.Logs.{formed-log}
+use Rattle.spec_laws.proofs.Lists.{and-true, and-left, and-right}
+use Rattle.spec_laws.proofs.Node.Logs.{formed-log}
 use Rattle.map_tables.specs.Names.{viewKey}
 use Rattle.map_tables.specs.View.{viewMap}
 use Rattle.map_tables.specs.declared.ShardMap.{ShardMap}

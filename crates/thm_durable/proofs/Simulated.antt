@@ -2,7 +2,7 @@
 use mathlib.Core.Path.{_≡_, refl, sym, ap, subst, _∙_}
 use mathlib.Core.Bool.{true}
 use mathlib.Core.List.{List, [], _∷_, _++_}
-use Rattle.spec.proofs.Lists.{and-true, and-left, and-right}
+use Rattle.spec_laws.proofs.Lists.{and-true, and-left, and-right}
 use Rattle.spec_run.specs.State.{State}
 use Rattle.spec_run.specs.Event.{Event}
 use Rattle.spec_run.specs.Step.{step, run}

@@ -48,7 +48,7 @@ use Rattle.spec.specs.Node.Calls.{
   shownWith,
   callShown,
 }
-use Rattle.spec.proofs.Lists.{and-true, and-left, and-right}
+use Rattle.spec_laws.proofs.Lists.{and-true, and-left, and-right}
 use Rattle.map_tables.specs.View.{viewMap}
 use Rattle.map_tables.specs.declared.ShardMap.{ShardMap}
 use Rattle.map_check.specs.Lent as maps

@@ -17,7 +17,7 @@ use Rattle.spec.specs.Node.Held as held
 use Rattle.spec.specs.Node.Shards.{Result}
 use Rattle.spec.specs.Node.Backup.{BackupAnswer, replied, backupRefused}
 use Rattle.spec.specs.Node.WellFormed.{wellFormedLent}
-use Rattle.spec.proofs.Lists.{none-some, some-same}
+use Rattle.spec_laws.proofs.Lists.{none-some, some-same}
 use Rattle.spec_retained.proofs.OfLent.{Refuses}
 use Rattle.node_header.specs.declared.Node.{Node}
 use Rattle.node_header.specs.View.{viewNode}

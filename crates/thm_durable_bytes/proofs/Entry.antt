@@ -12,7 +12,7 @@ use Rattle.spec.specs.Keys.{Key}
 use Rattle.spec.specs.Layout.Format.{Bytes}
 use Rattle.spec.specs.Node.Held as held
 use Rattle.spec.specs.Node.WellFormed.{wellFormedLent}
-use Rattle.spec.proofs.Lists.{and-right}
+use Rattle.spec_laws.proofs.Lists.{and-right}
 use Rattle.log_store.specs.Store.{wellFormedStore}
 use Rattle.log_calls.proofs.OfFits.{fits-well}
 use Rattle.node_header.specs.declared.Kept.{Kept}

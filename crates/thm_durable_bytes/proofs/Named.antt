@@ -19,8 +19,8 @@ use Rattle.spec.specs.Refusals.{unknownShard}
 use Rattle.spec.specs.Log.{lastOffset}
 use Rattle.spec.specs.declared.DataNodeId.{DataNodeId}
 use Rattle.spec.specs.declared.Peer.{Peer}
-use Rattle.spec.proofs.Lists.{by-test, none-some, some-same}
-use Rattle.spec.proofs.LayoutLaws.Bytes.{number-below, number-bytes, length-bytes}
+use Rattle.spec_laws.proofs.Lists.{by-test, none-some, some-same}
+use Rattle.spec_laws.proofs.Wire.Bytes.{number-below, number-bytes, length-bytes}
 use Rattle.node_header.specs.declared.Kept.{Kept}
 use Rattle.node_header.specs.View.{Stores, viewKept, viewNode}
 use Rattle.image_parts.specs.Shape.{inUse, items, rowsAt, value}

@@ -26,7 +26,7 @@ use Rattle.spec.specs.Node.Backup.{BackupAnswer, replied, backupRefused}
 use Rattle.spec.specs.Node.Ack.{Sent, sentAlign, sentReplicate, sentCopy}
 use Rattle.spec.specs.Node.Wire.{opInDomain, entryInDomain}
 use Rattle.spec.specs.Node.Calls.{callReplicate, callNewEpoch, callCopy}
-use Rattle.spec.proofs.Lists.{some-same}
+use Rattle.spec_laws.proofs.Lists.{some-same}
 use Rattle.spec_retained.proofs.OfLent.{replicate-unlent, new-epoch-unlent, copy-unlent}
 use Rattle.spec_run.specs.State.{State, Request, setNode, setRequests, setReplies}
 use Rattle.spec_run.specs.Event.{requestArrives, requestLost}

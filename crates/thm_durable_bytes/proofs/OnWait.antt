@@ -15,7 +15,7 @@ use Rattle.spec.specs.Node.Held as held
 use Rattle.spec.specs.Node.Client as client
 use Rattle.spec.specs.Node.Calls.{waitWith, callWait}
 use Rattle.spec.specs.declared.DataNodeId.{DataNodeId}
-use Rattle.spec.proofs.Lists.{and-left, and-right, not-both}
+use Rattle.spec_laws.proofs.Lists.{and-left, and-right, not-both}
 use Rattle.spec_run.specs.State.{State, Write, setNode, setOffers, setWrites}
 use Rattle.spec_run.specs.Event.{nodeWaits}
 use Rattle.spec_run.specs.Rules.{allowed}

@@ -17,7 +17,7 @@ use Rattle.spec.specs.Node.Shown as show
 use Rattle.spec.specs.Node.WellFormed.{wellFormedHeader}
 use Rattle.spec.specs.Node.Calls.{shownWith, callShown}
 use Rattle.spec.specs.declared.Replica.{Replica}
-use Rattle.spec.proofs.Lists.{not-both}
+use Rattle.spec_laws.proofs.Lists.{not-both}
 use Rattle.spec_run.specs.Fresh.{Shown, Fresh}
 use Rattle.spec_run.proofs.Created.{created, shown-holder, shown-other}
 use Rattle.map_tables.specs.View.{viewMap}

@@ -16,7 +16,7 @@ use Rattle.spec.specs.Map.Apply.{Applied, apply, applyTo, sessionAt, decide, co
 use Rattle.spec.specs.Map.WellFormed.{wellFormedMap, tableFits}
 use Rattle.spec.specs.Layout.Request.{Command, register, Request, decodeRequest}
 use Rattle.spec.specs.Layout.Writable.{GoodName, GoodList}
-use Rattle.spec.proofs.Lists.{by-test, not-both}
+use Rattle.spec_laws.proofs.Lists.{by-test, not-both}
 use Rattle.spec_run.specs.Fresh.{Created}
 use Rattle.spec_run.proofs.Created.{DistinctIds, asked, info, created}
 use Rattle.map_tables.specs.View.{viewMap}

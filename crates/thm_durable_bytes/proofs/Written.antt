@@ -23,7 +23,7 @@ use Rattle.spec.specs.Node.Wire.{opInDomain, storedOp}
 use Rattle.spec.specs.Node.Client.{WriteAnswer, accepted, writeRefused, ackCount, overfull, writeHeld, onWrite}
 use Rattle.spec.specs.Node.Calls.{lateTime, writeOf, writeWith, callWrite}
 use Rattle.spec.specs.Node.WellFormed.{wellFormedLent}
-use Rattle.spec.proofs.Lists.{by-test, and-right, none-some, some-same}
+use Rattle.spec_laws.proofs.Lists.{by-test, and-right, none-some, some-same}
 use Rattle.spec_retained.proofs.OfLent.{write-unlent}
 use Rattle.node_header.specs.declared.Node.{Node}
 use Rattle.node_header.specs.View.{viewNode}

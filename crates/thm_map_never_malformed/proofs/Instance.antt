@@ -19,8 +19,8 @@ use Rattle.spec.specs.Map.Change.{accepts}
 use Rattle.spec.specs.Map.Create.{nodeAt}
 use Rattle.spec.specs.Map.Apply.{Applied, apply, applyTo, settle, decide, commit, remembered, sessionAt, registerAnswer, update}
 use Rattle.spec.specs.Map.Calls.{reasonNumber, refusedWith}
-use Rattle.spec.proofs.Lists.{not-both, none-some}
-use Rattle.spec.proofs.LayoutLaws.Requests.{request-back}
+use Rattle.spec_laws.proofs.Lists.{not-both, none-some}
+use Rattle.spec_laws.proofs.Wire.Requests.{request-back}
 use Rattle.map_tables.specs.View.{viewMap}
 use Rattle.map_tables.specs.declared.ShardMap.{ShardMap}
 use Rattle.spec.specs.Map.WellFormed.{wellFormedMap, tableFits}

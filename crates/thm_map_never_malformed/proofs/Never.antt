@@ -14,7 +14,7 @@ use Rattle.spec.specs.Map.Tables.{Outcome, applied, rejected, Session, Map, Ans
 use Rattle.spec.specs.Map.Apply.{Applied, apply, applyTo, settle, decide, sessionAt}
 use Rattle.spec.specs.Map.Calls.{reasonNumber}
 use Rattle.spec.specs.Layout.Request.{Request}
-use Rattle.spec.proofs.Lists.{by-test, not-both}
+use Rattle.spec_laws.proofs.Lists.{by-test, not-both}
 use Rattle.map_apply.proofs.OfApply.{settle-answer}
 use Rattle.calls_map.proofs.Kept.{Now, decide-now}
 

@@ -23,13 +23,13 @@ use Rattle.spec.specs.Node.WellFormed.{wellFormedHeld, logOf}
 use Rattle.spec.specs.declared.Metric.{Metric}
 use Rattle.spec.specs.declared.Role.{Role}
 use Rattle.spec.specs.declared.Role.the-variants.{Backup, Primary}
-use Rattle.spec.proofs.Lists.{by-test, none-some, some-same}
-use Rattle.spec.proofs.Map.Orders.{same-key}
-use Rattle.spec.proofs.Map.Rows.{find-true}
-use Rattle.spec.proofs.Node.Formed.{FormedNode, held-formed}
-use Rattle.spec.proofs.Node.Frames.{SameLog, show-log}
-use Rattle.spec.proofs.Node.KeptMap.{map-kept}
-use Rattle.spec.proofs.Node.Logs.{log-formed}
+use Rattle.spec_laws.proofs.Lists.{by-test, none-some, some-same}
+use Rattle.spec_laws.proofs.Map.Orders.{same-key}
+use Rattle.spec_laws.proofs.Map.Rows.{find-true}
+use Rattle.spec_laws.proofs.Node.Formed.{FormedNode, held-formed}
+use Rattle.spec_laws.proofs.Node.Frames.{SameLog, show-log}
+use Rattle.spec_laws.proofs.Node.KeptMap.{map-kept}
+use Rattle.spec_laws.proofs.Node.Logs.{log-formed}
 use Rattle.log_store.specs.Table.{vectorOf, vectorsOf, playRows}
 use Rattle.log_store.proofs.PlayRows.{rows-vectors, rows-most}
 use Rattle.node_header.proofs.OfLists.{every-both}

@@ -20,9 +20,9 @@ use Rattle.spec.specs.Node.Client.{WriteAnswer, onWrite, WaitAnswer, onWait}
 use Rattle.spec.specs.Node.Backup.{BackupAnswer, onReplicate, onCopy, newEpochAt, onNewEpoch}
 use Rattle.spec.specs.Node.Ack.{AckAnswer, Sent, badReply, onAck, OutcomeAnswer, Proposal, leaves, onOutcome}
 use Rattle.spec.specs.Node.Calls.{lateTime, writeOf, writeWith, replicateOf, replicateWith, newEpochOf, newEpochWith, copyOf, copyWith, grantWith, waitWith, ackOf, ackWith, outcomeWith}
-use Rattle.spec.proofs.Lists.{by-test, none-some}
-use Rattle.spec.proofs.Node.Shards.{at-cases}
-use Rattle.spec.proofs.Node.After.{write-key, replicate-key, new-epoch-key, copy-key, wait-replica, ack-replica, outcome-replica}
+use Rattle.spec_laws.proofs.Lists.{by-test, none-some}
+use Rattle.spec_laws.proofs.Node.Shards.{at-cases}
+use Rattle.spec_laws.proofs.Node.After.{write-key, replicate-key, new-epoch-key, copy-key, wait-replica, ack-replica, outcome-replica}
 use Rattle.image_store.specs.Image.{storeSize, wellFormedImage}
 use Rattle.thm_never_malformed.proofs.Pairs.{StoreFits, Pairs, pairs-update}
 

@@ -5,7 +5,7 @@ use mathlib.Core.Path.{_≡_, refl}
 use mathlib.Core.Bool.{true}
 use mathlib.Core.List.{List, [], _∷_}
 use Rattle.spec.specs.Layout.Format.{Bytes, All}
-use Rattle.spec.proofs.Lists.{and-true}
+use Rattle.spec_laws.proofs.Lists.{and-true}
 use Rattle.spec_run.proofs.Cases.Opened.{opened}
 use Rattle.spec_run.proofs.Simulation.Client.{are-bytes}
 use Rattle.map_check.specs.Lent.{wellFormedLent}

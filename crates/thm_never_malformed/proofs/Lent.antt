@@ -11,9 +11,9 @@ use borrow.Author.Tests.{ltb-true, le-leb}
 use Rattle.spec.specs.Lists.{_and_, every}
 use Rattle.spec.specs.Keys.{Key}
 use Rattle.spec.specs.Node.WellFormed.{wellFormedHeader, logOf, wellFormedNode}
-use Rattle.spec.proofs.Lists.{and-true, and-left, and-right}
-use Rattle.spec.proofs.Map.Rows.{every-tail, every-cons}
-use Rattle.spec.proofs.Node.Formed.{FormedNode, node-formed}
+use Rattle.spec_laws.proofs.Lists.{and-true, and-left, and-right}
+use Rattle.spec_laws.proofs.Map.Rows.{every-tail, every-cons}
+use Rattle.spec_laws.proofs.Node.Formed.{FormedNode, node-formed}
 use Rattle.log_store.proofs.Bits.{every-at}
 use Rattle.node_header.specs.declared.Kept.{Kept}
 use Rattle.node_header.specs.declared.Node.{Node}

@@ -15,8 +15,8 @@ use Rattle.spec.specs.Layout.Format.{Bytes}
 use Rattle.spec.specs.Layout.Message as message
 use Rattle.spec.specs.Node.Calls.{lateTime, writeWith}
 use Rattle.spec.specs.Node.Wire.{opInDomain, patternsInDomain}
-use Rattle.spec.proofs.Lists.{by-test, not-both, some-same, and-true}
-use Rattle.spec.proofs.Node.KeptCalls.{write-with-kept}
+use Rattle.spec_laws.proofs.Lists.{by-test, not-both, some-same, and-true}
+use Rattle.spec_laws.proofs.Node.KeptCalls.{write-with-kept}
 use Rattle.node_header.specs.declared.Node.{Node}
 use Rattle.node_header.specs.View.{viewNode}
 use Rattle.node_header.specs.Seats.{slotsOf}

@@ -12,9 +12,9 @@ use borrow.Author.Tests.{eqb-false}
 use Rattle.spec.specs.Lists.{_and_}
 use Rattle.spec.specs.Node.Held as held
 use Rattle.spec.specs.declared.DataNodeId.{DataNodeId}
-use Rattle.spec.proofs.Lists.{by-test}
-use Rattle.spec.proofs.Node.Formed.{FormedNode, formed-header}
-use Rattle.spec.proofs.Node.KeptCalls.{grant-with-kept, wait-with-kept, ack-with-kept, outcome-with-kept}
+use Rattle.spec_laws.proofs.Lists.{by-test}
+use Rattle.spec_laws.proofs.Node.Formed.{FormedNode, formed-header}
+use Rattle.spec_laws.proofs.Node.KeptCalls.{grant-with-kept, wait-with-kept, ack-with-kept, outcome-with-kept}
 use Rattle.node_shard.specs.declared.WaitAnswer.{WaitAnswer}
 use Rattle.node_shard.specs.declared.WaitAnswer.the-variants as W
 use Rattle.node_shard.specs.Acks.{sentOf}

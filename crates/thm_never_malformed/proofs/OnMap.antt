@@ -18,8 +18,8 @@ use Rattle.spec.specs.Node.Held as held
 use Rattle.spec.specs.Node.Held.{Held}
 use Rattle.spec.specs.Node.Shards.{heldShard}
 use Rattle.spec.specs.Node.Shown as show
-use Rattle.spec.proofs.Lists.{by-test, not-both, and-true, and-left, and-right}
-use Rattle.spec.proofs.Node.Formed.{FormedNode, formed-header}
+use Rattle.spec_laws.proofs.Lists.{by-test, not-both, and-true, and-left, and-right}
+use Rattle.spec_laws.proofs.Node.Formed.{FormedNode, formed-header}
 use Rattle.log_store.proofs.Bits.{every-at}
 use Rattle.map_tables.specs.View.{viewMap}
 use Rattle.map_check.specs.Lent as maps

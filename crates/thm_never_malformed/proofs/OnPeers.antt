@@ -18,8 +18,8 @@ use Rattle.spec.specs.Node.Shards.{Result}
 use Rattle.spec.specs.Node.Backup.{BackupAnswer}
 use Rattle.spec.specs.Node.Calls.{replicateWith, newEpochWith, copyWith}
 use Rattle.spec.specs.Node.Wire.{opInDomain, entryInDomain}
-use Rattle.spec.proofs.Lists.{by-test, some-same}
-use Rattle.spec.proofs.Node.KeptCalls.{replicate-with-kept, new-epoch-with-kept, copy-with-kept}
+use Rattle.spec_laws.proofs.Lists.{by-test, some-same}
+use Rattle.spec_laws.proofs.Node.KeptCalls.{replicate-with-kept, new-epoch-with-kept, copy-with-kept}
 use Rattle.spec_retained.proofs.OfBegin.{new-epoch-begins}
 use Rattle.node_header.specs.declared.Node.{Node}
 use Rattle.node_header.specs.View.{Stores, viewNode}

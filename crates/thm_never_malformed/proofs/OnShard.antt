@@ -16,9 +16,9 @@ use Rattle.spec.specs.Log.{Log, Vectors}
 use Rattle.spec.specs.Node.Held as held
 use Rattle.spec.specs.Node.Shards.{Result, ofKey, heldShard, heldBelow}
 use Rattle.spec.specs.Node.WellFormed.{wellFormedHeader}
-use Rattle.spec.proofs.Map.Rows.{find-true, find-update}
-use Rattle.spec.proofs.Node.Shards.{update-none}
-use Rattle.spec.proofs.Node.Formed.{FormedNode, formed-header}
+use Rattle.spec_laws.proofs.Map.Rows.{find-true, find-update}
+use Rattle.spec_laws.proofs.Node.Shards.{update-none}
+use Rattle.spec_laws.proofs.Node.Formed.{FormedNode, formed-header}
 use Rattle.spec_retained.proofs.OfBegin.{PutIn}
 use Rattle.node_shard.specs.View.{insertAt}
 use Rattle.node_shard.proofs.Loops.{lead-most}

@@ -7,7 +7,7 @@ use native.Mathlib.Omega.{arith}
 use lib.Dec.{eqb, leb}
 use lib.ListN.{length, getD}
 use borrow.Author.Tests.{eqb-false}
-use Rattle.spec.proofs.Lists.{by-test}
+use Rattle.spec_laws.proofs.Lists.{by-test}
 use Rattle.node_admit.specs.declared.Step.the-variants as step
 use Rattle.node_header.specs.declared.Node.{Node}
 use Rattle.node_header.specs.declared.StepAnswer.{StepAnswer}

@@ -15,9 +15,9 @@ use Rattle.spec.specs.Keys.{Key, keyBelow, sameKey}
 use Rattle.spec.specs.Map.Apply.{update}
 use Rattle.spec.specs.Node.Held.{Held}
 use Rattle.spec.specs.Node.Shards.{ofKey, heldBelow}
-use Rattle.spec.proofs.Lists.{by-test, not-both, none-some, some-same, and-left, and-right}
-use Rattle.spec.proofs.Map.Orders.{keys}
-use Rattle.spec.proofs.Map.Rows.{every-tail, every-cons}
+use Rattle.spec_laws.proofs.Lists.{by-test, not-both, none-some, some-same, and-left, and-right}
+use Rattle.spec_laws.proofs.Map.Orders.{keys}
+use Rattle.spec_laws.proofs.Map.Rows.{every-tail, every-cons}
 use Rattle.map_tables.specs.Names.{viewKey}
 use Rattle.node_shard.specs.View.{insertAt}
 use Rattle.node_header.specs.declared.Kept.{Kept}

@@ -67,8 +67,8 @@ use Rattle.spec.specs.Node.Calls.{
 }
 use Rattle.spec.specs.declared.Metric.{Metric}
 use Rattle.spec.specs.declared.Peer.{Peer}
-use Rattle.spec.proofs.Lists.{by-test, not-both}
-use Rattle.spec.proofs.Node.Shards.{at-cases}
+use Rattle.spec_laws.proofs.Lists.{by-test, not-both}
+use Rattle.spec_laws.proofs.Node.Shards.{at-cases}
 use Rattle.node_shard.specs.declared.WaitAnswer as N
 use Rattle.node_shard.specs.declared.WaitAnswer.the-variants as W
 use Rattle.node_shard.specs.Answers.{waitWord, outcomeWord}

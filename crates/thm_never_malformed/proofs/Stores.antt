@@ -12,9 +12,9 @@ use Rattle.spec.specs.Lists.{_and_, every}
 use Rattle.spec.specs.Log.{Log}
 use Rattle.spec.specs.Node.WellFormed.{numberedFrom, wellFormedEntry, wellFormedLog}
 use Rattle.spec.specs.declared.Metric.{Metric}
-use Rattle.spec.proofs.Lists.{and-true, and-left, and-right}
-use Rattle.spec.proofs.Log.Numbered.{test-numbered}
-use Rattle.spec.proofs.Node.Logs.{formed-log}
+use Rattle.spec_laws.proofs.Lists.{and-true, and-left, and-right}
+use Rattle.spec_laws.proofs.Log.Numbered.{test-numbered}
+use Rattle.spec_laws.proofs.Node.Logs.{formed-log}
 use Rattle.log_store.specs.View.{firsts}
 use Rattle.log_store.specs.Table.{Row, zipped, rowsOf, playRowsFrom, playRows, vectorsOf}
 use Rattle.log_store.specs.Store.{everyBelow, sameRows}

@@ -10,7 +10,7 @@ use lib.Seq.{length-sets}
 use borrow.Author.Tests.{le-leb}
 use Rattle.spec.specs.Lists.{_and_}
 use Rattle.spec.specs.Log.{Log}
-use Rattle.spec.proofs.Lists.{and-true, and-left, and-right}
+use Rattle.spec_laws.proofs.Lists.{and-true, and-left, and-right}
 use Rattle.spec_run.proofs.Cases.Opened.{opened}
 use Rattle.log_store.specs.View as view
 use Rattle.log_store.specs.Table as table

@@ -15,7 +15,7 @@ use Rattle.spec.specs.Node.Calls as calls
 use Rattle.spec.specs.Node.Refused as refused
 use Rattle.spec.specs.declared.Metric.the-variants.{Euclidean}
 use Rattle.spec.specs.declared.Role.the-variants.{Primary}
-use Rattle.spec.proofs.Lists.{some-same, not-both, and-true}
+use Rattle.spec_laws.proofs.Lists.{some-same, not-both, and-true}
 use Rattle.spec_run.proofs.Cases.Opened.{opened}
 use Rattle.log_store.specs.View as view
 use Rattle.log_store.specs.Table as table

@@ -7,7 +7,7 @@ use mathlib.Core.Bool.{true, false}
 use mathlib.Core.List.{List, [], _∷_}
 use Rattle.spec.specs.Layout.Message as message
 use Rattle.spec.specs.Node.Wire.{opInDomain}
-use Rattle.spec.proofs.Lists.{none-some, some-same, not-both}
+use Rattle.spec_laws.proofs.Lists.{none-some, some-same, not-both}
 use Rattle.spec_run.proofs.Cases.Opened.{opened}
 use Rattle.node_admit.specs.declared.Expiry.the-variants.{At}
 use Rattle.node_header.specs.declared.Node.{Node}

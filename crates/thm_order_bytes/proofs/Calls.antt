@@ -16,7 +16,7 @@ use Rattle.spec.specs.Layout.Message as message
 use Rattle.spec.specs.Layout.Parts.{WireOp}
 use Rattle.spec.specs.Node.Calls.{writeWith}
 use Rattle.spec.specs.Node.Wire.{opInDomain}
-use Rattle.spec.proofs.Lists.{and-true, and-left, and-right, none-some, some-same, not-both}
+use Rattle.spec_laws.proofs.Lists.{and-true, and-left, and-right, none-some, some-same, not-both}
 use Rattle.spec_run.proofs.Cases.Opened.{opened}
 use Rattle.log_store.specs.View.{logOf}
 use Rattle.log_store.specs.Table.{vectorsOf}

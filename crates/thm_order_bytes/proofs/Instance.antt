@@ -15,8 +15,8 @@ use Rattle.spec.specs.Layout.Parts.{wireUpsert, wireDelete}
 use Rattle.spec.specs.Node.Held as held
 use Rattle.spec.specs.Node.Wire.{opInDomain}
 use Rattle.spec.specs.Node.Shards.{heldShard}
-use Rattle.spec.proofs.Lists.{some-same}
-use Rattle.spec.proofs.Log.Edits.{opId}
+use Rattle.spec_laws.proofs.Lists.{some-same}
+use Rattle.spec_laws.proofs.Log.Edits.{opId}
 use Rattle.spec_run.proofs.Cases.Opened.{opened}
 use Rattle.spec_run.proofs.Simulation.Client.{are-bytes}
 use Rattle.log_store.specs.Table as table

@@ -13,7 +13,7 @@ use Rattle.spec.specs.Node.Shards.{Result}
 use Rattle.spec.specs.Node.Wire.{patternsInDomain, floatsOf}
 use Rattle.spec.specs.Node.Client as client
 use Rattle.spec.specs.Node.Calls.{lateTime, searchWith}
-use Rattle.spec.proofs.Lists.{and-true, some-same}
+use Rattle.spec_laws.proofs.Lists.{and-true, some-same}
 use Rattle.node_header.specs.declared.Node.{Node}
 use Rattle.node_header.specs.View.{viewNode}
 use Rattle.node_header.proofs.OfLists.{by-case}

@@ -19,8 +19,8 @@ use Rattle.spec.specs.Node.Wire.{storedOp}
 use Rattle.spec.specs.Node.Client as client
 use Rattle.spec.specs.Node.Calls.{writeWith, callWrite}
 use Rattle.spec.specs.Node.WellFormed.{wellFormedHeader, logIfHeld, wellFormedLent}
-use Rattle.spec.proofs.Lists.{and-true, and-right, not-both, some-same}
-use Rattle.spec.proofs.Node.Logs.{log-formed}
+use Rattle.spec_laws.proofs.Lists.{and-true, and-right, not-both, some-same}
+use Rattle.spec_laws.proofs.Node.Logs.{log-formed}
 use Rattle.node_header.specs.declared.Node.{Node}
 use Rattle.node_header.specs.View.{viewNode}
 use Rattle.node_header.specs.Answers.{Told}

@@ -9,7 +9,7 @@ use Rattle.spec.specs.Keys.{Key}
 use Rattle.spec.specs.Log.{Op}
 use Rattle.spec.specs.Node.Wire.{storedOp}
 use Rattle.spec.specs.Node.Client as client
-use Rattle.spec.proofs.Log.Edits.{opId}
+use Rattle.spec_laws.proofs.Log.Edits.{opId}
 use Rattle.calls_client_out.specs.Count.{countLent}
 use Rattle.thm_never_malformed.specs.Intact.{Intact}
 use Rattle.thm_order_writes.specs.Editors.{logIn, Edit, Moment}

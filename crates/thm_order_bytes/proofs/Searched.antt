@@ -9,7 +9,7 @@ use lib.ListN.{replicate}
 use Rattle.spec.specs.Log.{Log}
 use Rattle.spec.specs.Layout.Message.{Query}
 use Rattle.spec.specs.Node.Wire.{patternsInDomain}
-use Rattle.spec.proofs.Lists.{none-some, some-same, not-both}
+use Rattle.spec_laws.proofs.Lists.{none-some, some-same, not-both}
 use Rattle.spec_run.proofs.Cases.Opened.{opened}
 use Rattle.log_store.specs.View as view
 use Rattle.node_header.specs.declared.Node.{Node}

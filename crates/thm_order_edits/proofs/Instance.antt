@@ -14,7 +14,7 @@ use Rattle.spec.specs.Layout.Parts.{WireOp, wireUpsert, wireDelete}
 use Rattle.spec.specs.Node.Shards.{gives}
 use Rattle.spec.specs.Node.Wire.{floatOf}
 use Rattle.spec.specs.declared.Metric.{Metric}
-use Rattle.spec.proofs.Lists.{not-both}
+use Rattle.spec_laws.proofs.Lists.{not-both}
 use Rattle.spec.proofs.Opened.{opened}
 use Rattle.log_store.specs.View as view
 use Rattle.log_store.specs.Table as table

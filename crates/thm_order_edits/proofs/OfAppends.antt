@@ -15,7 +15,7 @@ use Rattle.spec.specs.Node.Shards.{Result, gives}
 use Rattle.spec.specs.Node.Client.{overfull}
 use Rattle.spec.specs.declared.Metric.{Metric}
 use Rattle.spec.specs.declared.Metric.the-variants.{Euclidean}
-use Rattle.spec.proofs.Log.Store.{push-length}
+use Rattle.spec_laws.proofs.Log.Store.{push-length}
 use Rattle.log_store.specs.Store.{Store, replicaIn}
 use Rattle.log_arrive.proofs.OfStores.{last-is, own-epoch}
 use Rattle.log_calls.specs.Fits.{lentFits}

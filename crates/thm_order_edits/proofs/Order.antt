@@ -8,8 +8,8 @@ use native.Mathlib.Omega.{arith}
 use Rattle.spec.specs.Log.{Log, Op, ShardReplica, append}
 use Rattle.spec.specs.declared.Metric.{Metric}
 use Rattle.spec.specs.declared.Metric.the-variants.{Euclidean}
-use Rattle.spec.proofs.Log.Play.{InStep}
-use Rattle.spec.proofs.Log.Edits.{opId, swap-appends, later-append, appends-differ}
+use Rattle.spec_laws.proofs.Log.Play.{InStep}
+use Rattle.spec_laws.proofs.Log.Edits.{opId, swap-appends, later-append, appends-differ}
 use Rattle.log_store.specs.Store.{Store, storeLog, replicaIn}
 use Rattle.log_store.proofs.Facts.{facts, store-in-step}
 use Rattle.log_calls.specs.Fits.{lentFits}

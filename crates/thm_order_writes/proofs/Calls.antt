@@ -10,7 +10,7 @@ use Rattle.spec.specs.Layout.Message as message
 use Rattle.spec.specs.Layout.Parts.{WireOp}
 use Rattle.spec.specs.Node.Calls.{writeWith}
 use Rattle.spec.specs.Node.Refused as refused
-use Rattle.spec.proofs.Lists.{not-both, and-true}
+use Rattle.spec_laws.proofs.Lists.{not-both, and-true}
 use Rattle.spec_run.proofs.Cases.Opened.{opened}
 use Rattle.log_store.specs.View.{logOf}
 use Rattle.log_store.specs.Table.{rowsOf, vectorsOf}

@@ -16,8 +16,8 @@ use Rattle.spec.specs.Layout.Message as message
 use Rattle.spec.specs.Layout.Parts.{WireOp, wireUpsert, wireDelete}
 use Rattle.spec.specs.Node.Wire.{floatOf}
 use Rattle.spec.specs.Node.Calls.{writeWith}
-use Rattle.spec.proofs.Lists.{some-same}
-use Rattle.spec.proofs.Log.Edits.{opId}
+use Rattle.spec_laws.proofs.Lists.{some-same}
+use Rattle.spec_laws.proofs.Log.Edits.{opId}
 use Rattle.spec_run.specs.State.{at}
 use Rattle.spec_run.proofs.Cases.Opened.{opened}
 use Rattle.log_store.specs.View as view

@@ -17,11 +17,11 @@ use Rattle.spec.specs.Node.Shards.{Result, gives, leadsAt, heldShard, withRepli
 use Rattle.spec.specs.Node.Wire.{opInDomain, storedOp}
 use Rattle.spec.specs.Node.Client.{WriteAnswer, accepted, writeRefused, ackCount, overfull, writeHeld, onWrite}
 use Rattle.spec.specs.Node.Calls.{lateTime, writeWith}
-use Rattle.spec.proofs.Lists.{none-some, some-same}
-use Rattle.spec.proofs.Log.Store.{push-length}
-use Rattle.spec.proofs.Node.Shards.{at-cases, at-held}
-use Rattle.spec.proofs.Node.After.{write-key}
-use Rattle.spec.proofs.Node.Frames.{at-other, at-after, at-expiry}
+use Rattle.spec_laws.proofs.Lists.{none-some, some-same}
+use Rattle.spec_laws.proofs.Log.Store.{push-length}
+use Rattle.spec_laws.proofs.Node.Shards.{at-cases, at-held}
+use Rattle.spec_laws.proofs.Node.After.{write-key}
+use Rattle.spec_laws.proofs.Node.Frames.{at-other, at-after, at-expiry}
 use Rattle.node_header.proofs.OfLists.{by-case}
 
 -- ---- no refusal is an acceptance

@@ -18,7 +18,7 @@ use Rattle.spec.specs.Node.Shards.{Result, leadsAt, heldShard, withReplica}
 use Rattle.spec.specs.Node.Wire.{patternsInDomain, floatsOf}
 use Rattle.spec.specs.Node.Client.{SearchAnswer, found, searchRefused, searchHeld, onSearch}
 use Rattle.spec.specs.Node.Calls.{lateTime, searchOf, searchWith}
-use Rattle.spec.proofs.Node.Shards.{by-both, at-cases}
+use Rattle.spec_laws.proofs.Node.Shards.{by-both, at-cases}
 use Rattle.node_header.proofs.OfLists.{by-case}
 
 -- a held shard, and one that may not be held, without its log

@@ -15,9 +15,9 @@ use Rattle.spec.specs.Node.Wire.{storedOp}
 use Rattle.spec.specs.Node.Client as client
 use Rattle.spec.specs.Node.Calls.{writeWith}
 use Rattle.spec.specs.Node.WellFormed.{wellFormedHeader, logIfHeld, wellFormedLent}
-use Rattle.spec.proofs.Lists.{and-right, none-some, some-same}
-use Rattle.spec.proofs.Log.Play.{InStep}
-use Rattle.spec.proofs.Node.Logs.{log-formed}
+use Rattle.spec_laws.proofs.Lists.{and-right, none-some, some-same}
+use Rattle.spec_laws.proofs.Log.Play.{InStep}
+use Rattle.spec_laws.proofs.Node.Logs.{log-formed}
 use Rattle.spec_run.specs.State.{at}
 use Rattle.node_header.specs.Answers.{Told, told}
 use Rattle.node_lent.specs.Lend.{lentFor}

@@ -13,7 +13,7 @@ use Rattle.spec.specs.Node.Shards.{Result}
 use Rattle.spec.specs.Node.Wire.{storedOp}
 use Rattle.spec.specs.Node.Refused.{countSearch}
 use Rattle.spec.specs.Node.Client as client
-use Rattle.spec.proofs.Log.Edits.{opId}
+use Rattle.spec_laws.proofs.Log.Edits.{opId}
 use Rattle.node_header.proofs.OfLists.{by-case}
 use Rattle.node_write.specs.declared.WriteReply.{WriteReply}
 use Rattle.node_write.specs.declared.WriteReply.the-variants as R

@@ -12,7 +12,7 @@ use Rattle.spec.specs.Layout.Message.{Query, encodeSearch, decodeSearch}
 use Rattle.spec.specs.Node.Wire.{floatOf}
 use Rattle.spec.specs.Node.Calls.{searchWith}
 use Rattle.spec.specs.Node.Refused as refused
-use Rattle.spec.proofs.Lists.{not-both, some-same}
+use Rattle.spec_laws.proofs.Lists.{not-both, some-same}
 use Rattle.spec_run.specs.State.{at}
 use Rattle.spec_run.proofs.Cases.Opened.{opened}
 use Rattle.node_header.specs.View.{Stores}

@@ -12,10 +12,10 @@ use Rattle.spec.specs.Node.Held.{Held, Node}
 use Rattle.spec.specs.Node.Lease.{leased}
 use Rattle.spec.specs.Node.Shards.{heldShard, withReplica}
 use Rattle.spec.specs.Node.Client.{accepted, onWrite}
-use Rattle.spec.proofs.Lists.{some-same}
-use Rattle.spec.proofs.Log.Play.{InStep}
-use Rattle.spec.proofs.Log.Edits.{opId, swap-appends, later-append, appends-differ}
-use Rattle.spec.proofs.Map.Orders.{same-key}
+use Rattle.spec_laws.proofs.Lists.{some-same}
+use Rattle.spec_laws.proofs.Log.Play.{InStep}
+use Rattle.spec_laws.proofs.Log.Edits.{opId, swap-appends, later-append, appends-differ}
+use Rattle.spec_laws.proofs.Map.Orders.{same-key}
 use Rattle.node_header.proofs.OfLists.{by-case}
 use Rattle.thm_order_writes.specs.Editors.{vectorsIn, logIn}
 use Rattle.thm_order_writes.proofs.OfNode.{Appended, Admits, longer, admits-after, on-admitted}

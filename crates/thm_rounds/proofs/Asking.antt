@@ -28,11 +28,11 @@ use Rattle.spec.specs.Node.Calls.{RequestAnswer, unsent, written, requestRefuse
 use Rattle.spec.specs.declared.Metric.{Metric}
 use Rattle.spec.specs.declared.Metric.the-variants.{Euclidean}
 use Rattle.spec.specs.declared.Replica.{Replica}
-use Rattle.spec.proofs.Lists.{by-test, not-both, nth-lt}
-use Rattle.spec.proofs.Log.Numbered.{from-at}
-use Rattle.spec.proofs.Log.Store.{store-cases, push-length}
-use Rattle.spec.proofs.LayoutLaws.Messages.{reply-back}
-use Rattle.spec.proofs.Map.Orders.{same-key, key-same}
+use Rattle.spec_laws.proofs.Lists.{by-test, not-both, nth-lt}
+use Rattle.spec_laws.proofs.Log.Numbered.{from-at}
+use Rattle.spec_laws.proofs.Log.Store.{store-cases, push-length}
+use Rattle.spec_laws.proofs.Wire.Messages.{reply-back}
+use Rattle.spec_laws.proofs.Map.Orders.{same-key, key-same}
 use Rattle.spec_run.specs.State as real
 use Rattle.spec_run.specs.Step as step
 use Rattle.spec_run.specs.Rules.{allowedRun}

@@ -34,10 +34,10 @@ use Rattle.spec.specs.declared.Metric.{Metric}
 use Rattle.spec.specs.declared.Peer.{Peer}
 use Rattle.spec.specs.declared.Replica.{Replica}
 use Rattle.spec.specs.declared.Role as role
-use Rattle.spec.proofs.Lists.{by-test, not-both, and-true}
-use Rattle.spec.proofs.Log.Keep.{keep-length}
-use Rattle.spec.proofs.Log.Store.{store-answer}
-use Rattle.spec.proofs.Map.Rows.{every-tail, find-true, find-update}
+use Rattle.spec_laws.proofs.Lists.{by-test, not-both, and-true}
+use Rattle.spec_laws.proofs.Log.Keep.{keep-length}
+use Rattle.spec_laws.proofs.Log.Store.{store-answer}
+use Rattle.spec_laws.proofs.Map.Rows.{every-tail, find-true, find-update}
 use Rattle.spec_run.specs.State as real
 use Rattle.spec_run.specs.Step as step
 use Rattle.spec_run.proofs.Protocol.State as proto

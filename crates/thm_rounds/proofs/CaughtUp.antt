@@ -16,9 +16,9 @@ use Rattle.spec.specs.Map.Apply.{shardAt}
 use Rattle.spec.specs.Map.Change.{holds}
 use Rattle.spec.specs.Node.Held.{Held}
 use Rattle.spec.specs.Node.Shards.{heldShard, leadsAt}
-use Rattle.spec.proofs.Lists.{and-left, and-right, none-some, some-same}
-use Rattle.spec.proofs.Map.Orders.{key-same}
-use Rattle.spec.proofs.Map.Rows.{every-tail}
+use Rattle.spec_laws.proofs.Lists.{and-left, and-right, none-some, some-same}
+use Rattle.spec_laws.proofs.Map.Orders.{key-same}
+use Rattle.spec_laws.proofs.Map.Rows.{every-tail}
 use Rattle.spec_run.specs.State as real
 use Rattle.spec_run.specs.Step as step
 use Rattle.spec_run.specs.Rules.{allowed, allowedRun}

@@ -21,9 +21,9 @@ use Rattle.spec.specs.Node.Ack.{Sent, AckAnswer, noted, expand, ackRefused, rec
 use Rattle.spec.specs.Node.Calls.{RequestAnswer, written, requestOf, callRequest, callAck}
 use Rattle.spec.specs.declared.Metric.{Metric}
 use Rattle.spec.specs.declared.Peer.{Peer}
-use Rattle.spec.proofs.Lists.{by-test, not-both, and-left, and-right, some-same, nth-nil}
-use Rattle.spec.proofs.Map.Orders.{same-key}
-use Rattle.spec.proofs.Map.Rows.{every-tail}
+use Rattle.spec_laws.proofs.Lists.{by-test, not-both, and-left, and-right, some-same, nth-nil}
+use Rattle.spec_laws.proofs.Map.Orders.{same-key}
+use Rattle.spec_laws.proofs.Map.Rows.{every-tail}
 use Rattle.spec_run.specs.State as real
 use Rattle.spec_run.specs.State.{at}
 use Rattle.spec_run.specs.Step as step

@@ -17,7 +17,7 @@ use Rattle.spec.specs.Map.Apply.{shardAt}
 use Rattle.spec.specs.Map.Change.{holds}
 use Rattle.spec.specs.Node.Held.{Held}
 use Rattle.spec.specs.Node.Shards.{heldShard}
-use Rattle.spec.proofs.Lists.{not-both, none-some, some-same}
+use Rattle.spec_laws.proofs.Lists.{not-both, none-some, some-same}
 use Rattle.spec_run.specs.Step.{run}
 use Rattle.spec_run.specs.Rules.{allowedRun}
 use Rattle.spec_run.specs.Claim.{logOf}

@@ -10,9 +10,9 @@ use lib.ListN.{length, take, drop, length-take, length-drop}
 use Rattle.spec.specs.Lists.{nth}
 use Rattle.spec.specs.Log.{Entry, Log, ShardReplica, store, storeAll, entriesFrom}
 use Rattle.spec.specs.Map.Change.{holds}
-use Rattle.spec.proofs.Lists.{not-both, Within, within-length, within-same}
-use Rattle.spec.proofs.Log.Numbered.{Numbered, numbered-within, from-at}
-use Rattle.spec.proofs.Log.Store.{store-cases, store-epoch, push-length}
+use Rattle.spec_laws.proofs.Lists.{not-both, Within, within-length, within-same}
+use Rattle.spec_laws.proofs.Log.Numbered.{Numbered, numbered-within, from-at}
+use Rattle.spec_laws.proofs.Log.Store.{store-cases, store-epoch, push-length}
 use Rattle.spec_run.proofs.Protocol.Base.{upd-all, upd-same, upd-other}
 use Rattle.spec_run.proofs.Protocol.State.{Lead, lead, Node, State, withAck, withPeer}
 use Rattle.spec_run.proofs.Protocol.Ghost.{History}

@@ -13,8 +13,8 @@ use borrow.Author.Tests.{eqb-true, eqb-false, leb-true, leb-false, le-leb, ltb-t
 use Rattle.spec.specs.Lists.{nth}
 use Rattle.spec.specs.Log.{Log, End, cutTo, storeAll, entriesFrom}
 use Rattle.spec.specs.Map.Change.{holds}
-use Rattle.spec.proofs.Lists.{by-test, not-both}
-use Rattle.spec.proofs.Log.Store.{store-all-epoch}
+use Rattle.spec_laws.proofs.Lists.{by-test, not-both}
+use Rattle.spec_laws.proofs.Log.Store.{store-all-epoch}
 use Rattle.spec_run.proofs.Protocol.Base.{All, all-map, all-snoc, all-nth, upd, upd-all, upd-same, upd-other, same-or, upd2, upd2-all, removeAt}
 use Rattle.spec_run.proofs.Protocol.Sets.{without}
 use Rattle.spec_run.proofs.Protocol.State.{Lead, Role, backup, lead, Node, Request, align, send, Answer, adopts, stores, staleAlign, staleSend, Reply, Proposal, Outcome, Accepted, State, setMap, setNode, setRequests, addReply, setProposals, setOutcomes, addAcknowledged}

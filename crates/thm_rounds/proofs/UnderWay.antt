@@ -9,7 +9,7 @@ use lib.Dec.{eqb}
 use lib.ListN.{length}
 use borrow.Author.Tests.{eqb-true, eqb-false}
 use Rattle.spec.specs.Lists.{nth}
-use Rattle.spec.proofs.Lists.{by-test, not-both, none-some, some-same, nth-nil, nth-lt, nth-append, nth-last}
+use Rattle.spec_laws.proofs.Lists.{by-test, not-both, none-some, some-same, nth-nil, nth-lt, nth-append, nth-last}
 use Rattle.spec.specs.Map.Calls.{applyBytes}
 use Rattle.spec.specs.Layout.Message.{encodeReply}
 use Rattle.spec.specs.Node.Ack.{AckAnswer, noted, expand, ackRefused}

@@ -6,7 +6,7 @@ use mathlib.Core.Option.{some}
 use Rattle.spec.specs.Layout.Parts.{wireUpsert}
 use Rattle.spec.specs.Layout.Message as message
 use Rattle.spec.specs.declared.Metric.the-variants.{Euclidean}
-use Rattle.spec.proofs.Lists.{some-same}
+use Rattle.spec_laws.proofs.Lists.{some-same}
 use Rattle.spec_run.proofs.Cases.Opened.{opened}
 use Rattle.node_replicate.specs.Peers.{ReplicateNames}
 use Rattle.node_epoch.specs.Announces.{NewEpochNames}

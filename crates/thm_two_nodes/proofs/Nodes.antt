@@ -14,7 +14,7 @@ use Rattle.spec.specs.declared.Peer.{Peer}
 use Rattle.spec.specs.declared.Metric.the-variants.{Euclidean}
 use Rattle.spec.specs.declared.Role.{Role}
 use Rattle.spec.specs.declared.Role.the-variants.{Backup, Primary}
-use Rattle.spec.proofs.Lists.{and-true}
+use Rattle.spec_laws.proofs.Lists.{and-true}
 use Rattle.spec_run.proofs.Cases.Opened.{opened}
 use Rattle.log_store.specs.View as view
 use Rattle.log_store.specs.Table as table

@@ -16,7 +16,7 @@ use Rattle.spec.specs.Node.Held as held
 use Rattle.spec.specs.Node.Shards.{heldShard}
 use Rattle.spec.specs.Node.Calls as calls
 use Rattle.spec.specs.Node.Wire.{opInDomain}
-use Rattle.spec.proofs.Lists.{none-some, some-same, not-both}
+use Rattle.spec_laws.proofs.Lists.{none-some, some-same, not-both}
 use Rattle.spec_retained.specs.Retained.{CarriesAll}
 use Rattle.spec_retained.proofs.OfCalls.{replicate-retains, new-epoch-retains}
 use Rattle.spec_run.proofs.Cases.Opened.{opened}

@@ -10,7 +10,7 @@ use Rattle.spec.specs.Layout.Format.{Bytes}
 use Rattle.spec.specs.Node.Held as held
 use Rattle.spec.specs.Node.Shards.{heldShard}
 use Rattle.spec.specs.Node.Backup.{BackupAnswer}
-use Rattle.spec.proofs.Lists.{not-both}
+use Rattle.spec_laws.proofs.Lists.{not-both}
 use Rattle.spec_retained.specs.Retained.{CarriesAll}
 use Rattle.node_header.specs.declared.Node.{Node}
 use Rattle.node_header.specs.View.{Stores, viewNode, used}

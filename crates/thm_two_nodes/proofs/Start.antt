@@ -10,7 +10,7 @@ use Rattle.spec.specs.Lists.{nth, any}
 use Rattle.spec.specs.Map.Change.{holds}
 use Rattle.spec.specs.Layout.Format.{Bytes}
 use Rattle.spec.specs.declared.Replica.{Replica}
-use Rattle.spec.proofs.Lists.{not-both, none-some, some-same}
+use Rattle.spec_laws.proofs.Lists.{not-both, none-some, some-same}
 use Rattle.spec_run.specs.Fresh.{Fresh}
 use Rattle.spec_run.proofs.Cases.Start.{info}
 use Rattle.thm_one_node.specs.Images.{unused, new, stores, room, offset}

@@ -12,7 +12,7 @@ use Rattle.spec.specs.Log.{Log, Vectors}
 use Rattle.spec.specs.Node.Held as held
 use Rattle.spec.specs.Node.Calls as calls
 use Rattle.spec.specs.declared.Metric.the-variants.{Euclidean}
-use Rattle.spec.proofs.Lists.{not-both}
+use Rattle.spec_laws.proofs.Lists.{not-both}
 use Rattle.spec_run.proofs.Cases.Opened.{opened}
 use Rattle.node_admit.specs.declared.Expiry.the-variants.{At}
 use Rattle.node_admit.specs.declared.Step.the-variants as step

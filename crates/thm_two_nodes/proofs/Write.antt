@@ -9,7 +9,7 @@ use Rattle.spec.specs.Keys.{Key}
 use Rattle.spec.specs.Node.Held as held
 use Rattle.spec.specs.Node.Calls as calls
 use Rattle.spec.specs.Node.Refused as refused
-use Rattle.spec.proofs.Lists.{not-both}
+use Rattle.spec_laws.proofs.Lists.{not-both}
 use Rattle.spec_run.proofs.Cases.Opened.{opened}
 use Rattle.log_calls.proofs.OfFits.{fits-sized, fits-well}
 use Rattle.node_admit.specs.declared.Expiry.the-variants.{At}

@@ -12,7 +12,7 @@ use Rattle.spec.specs.Lists.{_and_}
 use Rattle.spec.specs.Layout.Format.{text, many, bytesOf, encode}
 use Rattle.spec.specs.Layout.Parts.{u64, metricCode}
 use Rattle.spec.specs.declared.Metric.{Metric}
-use Rattle.spec.proofs.LayoutLaws.Tests.{and-left, and-right}
+use Rattle.spec_laws.proofs.Wire.Tests.{and-left, and-right}
 use Rattle.wire_put.specs.Placed.{listsFit, listsSize, listsLong, listsGiven, listsBytes, createHead}
 use Rattle.wire_put.proofs.Writes.{sets-then, length-text, length-words}
 

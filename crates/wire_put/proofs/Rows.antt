@@ -11,7 +11,7 @@ use borrow.Author.Tests.{leb-true, le-leb}
 use Rattle.spec.specs.Lists.{_and_}
 use Rattle.spec.specs.Layout.Format.{bytesOf, concatMap, encode}
 use Rattle.spec.specs.Layout.Parts.{entryF, entriesF, entryValue}
-use Rattle.spec.proofs.LayoutLaws.Tests.{and-left, and-right}
+use Rattle.spec_laws.proofs.Wire.Tests.{and-left, and-right}
 use Rattle.wire_put.specs.Rows.{rowFits, rowsFit, rowsSize, rowAt, rowsGiven, rowsBytes, longEnough}
 use Rattle.wire_put.specs.Fields.{opFits, opSize, opBytes, wireOf}
 use Rattle.wire_put.proofs.Writes.{op-small, sets-then}

@@ -13,8 +13,8 @@ use borrow.Author.Tests.{leb-true}
 use Rattle.spec.specs.Lists.{_and_}
 use Rattle.spec.specs.Layout.Format.{Format, Value, code, text, _▸_, bytesOf, concatMap, encode, inRange}
 use Rattle.spec.specs.Layout.Parts.{u64, u32, keyF, vectorF}
-use Rattle.spec.proofs.LayoutLaws.Bytes.{length-bytes}
-use Rattle.spec.proofs.LayoutLaws.Tests.{and-left, and-right}
+use Rattle.spec_laws.proofs.Wire.Bytes.{length-bytes}
+use Rattle.spec_laws.proofs.Wire.Tests.{and-left, and-right}
 use Rattle.wire_put.specs.Fields.{textFits, countFits, opFits, opSize, opBytes, requestHead}
 
 -- ---- stores one after another

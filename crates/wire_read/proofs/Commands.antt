@@ -9,7 +9,7 @@ use Rattle.spec.specs.Layout.Format.{code, word, _▸_, many, fits, next, value
 use Rattle.spec.specs.Layout.Parts.{u64, nameF, metricOf}
 use Rattle.spec.specs.Layout.Request.{commandF, commandOf, createF, registerF, addF, ownershipF, benchF}
 use Rattle.wire_read.proofs.Places.{length-valueN, text-length, count-length}
-use Rattle.spec.proofs.LayoutLaws.Tests.{and-left, and-right}
+use Rattle.spec_laws.proofs.Wire.Tests.{and-left, and-right}
 use Rattle.wire_read.specs.Shown.{part, createPartOf, registerOf, deadOf, addOf, changeOf, commandShown}
 use Rattle.wire_read.specs.declared.CommandPart.the-variants.{Create, Drop, Register, MarkNodeDead, AddReplica, Remove, Promote, Shrink, Expand, Bench}
 

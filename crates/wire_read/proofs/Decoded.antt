@@ -14,8 +14,8 @@ use borrow.Author.Tests.{eqb-true, eqb-false}
 use Rattle.spec.specs.Layout.Format.{Format, code, _▸_, fits, value, whole}
 use Rattle.spec.specs.Layout.Request as request
 use Rattle.spec.specs.Layout.Message as message
-use Rattle.spec.proofs.LayoutLaws.Tests.{and-left, and-right, false-not-true}
-use Rattle.spec.proofs.LayoutLaws.Data.{whenever-some}
+use Rattle.spec_laws.proofs.Wire.Tests.{and-left, and-right, false-not-true}
+use Rattle.spec_laws.proofs.Wire.Data.{whenever-some}
 use Rattle.wire_read.specs.Shown.{shownOr, requestShown, replicateShown, newEpochShown, copyShown, writeShown, searchShown, replyShown, messageOf}
 use Rattle.spec.specs.declared.Epoch.{Epoch}
 use Rattle.spec.specs.declared.Offset.{Offset}

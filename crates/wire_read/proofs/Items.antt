@@ -12,7 +12,7 @@ use borrow.Author.Tests.{leb-true}
 use Rattle.spec.specs.Log.{End}
 use Rattle.spec.specs.Layout.Format.{Format, Value, word, text, _▸_, many, fits, fitsN, next, nextN, value, valueN, numberAt}
 use Rattle.spec.specs.Layout.Parts.{u64, entryF, endOf, entryOf, WireEntry}
-use Rattle.spec.proofs.LayoutLaws.Tests.{and-left, and-right}
+use Rattle.spec_laws.proofs.Wire.Tests.{and-left, and-right}
 use Rattle.wire_shape.proofs.Skips.{fixed-fits, fixed-next}
 use Rattle.wire_read.proofs.Places.{text-length, length-valueN}
 

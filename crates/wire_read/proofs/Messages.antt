@@ -15,8 +15,8 @@ use Rattle.spec.specs.Layout.Parts.{u64, u32, keyF, opF, vectorF, metricF, tabl
 use Rattle.spec.specs.Layout.Request.{requestF, commandF, commandOf, requestAt}
 use Rattle.spec.specs.Layout.Request as request
 use Rattle.spec.specs.Layout.Message.{replicateF, newEpochF, copyShardF, writeF, searchF, replyF, decodeReplicate, decodeNewEpoch, decodeCopyShard, decodeWrite, decodeSearch, decodeReply}
-use Rattle.spec.proofs.LayoutLaws.Tests.{and-left, and-right, and-intro}
-use Rattle.spec.proofs.LayoutLaws.Data.{length-mapped}
+use Rattle.spec_laws.proofs.Wire.Tests.{and-left, and-right, and-intro}
+use Rattle.spec_laws.proofs.Wire.Data.{length-mapped}
 use Rattle.wire_shape.specs.Skip.{skip}
 use Rattle.wire_shape.specs.declared.Skip.the-variants.{Next, Bad}
 use Rattle.wire_read.specs.Shown.{part, keyShown, opShown, commandShown, shownOr, replicateShown, newEpochShown, copyShown, writeShown, searchShown, replyShown, requestReadOf, requestShown, readOr, messageOf}

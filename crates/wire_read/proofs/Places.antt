@@ -14,7 +14,7 @@ use borrow.Author.Tests.{eq-eqb, ne-eqb, leb-true, eqb-true, eqb-false}
 use Rattle.spec.specs.Lists.{_and_}
 use Rattle.spec.specs.Layout.Format.{Format, code, word, text, _▸_, many, either, fits, next, value, valueN, nextN, fitsN, numberAt}
 use Rattle.spec.specs.Layout.Parts.{u64, u32, keyF, vectorF, opF, entryF, metricOf, opOf, keyOf, entryOf}
-use Rattle.spec.proofs.LayoutLaws.Tests.{and-left, and-right}
+use Rattle.spec_laws.proofs.Wire.Tests.{and-left, and-right}
 use Rattle.wire_read.specs.Shown.{part, keyShown, opShown, entryShown}
 use Rattle.wire_read.specs.declared.OpPart.{OpPart}
 use Rattle.wire_read.specs.declared.OpPart.the-variants.{Upsert, Delete}

@@ -10,7 +10,7 @@ use native.Mathlib.Nat.{add-assoc, zero-mul, suc-mul}
 use borrow.Author.Tests.{lt-leb, le-leb, leb-true, leb-false, eq-eqb, ne-eqb, lt-ltb, le-ltb}
 use Rattle.spec.specs.Lists.{_and_}
 use Rattle.spec.specs.Layout.Format.{Format, code, word, below, many, text, either, _▸_, fits, next, fitsN, nextN, numberAt, allWithin}
-use Rattle.spec.proofs.LayoutLaws.Tests.{and-intro, and-left, and-right, and-true, and-false}
+use Rattle.spec_laws.proofs.Wire.Tests.{and-intro, and-left, and-right, and-true, and-false}
 use Rattle.wire_shape.specs.Skip.{skip, skipIf, skipN}
 use Rattle.wire_shape.specs.declared.Skip.{Skip}
 use Rattle.wire_shape.specs.declared.Skip.the-variants.{Next, Bad}

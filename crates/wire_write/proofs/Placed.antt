@@ -11,7 +11,7 @@ use Rattle.spec.specs.Layout.Format.{text, bytesOf, encode}
 use Rattle.spec.specs.Layout.Parts.{metricCode}
 use Rattle.spec.specs.Layout.Request.{createF, encodeRequest}
 use Rattle.spec.specs.declared.Metric.{Metric}
-use Rattle.spec.proofs.LayoutLaws.Tests.{and-intro}
+use Rattle.spec_laws.proofs.Wire.Tests.{and-intro}
 use Rattle.wire_put.specs.Placed.{listsFit, listsSize, listsLong, listsGiven, listsBytes, createGiven, createHead}
 use Rattle.wire_write.specs.Requests.{requestGiven}
 use Rattle.wire_put.specs.Fields.{requestHead}

@@ -1,7 +1,7 @@
 -- Under plus signs by the patterns, which is the same there; else by class.
 use borrow.Author.Needs.{needs}
 use mathlib.Core.Path.{sym}
-use Rattle.spec.proofs.Nearest.Classes.{before-plus}
+use Rattle.spec_laws.proofs.Nearest.Classes.{before-plus}
 use Rattle.float_order.proofs.before_bits.Statement.{statement}
 use Rattle.float_order.proofs.before_bits.Tie as tie
 use Rattle.float_order.proofs.by_class.Reads as by-class-reads

@@ -1,5 +1,5 @@
 -- Without its sign, a pattern in the domain is at most that of 2 ^ 32.
-use Rattle.spec.proofs.Nearest.Domain.{domain-bits}
+use Rattle.spec_laws.proofs.Nearest.Domain.{domain-bits}
 use Rattle.spec.specs.Nearest.Order.{bitsInDomain}
 use Rattle.float_order.proofs.bits_in_domain.Statement.{statement}
 use Rattle.float_order.proofs.bits_in_domain.Tie as tie

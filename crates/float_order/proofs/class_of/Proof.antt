@@ -4,7 +4,7 @@ use native.Mathlib.Omega.{arith}
 use mathlib.Core.Path.{_≡_, sym, ap}
 use Prim.Native.Nat.{ℕ}
 use Rattle.spec.specs.Nearest.Order.{Class, class, negNan, negInf, negNumber, negZero, posZero, posNumber, posInf, posNan}
-use Rattle.spec.proofs.Nearest.Classes.{Range, range-class}
+use Rattle.spec_laws.proofs.Nearest.Classes.{Range, range-class}
 use Rattle.float_order.specs.Classes.{shown}
 use Rattle.float_order.proofs.class_of.Statement.{statement}
 use Rattle.float_order.proofs.class_of.Tie as tie

@@ -1,5 +1,5 @@
 -- Two comparisons with 2 ^ 32 are the test.
-use Rattle.spec.proofs.Nearest.Domain.{domain-both, domain-not}
+use Rattle.spec_laws.proofs.Nearest.Domain.{domain-both, domain-not}
 use Rattle.float_order.proofs.in_domain.Statement.{statement}
 use Rattle.float_order.proofs.in_domain.Tie as tie
 

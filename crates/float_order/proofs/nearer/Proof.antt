@@ -1,7 +1,7 @@
 -- Patterns that differ stand one before the other; equal ones leave it to the ids.
 use borrow.Author.Needs.{needs}
 use mathlib.Core.Path.{sym, _∙_}
-use Rattle.spec.proofs.Nearest.Rank.{nearer-same, nearer-other}
+use Rattle.spec_laws.proofs.Nearest.Rank.{nearer-same, nearer-other}
 use Rattle.float_order.proofs.nearer.Statement.{statement}
 use Rattle.float_order.proofs.nearer.Tie as tie
 

@@ -3,7 +3,7 @@ use borrow.Author.Needs.{needs}
 use mathlib.Core.Path.{sym, _∙_, ap}
 use Prim.Native.Nat.{ℕ}
 use borrow.Author.Tests.{not-true, not-false}
-use Rattle.spec.proofs.LayoutLaws.Tests.{and-true, and-false}
+use Rattle.spec_laws.proofs.Wire.Tests.{and-true, and-false}
 use Rattle.image_header.specs.Image.{flagsListed, codesListed}
 use Rattle.image_header.proofs.codes_listed.Statement.{statement}
 use Rattle.image_header.proofs.codes_listed.Tie as tie

@@ -13,7 +13,7 @@ use mathlib.Core.Logic.{⊎-elim}
 use mathlib.Core.List.{map}
 use Rattle.map_tables.proofs.Defaults.{noNode, noId, noList}
 use mathlib.Core.Option.{some}
-use Rattle.spec.proofs.Lists.{nth-none, nth-getD}
+use Rattle.spec_laws.proofs.Lists.{nth-none, nth-getD}
 use Rattle.map_tables.specs.View.{viewList}
 use Rattle.map_create.proofs.OfList.{list-row}
 use Rattle.map_create.proofs.first_of.Statement.{statement}

@@ -12,7 +12,7 @@ use borrow.Author.Tests.{not-true, not-false, le-leb, lt-leb, leb-false, leb-tru
 use mathlib.Core.Logic.{⊎-elim}
 use mathlib.Core.List.{map}
 use Rattle.map_tables.proofs.Defaults.{noNode, noId, noList}
-use Rattle.spec.proofs.Map.Rows.{put-most}
+use Rattle.spec_laws.proofs.Map.Rows.{put-most}
 use Rattle.map_tables.specs.View.{viewList, viewInSync}
 use Rattle.map_create.proofs.OfList.{list-row, more-synced, synced-end}
 use Rattle.map_create.proofs.listed_synced.Statement.{statement}

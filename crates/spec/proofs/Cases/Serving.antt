@@ -12,11 +12,11 @@ use Rattle.spec.specs.Node.Lease.{grant, leased}
 use Rattle.spec.specs.Node.Client.{accepted, writeHeld, writeRefused, onWrite, found, searchHeld, searchRefused, onSearch, waitHeld, waitRefused}
 use Rattle.spec.specs.Node.Ack.{noted, badReply, ackHeld, sentReplicate, outcomeHeld, leaves}
 use Rattle.spec.specs.Node.Worker.{stepHeld, send}
-use Rattle.spec.specs.Node.Shown.{shown, onMap}
+use Rattle.spec.specs.Node.Shown.{shown, onMap, retained}
 use Rattle.spec.specs.Node.Refused.{counted, countWrite, countSearch}
 use Rattle.spec.specs.Starred.{backupAt, floats}
 use Rattle.spec.specs.declared.Role.the-variants.{Backup, Primary}
-use Rattle.spec.specs.Cases.Commands.{base, part}
+use Rattle.spec.specs.Cases.Commands.{base, on, part}
 use Rattle.spec.specs.Cases.Serving.{primary, leading, third, rows, late, writing, finder, searching, awaiting, acking, settling, stepping, longer, shownTwo, shownFour, worker, ahead, level, logged}
 use Rattle.spec.proofs.Opened.{opened}
 
@@ -175,3 +175,9 @@ older-ignored = refl
 pub equal-taken : onMap level 9 base ≡ gives (shown (worker 0 1 ∷ [])) shownTwo
 unfolding opened
 equal-taken = refl
+
+-- a member of the ack set that the map no longer lists leaves it; one that it lists stays, and nobody joins
+pub leaves-the-ack-set : map (λ p. retained (on 4 1 ∷ []) p .member) rows ∷ map (λ p. retained (on 2 1 ∷ on 4 1 ∷ []) p .member) rows ∷ []
+    ≡ (false ∷ false ∷ false ∷ []) ∷ (true ∷ false ∷ false ∷ []) ∷ []
+unfolding opened
+leaves-the-ack-set = refl

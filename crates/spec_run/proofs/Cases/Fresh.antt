@@ -8,7 +8,7 @@ use native.Mathlib.Omega.{arith}
 use Rattle.spec.specs.Lists.{nth}
 use Rattle.spec.specs.Map.Tables.{NodeInfo}
 use Rattle.spec.specs.Map.Change.{holds}
-use Rattle.spec.proofs.Lists.{none-some}
+use Rattle.spec_laws.proofs.Lists.{none-some}
 use Rattle.spec.specs.declared.Replica.{Replica}
 use Rattle.spec.specs.declared.Metric.the-variants.{Euclidean}
 use Rattle.spec_run.specs.Fresh.{Created, Fresh}

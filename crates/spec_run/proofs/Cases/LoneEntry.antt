@@ -9,7 +9,7 @@ use native.Mathlib.Omega.{arith}
 use Rattle.spec.specs.Lists.{nth}
 use Rattle.spec.specs.Log.{entryAt}
 use Rattle.spec.specs.declared.Metric.the-variants.{Euclidean}
-use Rattle.spec.proofs.Lists.{some-same, nth-nil}
+use Rattle.spec_laws.proofs.Lists.{some-same, nth-nil}
 use Rattle.spec_run.specs.State.{State, Write}
 use Rattle.spec_run.specs.Event.{Event, mapShown, leaseGranted, requestArrives, replyArrives}
 use Rattle.spec_run.specs.Step.{posted, run}

@@ -7,7 +7,7 @@ use mathlib.Core.List.{List}
 use mathlib.Core.Option.{none, some}
 use Rattle.spec.specs.Lists.{nth}
 use Rattle.spec.specs.Log.{entryAt}
-use Rattle.spec.proofs.Lists.{none-some}
+use Rattle.spec_laws.proofs.Lists.{none-some}
 use Rattle.spec_run.specs.State.{State, Write}
 use Rattle.spec_run.specs.Event.{Event}
 use Rattle.spec_run.specs.Step.{step, run}

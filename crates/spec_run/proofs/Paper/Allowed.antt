@@ -15,7 +15,7 @@ use Rattle.spec.specs.Map.Apply.{sessionAt}
 use Rattle.spec.specs.Map.Calls.{applyBytes, applyDecoded, applyCall}
 use Rattle.spec.specs.Layout.Request as layout
 use Rattle.spec.specs.Layout.Request.{decodeRequest}
-use Rattle.spec.proofs.Lists.{not-both, and-true, and-left, and-right}
+use Rattle.spec_laws.proofs.Lists.{not-both, and-true, and-left, and-right}
 use Rattle.spec_run.specs.State as real
 use Rattle.spec_run.specs.State.{Offer, Request, setMap, setOffers}
 use Rattle.spec_run.specs.Step as step

@@ -17,7 +17,7 @@ use Rattle.spec.specs.Node.Client.{WriteAnswer, WaitAnswer}
 use Rattle.spec.specs.Node.Backup.{BackupAnswer, replied, backupRefused}
 use Rattle.spec.specs.Node.Ack.{AckAnswer, noted, expand, ackRefused}
 use Rattle.spec.specs.Node.Calls.{RequestAnswer, unsent, written, requestRefused}
-use Rattle.spec.proofs.Lists.{by-test, not-both, none-some}
+use Rattle.spec_laws.proofs.Lists.{by-test, not-both, none-some}
 use Rattle.spec_run.specs.State.{State, Request, Reply, Offer, Outcome, Write, at, setMap, setNode, setRequests, setReplies, setOffers, setOutcomes, setWrites}
 use Rattle.spec_run.specs.Event.{
   Event,

@@ -13,7 +13,7 @@ use Rattle.spec.specs.Node.Backup.{BackupAnswer, replied, backupRefused}
 use Rattle.spec.specs.Node.Ack.{AckAnswer, noted, expand, ackRefused, grow}
 use Rattle.spec.specs.Node.Calls.{RequestAnswer, unsent, written, requestRefused}
 use Rattle.spec.specs.declared.Metric.{Metric}
-use Rattle.spec.proofs.Lists.{by-test}
+use Rattle.spec_laws.proofs.Lists.{by-test}
 use Rattle.spec_run.specs.State.{State, Request, Reply, Offer, Outcome, Write, setNode, setRequests, setReplies, setOffers, setOutcomes, setWrites}
 use Rattle.spec_run.specs.Step.{onShown, onGrant, recordWrite, onWrite, onSearch, shrinkOf, waited, waitFor, onWait, posted, onWork, answered, arrives, onArrival, onRequestLost, doubled, onRequestRepeats, replyDoubled, onReplyRepeats, acked, replies, onReply, onReplyLost, told, learnt, onOutcome, onOutcomeLost, late, onOutcomeTimeout}
 

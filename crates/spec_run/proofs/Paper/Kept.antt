@@ -13,7 +13,7 @@ use Rattle.spec.specs.Map.Tables.{Map, Session}
 use Rattle.spec.specs.Map.Apply.{sessionAt}
 use Rattle.spec.specs.Map.Calls.{applyCall}
 use Rattle.spec.specs.Layout.Request.{Request}
-use Rattle.spec.proofs.Lists.{not-both, some-same, nth-nil}
+use Rattle.spec_laws.proofs.Lists.{not-both, some-same, nth-nil}
 use Rattle.spec_run.specs.State.{State, Offer, at}
 use Rattle.spec_run.specs.Step.{removed, replaced}
 use Rattle.spec_run.specs.Rules.{notLast}

@@ -11,8 +11,8 @@ use Rattle.spec.specs.Map.WellFormed.{wellFormedMap}
 use Rattle.spec.specs.Map.Calls.{applyCall}
 use Rattle.spec.specs.Layout.Request as layout
 use Rattle.spec.specs.Layout.Request.{Request, Command}
-use Rattle.spec.proofs.Lists.{by-test, some-same}
-use Rattle.spec.proofs.Map.Sessions.{by-way, own-session, other-session}
+use Rattle.spec_laws.proofs.Lists.{by-test, some-same}
+use Rattle.spec_laws.proofs.Map.Sessions.{by-way, own-session, other-session}
 
 commit-sessions : (m : Map) (c : Command) → commit m c .sessions ≡ m .sessions
 unfolding commit changeShard

@@ -12,7 +12,7 @@ use borrow.Author.Tests.{eqb-true, eqb-false, ltb-true, ltb-false}
 use Rattle.spec.specs.Lists.{nth}
 use Rattle.spec.specs.Map.Tables.{Session}
 use Rattle.spec.specs.Map.Apply.{sessionAt}
-use Rattle.spec.proofs.Lists.{by-test, nth-nil, some-same}
+use Rattle.spec_laws.proofs.Lists.{by-test, nth-nil, some-same}
 use Rattle.spec_run.specs.State.{Offer, at}
 use Rattle.spec_run.specs.Step.{removed}
 use Rattle.spec_run.specs.Paper.{proposer, another, Turn, Commanded, Seqs, Rising, proposing, without}

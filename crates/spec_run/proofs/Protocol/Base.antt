@@ -9,7 +9,7 @@ use lib.Dec.{eqb}
 use lib.ListN.{length, take, drop}
 use borrow.Author.Tests.{eqb-true, eqb-false}
 use Rattle.spec.specs.Lists.{nth}
-use Rattle.spec.proofs.Lists.{by-test, nth-nil, nth-same}
+use Rattle.spec_laws.proofs.Lists.{by-test, nth-nil, nth-same}
 
 -- the map f, with x at n
 unfoldable pub upd {ℓ} : {A : Type ℓ} → (ℕ → A) → ℕ → A → ℕ → A

@@ -10,7 +10,7 @@ use lib.ListN.{length}
 use borrow.Author.Tests.{eqb-true, eqb-false}
 use Rattle.spec.specs.Lists.{nth}
 use Rattle.spec.specs.Log.{Entry, Log, End, entryAt}
-use Rattle.spec.proofs.Lists.{by-test, not-both, none-some, some-same, nth-same, nth-lt, lt-nth, Within}
+use Rattle.spec_laws.proofs.Lists.{by-test, not-both, none-some, some-same, nth-same, nth-lt, lt-nth, Within}
 use Rattle.spec_run.proofs.Protocol.Base.{All, all-map, upd, upd-all, upd-same, upd-other, upd-keeps, same-or}
 use Rattle.spec_run.proofs.Protocol.Sets.{In}
 use Rattle.spec_run.proofs.Protocol.State.{Map, Lead, Role, backup, lead, Node, Request, align, send, Answer, adopts, stores, staleAlign, staleSend, Reply, Proposal, Outcome, Accepted, Acknowledged, State, setNode, setProposals, setOutcomes, leadAt, withRole}

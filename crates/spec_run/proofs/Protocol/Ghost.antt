@@ -7,7 +7,7 @@ use mathlib.Core.List.{List}
 use mathlib.Core.Option.{some}
 use Rattle.spec.specs.Lists.{nth}
 use Rattle.spec.specs.Log.{Entry, Log}
-use Rattle.spec.proofs.Lists.{Within}
+use Rattle.spec_laws.proofs.Lists.{Within}
 
 -- By epoch: the primary and the in-sync set that the map gave it (of the map's epoch: the present one; of an earlier one: that with
 -- which it ended); whether its primary has been shown it; the log of its primary in it, and what that log was at the start; how many

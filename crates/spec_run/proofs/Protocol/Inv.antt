@@ -9,8 +9,8 @@ use lib.Dec.{eqb}
 use lib.ListN.{length}
 use Rattle.spec.specs.Lists.{_and_, nth}
 use Rattle.spec.specs.Log.{Op, Entry, Log, Vectors, entryAt, epochEnds, play}
-use Rattle.spec.proofs.Lists.{Within}
-use Rattle.spec.proofs.Log.Numbered.{Numbered}
+use Rattle.spec_laws.proofs.Lists.{Within}
+use Rattle.spec_laws.proofs.Log.Numbered.{Numbered}
 use Rattle.spec_run.proofs.Protocol.Base.{All, count}
 use Rattle.spec_run.proofs.Protocol.Sets.{In}
 use Rattle.spec_run.proofs.Protocol.State.{Map, Lead, Role, backup, lead, Node, Request, align, send, Answer, adopts, stores, staleAlign, staleSend, Reply, Proposal, Outcome, Accepted, Acknowledged, State}

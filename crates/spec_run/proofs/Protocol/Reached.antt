@@ -11,8 +11,8 @@ use lib.ListN.{length}
 use borrow.Author.Tests.{eqb-true, eqb-false, ltb-false, leb-true}
 use Rattle.spec.specs.Lists.{nth}
 use Rattle.spec.specs.Log.{Op, Log, End, append, push, cutTo, storeAll, promote, entriesFrom}
-use Rattle.spec.proofs.Lists.{by-test, not-both}
-use Rattle.spec.proofs.Log.Store.{store-all-epoch}
+use Rattle.spec_laws.proofs.Lists.{by-test, not-both}
+use Rattle.spec_laws.proofs.Log.Store.{store-all-epoch}
 use Rattle.spec_run.proofs.Protocol.Base.{All, all-nth, upd, upd-all, removeAt}
 use Rattle.spec_run.proofs.Protocol.Sets.{member, without}
 use Rattle.spec_run.proofs.Protocol.State.{Map, Lead, Role, backup, lead, Node, Request, align, send, Answer, adopts, stores, staleAlign, staleSend, Reply, Proposal, Outcome, Accepted, State, setMap, setNode, setRequests, addReply, setProposals, setOutcomes, addAccepted, addAcknowledged}

@@ -7,7 +7,7 @@ use native.Mathlib.Omega.{arith}
 use lib.Dec.{eqb}
 use borrow.Author.Tests.{eqb-true, eqb-false}
 use Rattle.spec.specs.Lists.{every}
-use Rattle.spec.proofs.Lists.{by-test, not-both}
+use Rattle.spec_laws.proofs.Lists.{by-test, not-both}
 
 unfoldable pub member : ℕ → List ℕ → Bool
 member n [] = false

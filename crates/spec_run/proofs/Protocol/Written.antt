@@ -10,9 +10,9 @@ use lib.Dec.{eqb, leb, ltb}
 use lib.ListN.{length}
 use Rattle.spec.specs.Lists.{nth}
 use Rattle.spec.specs.Log.{Op, Entry, Log, End, ShardReplica, append, push, store, storeAll, keep, agrees, cutTo, promote, entriesFrom}
-use Rattle.spec.proofs.Lists.{by-test, nth-lt, nth-append, nth-last}
-use Rattle.spec.proofs.Log.Numbered.{from-at}
-use Rattle.spec.proofs.Log.Store.{store-cases}
+use Rattle.spec_laws.proofs.Lists.{by-test, nth-lt, nth-append, nth-last}
+use Rattle.spec_laws.proofs.Log.Numbered.{from-at}
+use Rattle.spec_laws.proofs.Log.Store.{store-cases}
 use Rattle.spec_run.proofs.Protocol.Base.{All, all-map, all-snoc, all-nth, nth-all, upd, upd-all, upd2, upd2-all, removeAt}
 use Rattle.spec_run.proofs.Protocol.Sets.{member, without}
 use Rattle.spec_run.proofs.Protocol.State.{Lead, Role, backup, lead, Node, Request, align, send, Reply, Proposal, Outcome, Accepted, State, setMap, setNode, setRequests, addReply, setProposals, setOutcomes, addAccepted, addAcknowledged}

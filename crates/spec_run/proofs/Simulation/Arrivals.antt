@@ -31,15 +31,15 @@ use Rattle.spec.specs.Node.Calls.{newEpochOf, newEpochWith, callNewEpoch, copyO
 use Rattle.spec.specs.Node.WellFormed.{wellFormedLent, wellFormedEntry, wellFormedOp}
 use Rattle.spec.specs.declared.Peer.{Peer}
 use Rattle.spec.specs.declared.Role as role
-use Rattle.spec.proofs.Lists.{by-test, not-both}
-use Rattle.spec.proofs.LayoutLaws.Messages.{reply-back}
-use Rattle.spec.proofs.Log.Keep.{keep-length}
-use Rattle.spec.proofs.Log.Store.{store-other, store-answer}
-use Rattle.spec.proofs.Lists.{nth-last}
-use Rattle.spec.proofs.Map.Rows.{every-tail}
-use Rattle.spec.proofs.Node.Shards.{by-both}
-use Rattle.spec.proofs.Node.Formed.{FormedNode}
-use Rattle.spec.proofs.Node.Kept.{new-epoch-kept, copy-kept, replicate-kept}
+use Rattle.spec_laws.proofs.Lists.{by-test, not-both}
+use Rattle.spec_laws.proofs.Wire.Messages.{reply-back}
+use Rattle.spec_laws.proofs.Log.Keep.{keep-length}
+use Rattle.spec_laws.proofs.Log.Store.{store-other, store-answer}
+use Rattle.spec_laws.proofs.Lists.{nth-last}
+use Rattle.spec_laws.proofs.Map.Rows.{every-tail}
+use Rattle.spec_laws.proofs.Node.Shards.{by-both}
+use Rattle.spec_laws.proofs.Node.Formed.{FormedNode}
+use Rattle.spec_laws.proofs.Node.Kept.{new-epoch-kept, copy-kept, replicate-kept}
 use Rattle.spec_run.specs.State as real
 use Rattle.spec_run.specs.Step as step
 use Rattle.spec_run.proofs.Protocol.Base.{all-snoc, all-nth}

@@ -17,12 +17,12 @@ use Rattle.spec.specs.Node.Shards.{Result, ofKey, heldShard, withHeld, atShard,
 use Rattle.spec.specs.Node.WellFormed.{wellFormedHeader, wellFormedHeld, wellFormedLent, logIfHeld, logOf}
 use Rattle.spec.specs.declared.Peer.{Peer}
 use Rattle.spec.specs.declared.Role as role
-use Rattle.spec.proofs.Lists.{not-both, and-true}
-use Rattle.spec.proofs.Map.Orders.{same-key, key-same}
-use Rattle.spec.proofs.Map.Rows.{every-tail, every-find}
-use Rattle.spec.proofs.Node.Shards.{at-absent, at-held}
-use Rattle.spec.proofs.Node.Formed.{FormedNode, FormedHeld, held-formed, formed-header}
-use Rattle.spec.proofs.Node.Logs.{FormedLog, log-formed}
+use Rattle.spec_laws.proofs.Lists.{not-both, and-true}
+use Rattle.spec_laws.proofs.Map.Orders.{same-key, key-same}
+use Rattle.spec_laws.proofs.Map.Rows.{every-tail, every-find}
+use Rattle.spec_laws.proofs.Node.Shards.{at-absent, at-held}
+use Rattle.spec_laws.proofs.Node.Formed.{FormedNode, FormedHeld, held-formed, formed-header}
+use Rattle.spec_laws.proofs.Node.Logs.{FormedLog, log-formed}
 use Rattle.spec_run.proofs.Protocol.State.{Lead, Role, backup, lead, Node, leadAt}
 use Rattle.spec_run.proofs.Simulation.Relation.{World, LeadSim, RoleSim, HeldSim, NodeSim}
 

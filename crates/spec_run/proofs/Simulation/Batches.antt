@@ -15,9 +15,9 @@ use Rattle.spec.specs.Layout.Format as format
 use Rattle.spec.specs.Layout.Writable.{GoodEnd, GoodEntry}
 use Rattle.spec.specs.Node.Wire.{entryInDomain, storedOp, storedEntry, wireOp, wireEntry}
 use Rattle.spec.specs.Node.WellFormed.{wellFormedOp, wellFormedEntry}
-use Rattle.spec.proofs.Lists.{by-test, some-same, nth-nil, nth-lt}
-use Rattle.spec.proofs.Map.Rows.{every-tail, every-cons}
-use Rattle.spec.proofs.Node.Logs.{FormedLog}
+use Rattle.spec_laws.proofs.Lists.{by-test, some-same, nth-nil, nth-lt}
+use Rattle.spec_laws.proofs.Map.Rows.{every-tail, every-cons}
+use Rattle.spec_laws.proofs.Node.Logs.{FormedLog}
 use Rattle.spec_run.proofs.Protocol.Base.{All}
 use Rattle.spec_run.proofs.Simulation.Ops.{IdFits, op-back}
 use Rattle.spec_run.proofs.Simulation.Relation.{World, LogFits}

@@ -26,12 +26,12 @@ use Rattle.spec.specs.Node.Client as client
 use Rattle.spec.specs.Node.Client.{WriteAnswer, accepted, writeRefused, writeHeld, ackCount, overfull}
 use Rattle.spec.specs.Node.Calls.{lateTime, grantWith, callGrant, callSearch, writeOf, writeWith, callWrite}
 use Rattle.spec.specs.Node.WellFormed.{wellFormedHeader, wellFormedLent}
-use Rattle.spec.proofs.Lists.{by-test}
-use Rattle.spec.proofs.LayoutLaws.Messages.{write-forth}
-use Rattle.spec.proofs.Map.Rows.{every-tail}
-use Rattle.spec.proofs.Node.Refusals.{search-same}
-use Rattle.spec.proofs.Node.Formed.{FormedNode}
-use Rattle.spec.proofs.Node.KeptCalls.{grant-with-kept, write-with-kept}
+use Rattle.spec_laws.proofs.Lists.{by-test}
+use Rattle.spec_laws.proofs.Wire.Messages.{write-forth}
+use Rattle.spec_laws.proofs.Map.Rows.{every-tail}
+use Rattle.spec_laws.proofs.Node.Refusals.{search-same}
+use Rattle.spec_laws.proofs.Node.Formed.{FormedNode}
+use Rattle.spec_laws.proofs.Node.KeptCalls.{grant-with-kept, write-with-kept}
 use Rattle.spec_run.specs.State as real
 use Rattle.spec_run.specs.Step as step
 use Rattle.spec_run.specs.Rules.{isBytes}

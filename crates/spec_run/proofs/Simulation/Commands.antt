@@ -24,10 +24,10 @@ use Rattle.spec.specs.Node.Ack as ack
 use Rattle.spec.specs.Node.Ack.{leaves}
 use Rattle.spec.specs.Node.Held as held
 use Rattle.spec.specs.Node.Held.{Held}
-use Rattle.spec.proofs.Lists.{by-test, not-both, and-left, and-right}
-use Rattle.spec.proofs.LayoutLaws.Requests.{request-back, request-forth}
-use Rattle.spec.proofs.Map.WellFormed.{stays-well-formed}
-use Rattle.spec.proofs.Node.Shards.{by-both}
+use Rattle.spec_laws.proofs.Lists.{by-test, not-both, and-left, and-right}
+use Rattle.spec_laws.proofs.Wire.Requests.{request-back, request-forth}
+use Rattle.spec_laws.proofs.Map.WellFormed.{stays-well-formed}
+use Rattle.spec_laws.proofs.Node.Shards.{by-both}
 use Rattle.spec_run.specs.State as real
 use Rattle.spec_run.specs.Step as step
 use Rattle.spec_run.specs.Rules.{isBytes, isU64, isPromote, promotes, notLast, freshSeq}

@@ -8,7 +8,7 @@ use Rattle.spec.specs.Map.Change.{holds}
 use Rattle.spec.specs.Map.Tables as tables
 use Rattle.spec.specs.Node.Held as held
 use lib.ListN.{length}
-use Rattle.spec.proofs.Lists.{nth-lt, nth-append, nth-last}
+use Rattle.spec_laws.proofs.Lists.{nth-lt, nth-append, nth-last}
 use Rattle.spec_run.specs.State as real
 use Rattle.spec_run.proofs.Protocol.Base.{All, all-map, all-snoc}
 use Rattle.spec_run.proofs.Protocol.State as proto

@@ -9,9 +9,9 @@ use lib.Dec.{eqb}
 use borrow.Author.Tests.{eqb-true, eqb-false}
 use Rattle.spec.specs.Lists.{nth, every, any, find, collect}
 use Rattle.spec.specs.Map.Apply.{update}
-use Rattle.spec.proofs.Lists.{by-test, not-both, none-some, some-same, nth-nil}
-use Rattle.spec.proofs.Map.Rows.{every-tail, every-cons}
-use Rattle.spec.proofs.Node.Shards.{by-both}
+use Rattle.spec_laws.proofs.Lists.{by-test, not-both, none-some, some-same, nth-nil}
+use Rattle.spec_laws.proofs.Map.Rows.{every-tail, every-cons}
+use Rattle.spec_laws.proofs.Node.Shards.{by-both}
 use Rattle.spec_run.specs.State.{at}
 use Rattle.spec_run.specs.Step.{removed, replaced}
 use Rattle.spec_run.proofs.Protocol.Base.{All, upd, upd2, removeAt}

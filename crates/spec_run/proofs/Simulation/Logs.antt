@@ -8,9 +8,9 @@ use Rattle.spec.specs.Limits.{maxU64}
 use Rattle.spec.specs.Log.{Entry, Log, End, ShardReplica, push, store, storeAll, cutTo, promote, epochEnds}
 use Rattle.spec.specs.declared.Peer.{Peer}
 use Rattle.spec.specs.declared.Role as role
-use Rattle.spec.proofs.Lists.{nth-snoc}
-use Rattle.spec.proofs.Log.Keep.{keep-within}
-use Rattle.spec.proofs.Log.Store.{store-cases}
+use Rattle.spec_laws.proofs.Lists.{nth-snoc}
+use Rattle.spec_laws.proofs.Log.Keep.{keep-within}
+use Rattle.spec_laws.proofs.Log.Store.{store-cases}
 use Rattle.spec_run.proofs.Protocol.Base.{All}
 use Rattle.spec_run.proofs.Protocol.State.{Lead, Role, backup, lead}
 use Rattle.spec_run.proofs.Simulation.Ops.{IdFits}

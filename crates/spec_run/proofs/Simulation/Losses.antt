@@ -7,7 +7,7 @@ use mathlib.Core.List.{List, [], _∷_, _++_, map}
 use mathlib.Core.Option.{Option, none, some}
 use Rattle.spec.specs.Lists.{nth, collect}
 use Rattle.spec.specs.Node.Ack.{Proposal, shrink, grow, leaves}
-use Rattle.spec.proofs.Lists.{by-test, none-some}
+use Rattle.spec_laws.proofs.Lists.{by-test, none-some}
 use Rattle.spec_run.specs.State as real
 use Rattle.spec_run.specs.Step as step
 use Rattle.spec_run.proofs.Protocol.Base.{All, all-snoc, all-nth, removeAt}

@@ -20,9 +20,9 @@ use Rattle.spec.specs.Map.Change.{Change, changed, decideChange, accepts, rejec
 use Rattle.spec.specs.Map.Apply.{Applied, apply, applyTo, settle, decide, commit, changeShard, remembered, sessionAt, shardAt, isShard, update}
 use Rattle.spec.specs.Map.WellFormed.{wellFormedMap}
 use Rattle.spec.specs.Layout.Request.{Request}
-use Rattle.spec.proofs.Lists.{by-test, not-both, none-some, some-same}
-use Rattle.spec.proofs.Map.Sets.{out-of-without, rest-of-without, in-put, rest-of-put}
-use Rattle.spec.proofs.Map.Shards.{commandOf, changed-key, commit-change, change-taken, promote-taken, shrink-taken}
+use Rattle.spec_laws.proofs.Lists.{by-test, not-both, none-some, some-same}
+use Rattle.spec_laws.proofs.Map.Sets.{out-of-without, rest-of-without, in-put, rest-of-put}
+use Rattle.spec_laws.proofs.Map.Shards.{commandOf, changed-key, commit-change, change-taken, promote-taken, shrink-taken}
 use Rattle.spec_run.specs.Step as step
 use Rattle.spec_run.specs.Rules.{notLast}
 use Rattle.spec_run.proofs.Protocol.Base.{same-or}

@@ -15,9 +15,9 @@ use Rattle.spec.specs.Node.Shown.{isNode, newRow, withRow, withRows}
 use Rattle.spec.specs.declared.DataNodeId.{DataNodeId}
 use Rattle.spec.specs.declared.Replica.{Replica}
 use Rattle.spec.specs.declared.Peer.{Peer}
-use Rattle.spec.proofs.Lists.{by-test, not-both, none-some, some-same}
-use Rattle.spec.proofs.Map.Rows.{find-true, every-cons}
-use Rattle.spec.proofs.Map.Sets.{any-put, any-put-other}
+use Rattle.spec_laws.proofs.Lists.{by-test, not-both, none-some, some-same}
+use Rattle.spec_laws.proofs.Map.Rows.{find-true, every-cons}
+use Rattle.spec_laws.proofs.Map.Sets.{any-put, any-put-other}
 use Rattle.spec_run.proofs.Protocol.Base.{All}
 use Rattle.spec_run.proofs.Protocol.Sets.{member, In}
 use Rattle.spec_run.proofs.Protocol.State.{Lead}

@@ -17,8 +17,8 @@ use Rattle.spec.specs.Layout.Format as format
 use Rattle.spec.specs.Layout.Writable.{U64, U32, GoodOp}
 use Rattle.spec.specs.Node.Wire.{floatOf, bitsOf, floatsOf, patternsInDomain, opInDomain, storedOp, wireOp}
 use Rattle.spec.specs.Node.WellFormed.{component, wellFormedVector, wellFormedOp}
-use Rattle.spec.proofs.Lists.{and-left, and-right}
-use Rattle.spec.proofs.Map.Rows.{every-tail, every-cons}
+use Rattle.spec_laws.proofs.Lists.{and-left, and-right}
+use Rattle.spec_laws.proofs.Map.Rows.{every-tail, every-cons}
 
 -- an id that a u64 holds
 abbrev pub IdFits : Op → Type 0

@@ -34,7 +34,7 @@ use Rattle.spec.specs.declared.Replica.{Replica}
 use Rattle.spec.specs.declared.Peer.{Peer}
 use Rattle.spec.specs.declared.Role as role
 use Rattle.spec.specs.declared.Role.the-variants.{Backup, Primary}
-use Rattle.spec.proofs.Node.Formed.{FormedNode}
+use Rattle.spec_laws.proofs.Node.Formed.{FormedNode}
 use Rattle.spec_run.specs.State as run
 use Rattle.spec_run.specs.Fresh.{properId}
 use Rattle.spec_run.proofs.Protocol.Base.{All}

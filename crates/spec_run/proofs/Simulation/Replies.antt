@@ -22,9 +22,9 @@ use Rattle.spec.specs.Node.Ack.{AckAnswer, noted, expand, ackRefused, badReply,
 use Rattle.spec.specs.Node.Calls.{ackOf, ackWith, callAck}
 use Rattle.spec.specs.Node.WellFormed.{wellFormedHeader}
 use Rattle.spec.specs.declared.Peer.{Peer}
-use Rattle.spec.proofs.Lists.{by-test, and-true, and-left, and-right}
-use Rattle.spec.proofs.Node.Formed.{FormedNode}
-use Rattle.spec.proofs.Node.KeptCalls.{ack-with-kept}
+use Rattle.spec_laws.proofs.Lists.{by-test, and-true, and-left, and-right}
+use Rattle.spec_laws.proofs.Node.Formed.{FormedNode}
+use Rattle.spec_laws.proofs.Node.KeptCalls.{ack-with-kept}
 use Rattle.spec_run.specs.State as real
 use Rattle.spec_run.specs.Step as step
 use Rattle.spec_run.proofs.Protocol.Base.{All, all-snoc, all-nth, upd, upd-same}

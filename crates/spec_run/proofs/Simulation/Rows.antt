@@ -15,9 +15,9 @@ use Rattle.spec.specs.Node.Shown.{retained}
 use Rattle.spec.specs.Node.Ack.{ackedThrough, joins, ackRow, unaligned, settledRow}
 use Rattle.spec.specs.declared.Peer.{Peer}
 use Rattle.spec.specs.declared.DataNodeId.{DataNodeId}
-use Rattle.spec.proofs.Lists.{by-test, not-both, none-some, some-same}
-use Rattle.spec.proofs.Map.Rows.{every-find, find-true, every-update, find-update, find-other}
-use Rattle.spec.proofs.Node.Shards.{update-none}
+use Rattle.spec_laws.proofs.Lists.{by-test, not-both, none-some, some-same}
+use Rattle.spec_laws.proofs.Map.Rows.{every-find, find-true, every-update, find-update, find-other}
+use Rattle.spec_laws.proofs.Node.Shards.{update-none}
 use Rattle.spec_run.proofs.Protocol.Base.{upd-same, upd-other, same-or}
 use Rattle.spec_run.proofs.Protocol.Sets.{member, without, In, in-head, of-cons, of-without, in-without, not-without}
 use Rattle.spec_run.proofs.Protocol.State.{Lead, withPeer, withAck}

@@ -24,9 +24,9 @@ use Rattle.spec.specs.declared.Metric.{Metric}
 use Rattle.spec.specs.declared.Replica.{Replica}
 use Rattle.spec.specs.declared.Peer.{Peer}
 use Rattle.spec.specs.declared.Role as role
-use Rattle.spec.proofs.Lists.{by-test, not-both, and-left, and-right}
-use Rattle.spec.proofs.Node.Formed.{FormedNode, node-formed, formed-node}
-use Rattle.spec.proofs.Node.KeptCalls.{call-shown-kept}
+use Rattle.spec_laws.proofs.Lists.{by-test, not-both, and-left, and-right}
+use Rattle.spec_laws.proofs.Node.Formed.{FormedNode, node-formed, formed-node}
+use Rattle.spec_laws.proofs.Node.KeptCalls.{call-shown-kept}
 use Rattle.spec_run.specs.State as real
 use Rattle.spec_run.specs.Step as step
 use Rattle.spec_run.specs.Fresh.{properId}

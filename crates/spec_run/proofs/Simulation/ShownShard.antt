@@ -22,9 +22,9 @@ use Rattle.spec.specs.declared.Replica.{Replica}
 use Rattle.spec.specs.declared.Peer.{Peer}
 use Rattle.spec.specs.declared.Role as role
 use Rattle.spec.specs.declared.Role.the-variants.{Backup, Primary}
-use Rattle.spec.proofs.Lists.{and-right}
-use Rattle.spec.proofs.Map.Rows.{every-tail, every-find, find-true}
-use Rattle.spec.proofs.Map.WellFormed.{map-parts, shard-parts}
+use Rattle.spec_laws.proofs.Lists.{and-right}
+use Rattle.spec_laws.proofs.Map.Rows.{every-tail, every-find, find-true}
+use Rattle.spec_laws.proofs.Map.WellFormed.{map-parts, shard-parts}
 use Rattle.spec_run.proofs.Protocol.Sets.{In}
 use Rattle.spec_run.proofs.Protocol.State as proto
 use Rattle.spec_run.proofs.Protocol.State.{Map, Lead, Role, backup, lead, Node, withRole, leader}

@@ -28,14 +28,14 @@ use Rattle.spec.specs.Node.WellFormed.{wellFormedHeld, logOf}
 use Rattle.spec.specs.declared.DataNodeId.{DataNodeId}
 use Rattle.spec.specs.declared.Replica.{Replica}
 use Rattle.spec.specs.declared.Peer.{Peer}
-use Rattle.spec.proofs.Lists.{by-test, not-both, none-some, some-same, and-left, and-true, nth-nil}
-use Rattle.spec.proofs.Nearest.Tests.{eqb-comm}
-use Rattle.spec.proofs.Rising.{rising-tail}
-use Rattle.spec.proofs.Map.Orders.{nodes-by-id}
-use Rattle.spec.proofs.Map.Rows.{every-tail, find-true, rising-find, put-most}
-use Rattle.spec.proofs.Map.WellFormed.{map-parts, shard-parts}
-use Rattle.spec.proofs.Node.Formed.{FormedNode}
-use Rattle.spec.proofs.Node.KeptMap.{take-map-kept}
+use Rattle.spec_laws.proofs.Lists.{by-test, not-both, none-some, some-same, and-left, and-true, nth-nil}
+use Rattle.spec_laws.proofs.Nearest.Tests.{eqb-comm}
+use Rattle.spec_laws.proofs.Rising.{rising-tail}
+use Rattle.spec_laws.proofs.Map.Orders.{nodes-by-id}
+use Rattle.spec_laws.proofs.Map.Rows.{every-tail, find-true, rising-find, put-most}
+use Rattle.spec_laws.proofs.Map.WellFormed.{map-parts, shard-parts}
+use Rattle.spec_laws.proofs.Node.Formed.{FormedNode}
+use Rattle.spec_laws.proofs.Node.KeptMap.{take-map-kept}
 use Rattle.spec_run.specs.State as real
 use Rattle.spec_run.specs.Fresh.{Live, AllLive, Created, Shown, Fresh}
 use Rattle.spec_run.proofs.Protocol.Base.{All, upd-same, upd-other}

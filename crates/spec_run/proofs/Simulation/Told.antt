@@ -16,9 +16,9 @@ use Rattle.spec.specs.Node.Ack as ack
 use Rattle.spec.specs.Node.Ack.{OutcomeAnswer, settled, outcomeHeld, outcomeAt, settledRow}
 use Rattle.spec.specs.Node.Calls.{outcomeWith, callOutcome}
 use Rattle.spec.specs.Node.WellFormed.{wellFormedHeader}
-use Rattle.spec.proofs.Lists.{by-test}
-use Rattle.spec.proofs.Node.Formed.{FormedNode}
-use Rattle.spec.proofs.Node.KeptCalls.{outcome-with-kept}
+use Rattle.spec_laws.proofs.Lists.{by-test}
+use Rattle.spec_laws.proofs.Node.Formed.{FormedNode}
+use Rattle.spec_laws.proofs.Node.KeptCalls.{outcome-with-kept}
 use Rattle.spec_run.specs.State as real
 use Rattle.spec_run.specs.Step as step
 use Rattle.spec_run.proofs.Protocol.Base.{All, removeAt}

@@ -20,10 +20,10 @@ use Rattle.spec.specs.Node.Calls.{lateTime, waitWith, callWait}
 use Rattle.spec.specs.Node.WellFormed.{wellFormedHeader}
 use Rattle.spec.specs.declared.Peer.{Peer}
 use Rattle.spec.specs.declared.DataNodeId.{DataNodeId}
-use Rattle.spec.proofs.Lists.{by-test, not-both}
-use Rattle.spec.proofs.Map.Rows.{every-tail, every-find}
-use Rattle.spec.proofs.Node.Formed.{FormedNode}
-use Rattle.spec.proofs.Node.KeptCalls.{wait-with-kept}
+use Rattle.spec_laws.proofs.Lists.{by-test, not-both}
+use Rattle.spec_laws.proofs.Map.Rows.{every-tail, every-find}
+use Rattle.spec_laws.proofs.Node.Formed.{FormedNode}
+use Rattle.spec_laws.proofs.Node.KeptCalls.{wait-with-kept}
 use Rattle.spec_run.specs.State as real
 use Rattle.spec_run.specs.Step as step
 use Rattle.spec_run.proofs.Protocol.Base.{All, all-snoc, all-nth}

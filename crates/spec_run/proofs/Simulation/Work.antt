@@ -32,10 +32,10 @@ use Rattle.spec.specs.declared.Metric.{Metric}
 use Rattle.spec.specs.declared.Peer.{Peer}
 use Rattle.spec.specs.declared.Replica.{Replica}
 use Rattle.spec.specs.declared.Role as role
-use Rattle.spec.proofs.Lists.{by-test, not-both, none-some, nth-taken}
-use Rattle.spec.proofs.LayoutLaws.Data.{length-mapped}
-use Rattle.spec.proofs.LayoutLaws.Messages.{new-epoch-back, replicate-back, copy-back}
-use Rattle.spec.proofs.Log.Numbered.{from-at}
+use Rattle.spec_laws.proofs.Lists.{by-test, not-both, none-some, nth-taken}
+use Rattle.spec_laws.proofs.Wire.Data.{length-mapped}
+use Rattle.spec_laws.proofs.Wire.Messages.{new-epoch-back, replicate-back, copy-back}
+use Rattle.spec_laws.proofs.Log.Numbered.{from-at}
 use Rattle.spec_run.specs.State as real
 use Rattle.spec_run.specs.Step as step
 use Rattle.spec_run.proofs.Protocol.Base.{All, nth-all}

@@ -4,8 +4,8 @@ use mathlib.Core.Bool.{not}
 use lib.Dec.{T}
 use native.Mathlib.Nat.{not-le-of-lt}
 use lib.Ieee.{Float, binary32, ofBits, toBits, isNan}
-use Rattle.spec.proofs.Nearest.Patterns.{number-pattern, plus-pattern}
-use Rattle.spec.proofs.Nearest.NoNan.{sqrt-no-nan}
+use Rattle.spec_laws.proofs.Nearest.Patterns.{number-pattern, plus-pattern}
+use Rattle.spec_laws.proofs.Nearest.NoNan.{sqrt-no-nan}
 use borrow.Author.Needs.{needs}
 use Rattle.test_root.proofs.root_of.Statement.{statement}
 use Rattle.test_root.proofs.root_of.Tie as tie

@@ -19,7 +19,7 @@ use Rattle.spec.specs.declared.Replica.{Replica}
 use Rattle.spec.specs.declared.Role.{Role}
 use Rattle.spec.specs.declared.Role.the-variants.{Backup, Primary}
 use Rattle.spec.specs.declared.Metric.the-variants.{Euclidean}
-use Rattle.spec.proofs.Lists.{not-both}
+use Rattle.spec_laws.proofs.Lists.{not-both}
 use Rattle.spec_run.specs.Fresh.{Created}
 use Rattle.spec_run.proofs.Cases.Opened.{opened}
 use Rattle.spec_run.proofs.Cases.Start as run

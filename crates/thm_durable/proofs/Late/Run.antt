@@ -18,7 +18,7 @@ use Rattle.spec.specs.Node.Ack as ack
 use Rattle.spec.specs.Node.Calls as calls
 use Rattle.spec.specs.declared.Replica.{Replica}
 use Rattle.spec.specs.declared.Metric.the-variants.{Euclidean}
-use Rattle.spec.proofs.Lists.{none-some, some-same, not-both}
+use Rattle.spec_laws.proofs.Lists.{none-some, some-same, not-both}
 use Rattle.spec_run.specs.State.{State, Request, Reply, Write, setRequests, setReplies}
 use Rattle.spec_run.specs.Event.{Event, leaseGranted, clientWrites, nodeWaits, workerSteps, requestArrives, requestRepeats, replyArrives}
 use Rattle.spec_run.specs.Step as step

@@ -13,7 +13,7 @@ use Rattle.spec.specs.Map.Tables as tables
 use Rattle.spec.specs.Layout.Format.{Bytes}
 use Rattle.spec.specs.Layout.Message as message
 use Rattle.spec.specs.Node.Held as held
-use Rattle.spec.proofs.Lists.{by-test}
+use Rattle.spec_laws.proofs.Lists.{by-test}
 use Rattle.spec_run.specs.State.{Write, at}
 use Rattle.spec_run.specs.Event.{Event, leaseGranted, clientWrites, nodeWaits}
 use Rattle.spec_run.specs.Rules.{allowed}

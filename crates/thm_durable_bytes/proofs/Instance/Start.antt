@@ -10,7 +10,7 @@ use Rattle.spec.specs.Lists.{nth, any}
 use Rattle.spec.specs.Map.Change.{holds}
 use Rattle.spec.specs.Layout.Format.{Bytes}
 use Rattle.spec.specs.declared.Replica.{Replica}
-use Rattle.spec.proofs.Lists.{not-both, none-some, some-same}
+use Rattle.spec_laws.proofs.Lists.{not-both, none-some, some-same}
 use Rattle.thm_one_node.specs.Images.{mapBytes, unused, new, shown, stores, room}
 use Rattle.thm_one_node.proofs.Map.{copies, info, tested, created, none-zero, none-above}
 use Rattle.thm_one_node.proofs.Headers.{bytes-unused, bytes-shown}

@@ -5,7 +5,7 @@ use lib.ListN.{length}
 use borrow.Author.Needs.{needs}
 use borrow.Author.Tests.{lt-leb, le-leb, lt-ltb, le-ltb}
 use Rattle.spec.specs.Layout.Format.{below}
-use Rattle.spec.proofs.LayoutLaws.Tests.{and-intro}
+use Rattle.spec_laws.proofs.Wire.Tests.{and-intro}
 use Rattle.wire_shape.proofs.Skips.{no-1, no-2, skip-ok, skip-no}
 use Rattle.wire_shape.proofs.skip_below.Statement.{statement}
 use Rattle.wire_shape.proofs.skip_below.Tie as tie

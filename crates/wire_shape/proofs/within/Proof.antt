@@ -5,7 +5,7 @@ use native.Mathlib.Omega.{arith}
 use native.Mathlib.Nat.{add-zero, sub-zero, sub-self}
 use borrow.Author.Tests.{lt-leb, le-leb}
 use Rattle.spec.specs.Layout.Format.{allWithin}
-use Rattle.spec.proofs.LayoutLaws.Tests.{and-true, and-false}
+use Rattle.spec_laws.proofs.Wire.Tests.{and-true, and-false}
 use Rattle.wire_shape.proofs.Skips.{within-step}
 use Rattle.wire_shape.proofs.within.Statement.{statement}
 use Rattle.wire_shape.proofs.within.Tie as tie

@@ -1,5 +1,5 @@
 -- `held::is_stale` meets its contract. Assumes nothing.
-use Rattle.spec.proofs.Lists.{not-both}
+use Rattle.spec_laws.proofs.Lists.{not-both}
 use mathlib.Core.Bool.{true, false}
 use mathlib.Core.Path.{refl}
 use Rattle.calls_copy.proofs.held.is_stale.Statement.{statement}

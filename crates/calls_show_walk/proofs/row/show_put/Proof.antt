@@ -6,7 +6,7 @@ use mathlib.Core.List.{List, [], _∷_, _++_}
 use Prim.Native.Nat.{ℕ, _+_, _-_, _*_, _≤_, _<_}
 use lib.ListN.{length, getD, take, drop, set}
 use borrow.Author.Tests.{eq-eqb, ne-eqb}
-use Rattle.spec.proofs.Lists.{not-both}
+use Rattle.spec_laws.proofs.Lists.{not-both}
 use Rattle.calls_show_walk.proofs.row.show_put.Statement.{statement}
 use Rattle.calls_show_walk.proofs.row.show_put.Tie as tie
 

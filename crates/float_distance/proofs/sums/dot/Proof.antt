@@ -7,7 +7,7 @@ use borrow.Author.Tests.{ltb-true, ltb-false}
 use lib.ListN.{length, drop}
 use lib.Ieee.{ofBits, binary32, mul}
 use Rattle.spec.specs.Nearest.Distance.{sumFrom, dot}
-use Rattle.spec.proofs.Nearest.Sums.{sum-step, sum-ends-left, sum-ends-right}
+use Rattle.spec_laws.proofs.Nearest.Sums.{sum-step, sum-ends-left, sum-ends-right}
 use Rattle.float_distance.proofs.sums.dot.Statement.{statement}
 use Rattle.float_distance.proofs.sums.dot.Tie as tie
 

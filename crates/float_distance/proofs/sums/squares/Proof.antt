@@ -7,7 +7,7 @@ use borrow.Author.Tests.{ltb-true, ltb-false}
 use lib.ListN.{length, drop}
 use lib.Ieee.{ofBits}
 use Rattle.spec.specs.Nearest.Distance.{sumFrom, square, squares}
-use Rattle.spec.proofs.Nearest.Sums.{sum-step, sum-ends-left, sum-ends-right}
+use Rattle.spec_laws.proofs.Nearest.Sums.{sum-step, sum-ends-left, sum-ends-right}
 use Rattle.float_distance.proofs.sums.squares.Statement.{statement}
 use Rattle.float_distance.proofs.sums.squares.Tie as tie
 

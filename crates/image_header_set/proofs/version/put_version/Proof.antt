@@ -5,7 +5,7 @@ use mathlib.Core.Path.{_≡_, refl, sym, _∙_, ap}
 use mathlib.Core.List.{List, [], _∷_, _++_}
 use Prim.Native.Nat.{ℕ, _+_, _-_, _*_, _≤_, _<_}
 use lib.ListN.{length, getD, take, drop, set}
-use Rattle.spec.proofs.LayoutLaws.Bytes.{length-bytes}
+use Rattle.spec_laws.proofs.Wire.Bytes.{length-bytes}
 use Rattle.image_header_set.proofs.OfVersion.{version-counts, version-back}
 use Rattle.image_header_set.proofs.version.put_version.Statement.{statement}
 use Rattle.image_header_set.proofs.version.put_version.Tie as tie

@@ -7,7 +7,7 @@ use Prim.Native.Nat.{ℕ, _+_, _-_, _*_, _≤_, _<_}
 use lib.ListN.{length, getD, take, drop, set}
 use mathlib.Core.Bool.{true, false}
 use borrow.Author.Tests.{eqb-true, not-false}
-use Rattle.spec.proofs.Lists.{not-both}
+use Rattle.spec_laws.proofs.Lists.{not-both}
 use Rattle.image_map.specs.Image.{mapAt}
 use Rattle.image_header.specs.Image.{nodeAt}
 use Rattle.node_show.proofs.OfBytes.{shards-many}

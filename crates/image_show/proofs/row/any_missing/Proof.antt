@@ -8,7 +8,7 @@ use lib.ListN.{length, getD, take, drop, set}
 use mathlib.Core.Bool.{true, false}
 use Rattle.spec.specs.Node.Shown.{withRows}
 use Rattle.spec.specs.declared.Replica.{Replica}
-use Rattle.spec.proofs.Lists.{not-both}
+use Rattle.spec_laws.proofs.Lists.{not-both}
 use Rattle.node_show_shard.proofs.OfGrow.{grow-end, grow-me, grow-has}
 use Rattle.image_header_row.specs.Rows.{peersAt}
 use Rattle.image_header_check.proofs.OfRows.{peers-long}

@@ -7,7 +7,7 @@ use Prim.Native.Nat.{ℕ, _+_, _-_, _*_, _≤_, _<_}
 use lib.ListN.{length, getD, take, drop, set}
 use mathlib.Core.Bool.{true, false}
 use borrow.Author.Tests.{eqb-true, not-true, not-false}
-use Rattle.spec.proofs.Lists.{not-both}
+use Rattle.spec_laws.proofs.Lists.{not-both}
 use Rattle.image_header_check.proofs.OfRows.{count-is}
 use Rattle.image_parts.specs.Codes.{flagOf}
 use Rattle.image_header_form.proofs.OfFront.{role-is, own-is}

@@ -7,7 +7,7 @@ use Prim.Native.Nat.{ℕ, _+_, _-_, _*_, _≤_, _<_}
 use lib.ListN.{length, getD, take, drop, set}
 use mathlib.Core.Bool.{true, false}
 use borrow.Author.Tests.{not-false}
-use Rattle.spec.proofs.Lists.{not-both}
+use Rattle.spec_laws.proofs.Lists.{not-both}
 use Rattle.image_header_row.specs.Rows.{keptAt}
 use Rattle.image_show.proofs.OfRow.{quiet-led, quiet-left}
 use Rattle.image_show.proofs.row.row_quiet.Statement.{statement}

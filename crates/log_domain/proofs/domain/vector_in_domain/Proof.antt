@@ -7,7 +7,7 @@ use lib.ListN.{drop}
 use Rattle.spec.specs.Lists.{_and_, every}
 use Rattle.spec.specs.Nearest.Order.{bitsInDomain}
 use Rattle.spec.specs.Node.Wire.{patternsInDomain}
-use Rattle.spec.proofs.LayoutLaws.Tests.{and-true}
+use Rattle.spec_laws.proofs.Wire.Tests.{and-true}
 use Rattle.log_domain.specs.Parts.{bitsIn}
 use Rattle.log_domain.proofs.InMessage.{bits-length, bits-within}
 use Rattle.log_domain.proofs.OfBits.{bit-in, tested-on, tested-out, tested-end}

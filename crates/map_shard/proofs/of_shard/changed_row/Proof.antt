@@ -5,7 +5,7 @@ use mathlib.Core.List.{List, [], _∷_, _++_}
 use Prim.Native.Nat.{ℕ, _+_, _-_, _*_, _≤_, _<_}
 use lib.ListN.{length, getD, take, drop, set}
 use Rattle.spec.specs.Map.Change.{decideChange, changed}
-use Rattle.spec.proofs.Map.Shards.{promote-taken}
+use Rattle.spec_laws.proofs.Map.Shards.{promote-taken}
 use Rattle.map_tables.specs.View.{viewShard, changeOf}
 use Rattle.map_tables.specs.declared.Change.{Change}
 use Rattle.map_shard.proofs.OfChange.{add-room, expand-room}

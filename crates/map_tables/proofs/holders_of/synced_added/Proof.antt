@@ -8,7 +8,7 @@ use mathlib.Core.Bool.{true, false}
 use mathlib.Core.Logic.{⊎-elim}
 use borrow.Author.Tests.{lt-ltb, le-ltb}
 use Rattle.spec.specs.Map.Change.{idBelow}
-use Rattle.spec.proofs.Map.Orders.{numbers}
+use Rattle.spec_laws.proofs.Map.Orders.{numbers}
 use Rattle.map_tables.proofs.Tables.{put-self, insert-self, room-self, place-most, carry-on, carried, of-field}
 use Rattle.map_tables.proofs.holders_of.synced_added.Statement.{statement}
 use Rattle.map_tables.proofs.holders_of.synced_added.Tie as tie

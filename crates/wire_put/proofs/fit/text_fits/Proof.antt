@@ -9,7 +9,7 @@ use borrow.Author.Tests.{lt-leb, le-leb}
 use Rattle.spec.specs.Lists.{_and_}
 use Rattle.spec.specs.Layout.Format.{inRange}
 use lib.Seq.{drop-length}
-use Rattle.spec.proofs.LayoutLaws.Tests.{and-true, and-false}
+use Rattle.spec_laws.proofs.Wire.Tests.{and-true, and-false}
 use Rattle.wire_put.specs.Fields.{textFits}
 use Rattle.wire_put.proofs.Writes.{range-step}
 use Rattle.wire_put.proofs.fit.text_fits.Statement.{statement}

@@ -5,7 +5,7 @@ use mathlib.Core.Path.{_≡_, sym, _∙_, ap}
 use Prim.Native.Nat.{ℕ, _-_, _≤_, _<_}
 use native.Mathlib.Nat.{sub-zero}
 use borrow.Author.Tests.{lt-leb, le-leb}
-use Rattle.spec.proofs.LayoutLaws.Tests.{and-true, and-false}
+use Rattle.spec_laws.proofs.Wire.Tests.{and-true, and-false}
 use Rattle.wire_put.specs.Placed.{listsFit}
 use Rattle.wire_put.proofs.Placed.{fit-step}
 use Rattle.wire_put.proofs.lists.lists_fit.Statement.{statement}

@@ -1,6 +1,6 @@
 -- `command::add_at` meets its contract. Assumes nothing.
 use native.Mathlib.Omega.{arith}
-use Rattle.spec.proofs.LayoutLaws.Tests.{and-left}
+use Rattle.spec_laws.proofs.Wire.Tests.{and-left}
 use Rattle.wire_read.proofs.Commands.{add-room}
 use Rattle.wire_read.proofs.command.add_at.Statement.{statement}
 use Rattle.wire_read.proofs.command.add_at.Tie as tie

@@ -1,6 +1,6 @@
 -- `command::change_at` meets its contract. Assumes nothing.
 use native.Mathlib.Omega.{arith}
-use Rattle.spec.proofs.LayoutLaws.Tests.{and-left}
+use Rattle.spec_laws.proofs.Wire.Tests.{and-left}
 use Rattle.wire_read.proofs.Commands.{change-room}
 use Rattle.wire_read.proofs.command.change_at.Statement.{statement}
 use Rattle.wire_read.proofs.command.change_at.Tie as tie

@@ -6,7 +6,7 @@ use borrow.Author.Needs.{needs}
 use borrow.Author.Tests.{leb-true}
 use Rattle.spec.specs.Layout.Format.{word, below, text, _▸_, many}
 use Rattle.spec.specs.Layout.Parts.{u64, keyF, metricF, tableF}
-use Rattle.spec.proofs.LayoutLaws.Tests.{and-left, and-right}
+use Rattle.spec_laws.proofs.Wire.Tests.{and-left, and-right}
 use Rattle.wire_shape.proofs.Skips.{below-there, skip-next, pair-next, pair-bad, same-words, same-many}
 use Rattle.wire_read.proofs.Messages.{head-bad, rest-bad, rest-left, rest-all, key-there, epoch-there, rest-there, same-new-epoch, new-epoch-not, new-epoch-is}
 use Rattle.wire_read.proofs.kinds.read_new_epoch.Statement.{statement}

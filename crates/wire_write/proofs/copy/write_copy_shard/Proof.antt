@@ -5,7 +5,7 @@ use lib.Seq.{sets}
 use borrow.Author.Needs.{needs}
 use Rattle.spec.specs.Lists.{_and_}
 use Rattle.spec.specs.Layout.Parts.{entriesF}
-use Rattle.spec.proofs.LayoutLaws.Tests.{and-intro}
+use Rattle.spec_laws.proofs.Wire.Tests.{and-intro}
 use Rattle.wire_write.specs.Written.{textFits, countFits}
 use Rattle.wire_write.proofs.Writes.{unfit, short, wrote}
 use borrow.Author.Tests.{not-true, not-false}

@@ -7,7 +7,7 @@ use borrow.Author.Needs.{needs}
 use Rattle.spec.specs.Lists.{_and_}
 use Rattle.spec.specs.Layout.Format.{_▸_, bytesOf}
 use Rattle.spec.specs.Layout.Parts.{u64, opF}
-use Rattle.spec.proofs.LayoutLaws.Tests.{and-intro}
+use Rattle.spec_laws.proofs.Wire.Tests.{and-intro}
 use Rattle.wire_write.specs.Written.{textFits, opFits, wireOf, opBytes}
 use Rattle.wire_write.proofs.Writes.{sets-then, unfit, short, wrote}
 use borrow.Author.Tests.{not-true, not-false}

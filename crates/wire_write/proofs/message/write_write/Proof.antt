@@ -5,7 +5,7 @@ use lib.ListN.{length}
 use borrow.Author.Needs.{needs}
 use Rattle.spec.specs.Lists.{_and_}
 use Rattle.spec.specs.Layout.Parts.{opF}
-use Rattle.spec.proofs.LayoutLaws.Tests.{and-intro}
+use Rattle.spec_laws.proofs.Wire.Tests.{and-intro}
 use Rattle.wire_write.specs.Written.{textFits, opFits, wireOf}
 use Rattle.wire_write.proofs.Writes.{unfit, short, wrote}
 use borrow.Author.Tests.{not-true, not-false}

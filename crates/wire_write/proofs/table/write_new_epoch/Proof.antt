@@ -9,7 +9,7 @@ use borrow.Author.Tests.{eq-eqb, ne-eqb}
 use Rattle.spec.specs.Lists.{_and_}
 use Rattle.spec.specs.Layout.Format.{_▸_}
 use Rattle.spec.specs.Layout.Parts.{u64, metricF, tableF}
-use Rattle.spec.proofs.LayoutLaws.Tests.{and-intro}
+use Rattle.spec_laws.proofs.Wire.Tests.{and-intro}
 use Rattle.wire_write.specs.Written.{textFits, countFits}
 use Rattle.wire_write.proofs.Writes.{unfit, short, wrote}
 use borrow.Author.Tests.{not-true, not-false}

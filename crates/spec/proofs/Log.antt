@@ -1,9 +1,0 @@
-pub mod Numbered
-pub mod Table
-pub mod Keep
-pub mod Play
-pub mod Store
-pub mod Ids
-pub mod EditCases
-pub mod Edits
-pub mod EditsMet

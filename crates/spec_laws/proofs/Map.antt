@@ -1,0 +1,12 @@
+pub mod Rows
+pub mod Orders
+pub mod Sessions
+pub mod Sets
+pub mod Shards
+pub mod Lightest
+pub mod Placements
+pub mod Replacements
+pub mod Placed
+pub mod WellFormed
+pub mod Stream
+pub mod InParts
