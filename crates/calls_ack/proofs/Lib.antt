@@ -1,3 +1,3 @@
-pub mod OfHeeds
-pub mod OfDeeds
-pub mod OfAck
+pub mod HeedLaws
+pub mod DeedLaws
+pub mod AckLaws

@@ -10,7 +10,7 @@ use Rattle.node_shard.specs.declared.Acked.{Acked}
 use Rattle.node_shard.specs.declared.Sent.{Sent}
 use Rattle.node_shard.specs.declared.Reply.{Reply}
 use Rattle.node_shard.specs.Acks.{replyOf, AcksHeld}
-use Rattle.node_header.specs.View.{noKept, withShard}
+use Rattle.node_header.specs.View.{noHeldRow, withShard}
 use Rattle.node_header.specs.Arrays.{Trims}
 use Rattle.node_hear.specs.declared.Heard.{Heard}
 use Rattle.node_hear.specs.declared.Heard.the-variants as H
@@ -28,6 +28,6 @@ pub record Heeds (name : List ℕ) (step : ℕ) (reply : List ℕ) (r : Heard) :
 -- internal: the ack at the shard at place `at`
 pub record AcksAt (s t : List ℕ) (at epoch peer : ℕ) (step : Sent) (reply : Reply) (r : ℕ) : Type 0 where
   pub acked : Acked
-  pub held : AcksHeld (getD (nodeAt s .held) at noKept .held) epoch peer step reply acked
+  pub held : AcksHeld (getD (nodeAt s .held) at noHeldRow .held) epoch peer step reply acked
   pub trims : Trims (acked .held) (acked .held)
   pub after : After s t (withShard (nodeAt s) at (acked .held)) (isAcked (acked .answer)) (ackNumber (acked .answer)) r

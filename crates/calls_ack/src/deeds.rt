@@ -6,7 +6,7 @@ ghost use lib.ListN.{length};
 ghost use Rattle.spec.specs.Node.Ack as model;
 ghost use Rattle.node_shard.specs.Acks.{replyOf, doesDeed};
 ghost use Rattle.node_header.specs.View.{keptAs};
-ghost use Rattle.image_header_row.specs.Rows.{keptAt};
+ghost use Rattle.image_header_row.specs.Rows.{heldRowAt};
 ghost use Rattle.image_header_set.specs.Row.{RowBecomes};
 ghost use Rattle.calls_header.specs.Acks.{ackNumber};
 ghost use Rattle.calls_ack.specs.Deeds.{deedHeld, deedAnswer};
@@ -81,8 +81,8 @@ fn unaligned(p: Peer) -> Peer
 // Internal: the deed done to the row, of whose peers the i-th replied; tells the answer's number.
 pub fn set_deed(out: &mut [u8], row: usize, i: usize, d: Deed) -> u32
     requires { ⌜ (row + 1280 ≤ length (now out)) × (i < 32) ⌝ }
-    ensures { λ r. ⌜ (r ≡ ackNumber (deedAnswer d i (keptAt (now (out .entry)) row .held)))
-        × RowBecomes (now (out .entry)) (now (out .exit)) row (keptAs (keptAt (now (out .entry)) row) (deedHeld d i (keptAt (now (out .entry)) row .held))) ⌝ }
+    ensures { λ r. ⌜ (r ≡ ackNumber (deedAnswer d i (heldRowAt (now (out .entry)) row .held)))
+        × RowBecomes (now (out .entry)) (now (out .exit)) row (keptAs (heldRowAt (now (out .entry)) row) (deedHeld d i (heldRowAt (now (out .entry)) row .held))) ⌝ }
 {
     let place = row + PEERS + 32 * i;
     match d {

@@ -1,7 +1,7 @@
-pub mod OfPlaces
-pub mod OfRemember
-pub mod OfSettled
-pub mod OfChanged
-pub mod OfNodes
-pub mod OfCollections
-pub mod OfCall
+pub mod Places
+pub mod RememberLaws
+pub mod SettledLaws
+pub mod ChangedLaws
+pub mod NodeLaws
+pub mod Collections
+pub mod Call

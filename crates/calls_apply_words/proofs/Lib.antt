@@ -1,2 +1,2 @@
-pub mod OfWords
-pub mod OfCall
+pub mod Words
+pub mod Call

@@ -1,2 +1,2 @@
-pub mod OfSearched
-pub mod OfWritten
+pub mod Searched
+pub mod Written

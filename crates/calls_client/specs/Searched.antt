@@ -11,7 +11,7 @@ use Rattle.spec.specs.Layout.Message.{Query, decodeSearch}
 use Rattle.spec.specs.Node.Wire.{patternsInDomain}
 use Rattle.spec.specs.Node.Calls.{lateTime}
 use Rattle.image_header.specs.Image.{nodeAt}
-use Rattle.image_node.specs.Lent.{lendsState, lotIn}
+use Rattle.image_node.specs.Lent.{lendsState, lentStoreIn}
 use Rattle.calls_client_out.specs.Count.{countLent, countPut}
 use Rattle.calls_client_out.specs.Found.{SearchEnded, ended, SearchServed}
 
@@ -22,14 +22,14 @@ lendsCall c h s k = countLent c and lendsState h s k
 -- at the shard of a key: 24 where the images lend no state
 pub record SearchesShard (h s : List ℕ) (key : Key) (clock : ℕ) (m hits answer : List ℕ) (e : SearchEnded) : Type 0 where
   pub unlent : lendsState h s key ≡ false → e ≡ ended 24 hits answer
-  pub lent : lendsState h s key ≡ true → SearchServed (nodeAt h) (lotIn s (nodeAt h) key) m clock hits answer e
+  pub lent : lendsState h s key ≡ true → SearchServed (nodeAt h) (lentStoreIn s (nodeAt h) key) m clock hits answer e
 
 -- past 21, for what the bytes m were read as
 pub record SearchesQuery (h s c : List ℕ) (clock : ℕ) (m hits answer : List ℕ) (v : Query) (e : SearchEnded) : Type 0 where
   pub outside : patternsInDomain (v .bits) ≡ false → e ≡ ended 22 hits answer
   pub unlent : patternsInDomain (v .bits) ≡ true → lendsCall c h s (v .key) ≡ false → e ≡ ended 24 hits answer
   pub lent : patternsInDomain (v .bits) ≡ true → lendsCall c h s (v .key) ≡ true
-      → SearchServed (nodeAt h) (lotIn s (nodeAt h) (v .key)) m clock hits answer e
+      → SearchServed (nodeAt h) (lentStoreIn s (nodeAt h) (v .key)) m clock hits answer e
 
 -- h, s and c the header, the stores and the count of refused calls
 pub record SearchesBytes (h s c : List ℕ) (clock : ℕ) (m hits answer : List ℕ) (e : SearchEnded) : Type 0 where

@@ -11,10 +11,10 @@ use Rattle.spec.specs.Layout.Message as message
 use Rattle.spec.specs.Node.Wire.{opInDomain}
 use Rattle.spec.specs.Node.Client as client
 use Rattle.spec.specs.Node.Calls.{lateTime, writeWith}
-use Rattle.node_header.specs.Seats.{slotsOf}
+use Rattle.node_header.specs.Slots.{slotsOf}
 use Rattle.image_header.specs.Image.{nodeAt}
-use Rattle.node_lent.specs.Lend.{Lot, placeOf}
-use Rattle.image_node.specs.Lent.{lendsState, lotIn}
+use Rattle.node_lent.specs.Lend.{LentStore, placeOf}
+use Rattle.image_node.specs.Lent.{lendsState, lentStoreIn}
 use Rattle.image_node.specs.State.{StateAfter}
 use Rattle.node_write.specs.declared.WriteAnswer.{WriteAnswer}
 use Rattle.node_write.specs.ClientWrites.{turnedDown, WritesAt}
@@ -30,9 +30,9 @@ buffers h s a = parts.buffers h s a
 -- past 24: some columns and answer that the call leaves on the state which the bytes lend, and what the caller gets of them. Accepted, and its
 -- offset told, the images that it leaves are read as the node after
 pub record WriteServed (b : Buffers) (key : Key) (clock least : ℕ) (m : List ℕ) (e : WriteEnded) : Type 0 where
-  pub left : Lot
+  pub left : LentStore
   pub told : WriteAnswer
-  pub call : WritesAt (nodeAt (b .header)) (lotIn (b .stores) (nodeAt (b .header)) key) left clock least m 0 told
+  pub call : WritesAt (nodeAt (b .header)) (lentStoreIn (b .stores) (nodeAt (b .header)) key) left clock least m 0 told
   pub is : e ≡ writeEnded b (nodeAt (b .header)) (placeOf (nodeAt (b .header)) key) left told
   pub state : turnedDown (told .answer) ≡ false → e .number ≡ 0
       → StateAfter client.WriteAnswer (λ lent v. writeWith lent v clock least m) (b .header) (b .stores) (e .left .header) (e .left .stores) key (slotsOf (told .node))

@@ -1,5 +1,5 @@
-pub mod OfCount
-pub mod OfHits
-pub mod OfRoom
-pub mod OfFound
-pub mod OfEnds
+pub mod CountLaws
+pub mod HitLaws
+pub mod Room
+pub mod Found
+pub mod Ends

@@ -5,7 +5,7 @@ use mathlib.Core.Bool.{false, cond}
 use mathlib.Core.List.{List}
 use Rattle.node_header.specs.declared.Node.{Node}
 use Rattle.image_header.specs.Image.{headerWritten}
-use Rattle.node_lent.specs.Lend.{Lot}
+use Rattle.node_lent.specs.Lend.{LentStore}
 use Rattle.image_node.specs.Lent.{storesPut, Puts}
 use Rattle.calls_parts.specs.Answer.{answerLent, numberPut}
 use Rattle.node_write.specs.declared.WriteReply.{WriteReply}
@@ -41,10 +41,10 @@ endedAs b h s (R.NotPrimary e) = ended 18 (buffers (b .header) (b .stores) (numb
 endedAs b h s (R.Refused x) = ended x b
 
 -- n the header before, `at` the shard's place in it, l the columns after
-abbrev pub writeEnded : Buffers → (n : Node) (at : ℕ) → Lot → WriteAnswer → WriteEnded
+abbrev pub writeEnded : Buffers → (n : Node) (at : ℕ) → LentStore → WriteAnswer → WriteEnded
 writeEnded b n at l w = endedAs b (headerWritten (b .header) (w .node)) (storesPut (b .stores) n (w .node) l at) (w .answer)
 
 -- what the caller gets; an accepted write whose offset was told has written what it left
-pub record WriteFinished (b : Buffers) (n : Node) (at : ℕ) (l : Lot) (w : WriteAnswer) (e : WriteEnded) : Type 0 where
+pub record WriteFinished (b : Buffers) (n : Node) (at : ℕ) (l : LentStore) (w : WriteAnswer) (e : WriteEnded) : Type 0 where
   pub is : e ≡ writeEnded b n at l w
   pub puts : turnedDown (w .answer) ≡ false → e .number ≡ 0 → Puts (b .header) (e .left .header) (b .stores) (e .left .stores) n (w .node) l at

@@ -9,7 +9,7 @@ use lib.Seq.{sets}
 use Rattle.spec.specs.Limits.{maxEntries}
 use Rattle.spec.specs.Node.Wire.{floatOf}
 use Rattle.node_header.specs.declared.Node.{Node}
-use Rattle.node_lent.specs.Lend.{Lot}
+use Rattle.node_lent.specs.Lend.{LentStore}
 use Rattle.calls_parts.specs.Answer.{answerLent, numberPut}
 use Rattle.node_search.specs.declared.SearchAnswer.{SearchAnswer}
 use Rattle.node_search.specs.declared.SearchAnswer.the-variants as S
@@ -47,7 +47,7 @@ searchEnded o a p (S.Refused x) = ended x o a
 -- ---- the call
 
 -- past 24: some columns and answer that the call leaves on this state, and what the caller gets of them
-pub record SearchServed (n : Node) (a : Lot) (m : List ℕ) (clock : ℕ) (hits answer : List ℕ) (e : SearchEnded) : Type 0 where
+pub record SearchServed (n : Node) (a : LentStore) (m : List ℕ) (clock : ℕ) (hits answer : List ℕ) (e : SearchEnded) : Type 0 where
   pub left : Output
   pub told : NodeSearched
   pub call : SearchesAt n a m clock (freshHits (hitsLent hits)) left 0 told

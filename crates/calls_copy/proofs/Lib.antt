@@ -1,2 +1,2 @@
-pub mod OfBatch
-pub mod OfCopy
+pub mod BatchLaws
+pub mod CopyLaws

@@ -9,7 +9,7 @@ ghost use Rattle.spec.specs.Node.Wire.{entryInDomain, storedEntry};
 ghost use Rattle.log_domain.specs.Parts.{entriesIn, EntriesThere};
 ghost use Rattle.image_header.specs.Image.{nodeAt};
 ghost use Rattle.image_header_check.specs.Rows.{Counts};
-ghost use Rattle.image_node.specs.State.{keptImage};
+ghost use Rattle.image_node.specs.State.{heldRowImage};
 ghost use Rattle.image_node_grow.specs.Grow.{rowIn};
 ghost use Rattle.image_node_batch.specs.Batch.{HoldsAll};
 ghost use Rattle.calls_copy.specs.Asked.{GrowsAll};
@@ -26,7 +26,7 @@ use wire_read::Part;
 // The batch, for which there is room, at the shard at place `at`. Answers how many entries its log has then.
 pub fn grow_all(header: &mut [u8], stores: &mut [u8], at: usize, message: &[u8], p: Part) -> u64
     requires { ⌜ Counts (now header) (nodeAt (now header) .count) × (at < nodeAt (now header) .count) × (rowIn (now header) at .slot < 8)
-        × (1392640 ≤ length (now stores)) × (keptImage (now stores) (rowIn (now header) at) ≡ true)
+        × (1392640 ≤ length (now stores)) × (heldRowImage (now stores) (rowIn (now header) at) ≡ true)
         × EntriesThere (now message) p × (every entryInDomain (entriesIn (now message) p) ≡ true)
         × HoldsAll (entriesIn (now message) p) (rowIn (now header) at .held .last) ⌝ }
     ensures { λ r. ⌜ GrowsAll (now (header .entry)) (now (header .exit)) (now (stores .entry)) (now (stores .exit)) at

@@ -1,1 +1,1 @@
-pub mod OfAnswer
+pub mod AnswerLaws

@@ -1,3 +1,3 @@
-pub mod OfAligned
-pub mod OfNewEpoch
-pub mod OfBegin
+pub mod Aligned
+pub mod NewEpoch
+pub mod Begin

@@ -13,7 +13,7 @@ ghost use Rattle.node_lent.specs.Lend.{withStore};
 ghost use Rattle.image_store_check.specs.Test.{Stands};
 ghost use Rattle.image_node_check.specs.Find.{AbsentIn, FoundIn};
 ghost use Rattle.image_node_grow.specs.Grow.{rowIn};
-ghost use Rattle.node_epoch.specs.Announces.{AnnouncesAt};
+ghost use Rattle.node_epoch.specs.NewEpochs.{NewEpochsAt};
 ghost use Rattle.calls_peer.specs.PeerCalls.{AtShard, announces, buffers};
 ghost use Rattle.calls_epoch.specs.Asked.{Asked, staleBy, Keeps};
 use calls_peer_out::put_reply;
@@ -102,7 +102,7 @@ fn adopt_at(
 ) -> u32
     requires { ⌜ FoundIn (now header) (now stores) (viewKey key) at × Asked (now message) p (viewKey key) × (9 ≤ length (now reply))
         × (staleBy (rowIn (now header) at .held .role) (rowIn (now header) at .held .epoch .0) (p .epoch .0) ≡ false) ⌝ }
-    ensures { λ r. ⌜ AtShard AnnouncesAt announces (viewKey key) (now (message .entry))
+    ensures { λ r. ⌜ AtShard NewEpochsAt announces (viewKey key) (now (message .entry))
         (buffers (now (header .entry)) (now (stores .entry)) (now (reply .entry)))
         (buffers (now (header .exit)) (now (stores .exit)) (now (reply .exit))) r ⌝ }
 {
@@ -134,7 +134,7 @@ fn new_epoch_at(
     reply: &mut [u8],
 ) -> u32
     requires { ⌜ FoundIn (now header) (now stores) (viewKey key) at × Asked (now message) p (viewKey key) ⌝ }
-    ensures { λ r. ⌜ AtShard AnnouncesAt announces (viewKey key) (now (message .entry))
+    ensures { λ r. ⌜ AtShard NewEpochsAt announces (viewKey key) (now (message .entry))
         (buffers (now (header .entry)) (now (stores .entry)) (now (reply .entry)))
         (buffers (now (header .exit)) (now (stores .exit)) (now (reply .exit))) r ⌝ }
 {
@@ -161,7 +161,7 @@ fn begin_at(
     reply: &mut [u8],
 ) -> u32
     requires { ⌜ AbsentIn (now header) (now stores) (viewKey key) × Asked (now message) p (viewKey key) ⌝ }
-    ensures { λ r. ⌜ AtShard AnnouncesAt announces (viewKey key) (now (message .entry))
+    ensures { λ r. ⌜ AtShard NewEpochsAt announces (viewKey key) (now (message .entry))
         (buffers (now (header .entry)) (now (stores .entry)) (now (reply .entry)))
         (buffers (now (header .exit)) (now (stores .entry)) (now (reply .exit))) r ⌝ }
 {
@@ -187,7 +187,7 @@ pub fn at_shard(
     reply: &mut [u8],
 ) -> u32
     requires { ⌜ Asked (now message) p (viewKey key) ⌝ }
-    ensures { λ r. ⌜ AtShard AnnouncesAt announces (viewKey key) (now (message .entry))
+    ensures { λ r. ⌜ AtShard NewEpochsAt announces (viewKey key) (now (message .entry))
         (buffers (now (header .entry)) (now (stores .entry)) (now (reply .entry)))
         (buffers (now (header .exit)) (now (stores .exit)) (now (reply .exit))) r ⌝ }
 {

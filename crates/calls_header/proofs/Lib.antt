@@ -1,8 +1,8 @@
-pub mod OfAsked
-pub mod OfLeaves
-pub mod OfStays
-pub mod OfKept
-pub mod OfCalls
-pub mod OfFresh
-pub mod OfWaits
-pub mod OfStarts
+pub mod Asked
+pub mod Leaves
+pub mod Stays
+pub mod Kept
+pub mod Calls
+pub mod Fresh
+pub mod Waits
+pub mod Starts

@@ -20,7 +20,7 @@ use Rattle.node_shard.specs.Acks.{sentOf}
 use Rattle.node_header.specs.declared.NodeAcked.{NodeAcked}
 use Rattle.node_header.specs.View.{Stores, viewNode}
 use Rattle.node_header.specs.Formed.{lentNode}
-use Rattle.node_header.specs.Seats.{Keeps}
+use Rattle.node_header.specs.Slots.{Keeps}
 use Rattle.node_hear.specs.Hears.{HearsReply}
 use Rattle.wire_write.specs.Written.{keyGiven}
 use Rattle.image_header.specs.Image.{headerLent, nodeAt}

@@ -15,7 +15,7 @@ use Rattle.node_header.specs.declared.NodeGranted.{NodeGranted}
 use Rattle.node_header.specs.Answers.{GrantsNode}
 use Rattle.node_header.specs.View.{Stores, viewNode}
 use Rattle.node_header.specs.Formed.{lentNode}
-use Rattle.node_header.specs.Seats.{Keeps}
+use Rattle.node_header.specs.Slots.{Keeps}
 use Rattle.image_header.specs.Image.{headerLent, nodeAt}
 use Rattle.calls_header.specs.Asked.{Asked, imageAfter}
 use Rattle.calls_header.specs.Leaves.{LeavesSlots, Stays, StaysFormed}

@@ -10,7 +10,7 @@ use Rattle.spec.specs.Node.Held as held
 use Rattle.spec.specs.Node.WellFormed.{wellFormedHeader}
 use Rattle.node_header.specs.View.{Stores, viewNode}
 use Rattle.node_header.specs.Formed.{formedNode}
-use Rattle.node_header.specs.Seats.{slotsOf}
+use Rattle.node_header.specs.Slots.{slotsOf}
 use Rattle.image_header.specs.Image.{headerLent, nodeAt}
 use Rattle.image_header.specs.Becomes.{Counted, tableFits, headerImage}
 
@@ -20,7 +20,7 @@ pub record Leaves (s t : List ℕ) (after : Stores → held.Node) (slots : Store
   pub bytes : (st : Stores) → Counted st → t ≡ sets s 0 (headerImage (after st) (slots st))
   pub lent : headerLent t ≡ true
   pub read : (st : Stores) → viewNode st (nodeAt t) ≡ after st
-  pub seats : (st : Stores) → slotsOf (nodeAt t) ≡ slots st
+  pub slotsAre : (st : Stores) → slotsOf (nodeAt t) ≡ slots st
 
 -- a call that begins no shard and ends none: each has the slot that it had
 abbrev pub LeavesSlots : (s t : List ℕ) → (after : Stores → held.Node) → Type 0

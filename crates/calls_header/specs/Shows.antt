@@ -17,7 +17,7 @@ use Rattle.map_check.specs.Lent.{wellFormedLent}
 use Rattle.node_header.specs.declared.Node.{Node}
 use Rattle.node_header.specs.View.{Stores, viewNode}
 use Rattle.node_header.specs.Formed.{lentNode}
-use Rattle.node_header.specs.Seats.{slotsOf}
+use Rattle.node_header.specs.Slots.{slotsOf}
 use Rattle.node_show.specs.declared.NodeShown.{NodeShown}
 use Rattle.node_show.specs.declared.ShownAnswer.{ShownAnswer}
 use Rattle.node_show.specs.declared.ShownAnswer.the-variants as S

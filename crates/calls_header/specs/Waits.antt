@@ -21,7 +21,7 @@ use Rattle.node_header.specs.declared.NodeWaited.{NodeWaited}
 use Rattle.node_header.specs.Answers.{WaitsNode}
 use Rattle.node_header.specs.View.{Stores, viewNode}
 use Rattle.node_header.specs.Formed.{lentNode}
-use Rattle.node_header.specs.Seats.{Keeps}
+use Rattle.node_header.specs.Slots.{Keeps}
 use Rattle.wire_write.specs.Written.{keyGiven}
 use Rattle.calls_parts.specs.Answer.{answerLent, numberPut}
 use Rattle.image_header.specs.Image.{headerLent, nodeAt, headerWritten}

@@ -1,6 +1,6 @@
-pub mod OfBytes
+pub mod Bytes
 pub mod Walks
-pub mod OfBuckets
-pub mod OfCursors
-pub mod OfMerge
-pub mod OfCalls
+pub mod Buckets
+pub mod Cursors
+pub mod MergeLaws
+pub mod Calls

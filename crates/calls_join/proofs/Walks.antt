@@ -11,7 +11,7 @@ use Rattle.spec.specs.Lists.{_and_, every, rising}
 use Rattle.spec.specs.Layout.Format.{numberAt}
 use Rattle.spec_join.specs.Join.{Hit, Answer, nearerHit, inOrder, shardBelow, allHits}
 use Rattle.calls_join.specs.View.{hitAt, hitsAt, countAt, answerAt, afterAt, answersAt}
-use Rattle.calls_join.proofs.OfBytes.{answers-first, hits-first, hits-length}
+use Rattle.calls_join.proofs.Bytes.{answers-first, hits-first, hits-length}
 
 module _ (s : List ℕ) where
   -- ---- hits in order

@@ -1,5 +1,5 @@
 -- The answers of a collection's shards where they stand in the lent bytes (Rattle.spec_join.specs.Answers): by positions and counts, as loops go
--- through them. That these are what the format says is a law (proofs/OfBytes.antt). Definitions only.
+-- through them. That these are what the format says is a law (proofs/Bytes.antt). Definitions only.
 use Prim.Native.Nat.{ℕ, zero, suc, _+_, _*_}
 use mathlib.Core.Path.{_≡_}
 use mathlib.Core.Bool.{Bool, true}

@@ -1,2 +1,2 @@
-pub mod OfRows
-pub mod OfCalls
+pub mod RowLaws
+pub mod Calls

@@ -1,8 +1,8 @@
-pub mod OfNumbers
+pub mod NumberLaws
 pub mod Kept
-pub mod OfFormed
-pub mod OfApply
-pub mod OfEmpty
-pub mod OfLists
-pub mod OfPlacement
-pub mod OfPlaces
+pub mod Formed
+pub mod Apply
+pub mod Empty
+pub mod ListLaws
+pub mod Placement
+pub mod Places

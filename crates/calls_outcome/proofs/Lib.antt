@@ -1,2 +1,2 @@
-pub mod OfSettle
-pub mod OfOutcome
+pub mod SettleLaws
+pub mod OutcomeLaws

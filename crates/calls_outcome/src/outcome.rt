@@ -1,6 +1,6 @@
 // Outcome of a proposal: the call.
 ghost use mathlib.Core.Path.{_≡_};
-ghost use Rattle.calls_header.specs.Settles.{unreadOutcome, proposalAt, Settles};
+ghost use Rattle.calls_header.specs.Outcomes.{unreadOutcome, proposalAt, Settles};
 use crate::settle::settle_row;
 use calls_parts::named::key_named;
 use image_header::is_lent;

@@ -2,7 +2,7 @@
 ghost use Prim.Native.Nat.{_+_, _≤_};
 ghost use lib.ListN.{length};
 ghost use Rattle.spec.specs.Layout.Format.{numberAt};
-ghost use Rattle.calls_outcome.specs.Settled.{SettlesRow};
+ghost use Rattle.calls_outcome.specs.Settled.{OutcomesRow};
 use image_header_row::held::role_at;
 use image_header_row::peers::peer_at;
 use image_header_set::peers::place_of;
@@ -19,7 +19,7 @@ const PEERS: usize = 256;
 // Internal: nothing without a primary at that epoch; the peer's row, if it has one, and whether the node stays in its own ack set.
 pub fn settle_row(out: &mut [u8], row: usize, me: u64, epoch: u64, peer: u64, left: bool)
     requires { ⌜ (row + 1280 ≤ length (now out)) × (numberAt 8 (now out) (row + 88) ≤ 32) ⌝ }
-    ensures { λ _. ⌜ SettlesRow (now (out .entry)) (now (out .exit)) row me epoch peer left ⌝ }
+    ensures { λ _. ⌜ OutcomesRow (now (out .entry)) (now (out .exit)) row me epoch peer left ⌝ }
 {
     let role = role_at(out, row + 108);
     if !leads(role, epoch) {

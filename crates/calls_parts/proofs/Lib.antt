@@ -1,2 +1,2 @@
-pub mod OfAnswer
-pub mod OfKey
+pub mod AnswerLaws
+pub mod KeyLaws

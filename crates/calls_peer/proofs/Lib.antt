@@ -1,3 +1,3 @@
-pub mod OfServes
-pub mod OfStates
-pub mod OfMessages
+pub mod Serves
+pub mod States
+pub mod Messages

@@ -15,14 +15,14 @@ use Rattle.spec.specs.Node.Backup.{BackupAnswer}
 use Rattle.spec.specs.Node.Calls as calls
 use Rattle.spec.specs.Node.Wire.{opInDomain, entryInDomain}
 use Rattle.node_header.specs.declared.Node.{Node}
-use Rattle.node_header.specs.Seats.{slotsOf}
+use Rattle.node_header.specs.Slots.{slotsOf}
 use Rattle.image_header.specs.Image.{nodeAt}
-use Rattle.node_lent.specs.Lend.{Lot, placeOf}
-use Rattle.image_node.specs.Lent.{lendsState, lotIn}
+use Rattle.node_lent.specs.Lend.{LentStore, placeOf}
+use Rattle.image_node.specs.Lent.{lendsState, lentStoreIn}
 use Rattle.image_node.specs.State.{StateAfter}
 use Rattle.node_replicate.specs.declared.PeerAnswer.{PeerAnswer}
 use Rattle.node_replicate.specs.Peers.{turnedDown, ReplicatesAt, CopiesAt}
-use Rattle.node_epoch.specs.Announces.{AnnouncesAt}
+use Rattle.node_epoch.specs.NewEpochs.{NewEpochsAt}
 use Rattle.calls_peer_out.specs.Ends as ends
 use Rattle.calls_peer_out.specs.Ends.{Buffers, ended, endedWith}
 
@@ -40,21 +40,21 @@ Turned number b c r = (r ≡ number) × (c ≡ b)
 
 -- the state was lent: what the call answered, and the header and the columns that it left, are those of its own contract, of the header
 -- and the columns that the bytes at entry are read as. Not turned down, and its reply sent, it leaves images that are read as the node after
-pub record Passed (Call : Node → (a b : Lot) → List ℕ → PeerAnswer → Type 0) (does : Deed) (key : Key) (m : List ℕ) (b c : Buffers) (r : ℕ) : Type 0 where
+pub record Passed (Call : Node → (a b : LentStore) → List ℕ → PeerAnswer → Type 0) (does : Deed) (key : Key) (m : List ℕ) (b c : Buffers) (r : ℕ) : Type 0 where
   pub after : PeerAnswer
-  pub columns : Lot
-  pub called : Call (nodeAt (b .header)) (lotIn (b .stores) (nodeAt (b .header)) key) columns m after
+  pub columns : LentStore
+  pub called : Call (nodeAt (b .header)) (lentStoreIn (b .stores) (nodeAt (b .header)) key) columns m after
   pub ends : ended r c ≡ endedWith b (nodeAt (b .header)) (placeOf (nodeAt (b .header)) key) columns after
   pub state : turnedDown (after .answer) ≡ false → r ≡ 0
       → StateAfter BackupAnswer (does m) (b .header) (b .stores) (c .header) (c .stores) key (slotsOf (after .node))
 
 -- at the shard of a key: 24 where the bytes lend no state
-pub record AtShard (Call : Node → (a b : Lot) → List ℕ → PeerAnswer → Type 0) (does : Deed) (key : Key) (m : List ℕ) (b c : Buffers) (r : ℕ) : Type 0 where
+pub record AtShard (Call : Node → (a b : LentStore) → List ℕ → PeerAnswer → Type 0) (does : Deed) (key : Key) (m : List ℕ) (b c : Buffers) (r : ℕ) : Type 0 where
   pub unlent : lendsState (b .header) (b .stores) key ≡ false → Turned 24 b c r
   pub lent : lendsState (b .header) (b .stores) key ≡ true → Passed Call does key m b c r
 
 -- a message m that is read as `read`, is in the domain if `fine` and names the shard `key`; the buffers b at entry, c at exit, r the answer
-pub record Serves (A : Type 0) (read : Option A) (fine : A → Bool) (key : A → Key) (Call : Node → (a b : Lot) → List ℕ → PeerAnswer → Type 0) (does : Deed)
+pub record Serves (A : Type 0) (read : Option A) (fine : A → Bool) (key : A → Key) (Call : Node → (a b : LentStore) → List ℕ → PeerAnswer → Type 0) (does : Deed)
     (m : List ℕ) (b c : Buffers) (r : ℕ) : Type 0 where
   pub undecoded : read ≡ none → Turned 21 b c r
   pub outside : (v : A) → read ≡ some v → fine v ≡ false → Turned 22 b c r
@@ -72,7 +72,7 @@ abbrev pub announces : Deed
 announces m lent v = calls.newEpochWith lent v m
 
 abbrev pub AnnouncesImage : List ℕ → (b c : Buffers) → ℕ → Type 0
-AnnouncesImage m = Serves message.NewEpoch (message.decodeNewEpoch m) (λ v. true) (λ v. v .key) AnnouncesAt announces m
+AnnouncesImage m = Serves message.NewEpoch (message.decodeNewEpoch m) (λ v. true) (λ v. v .key) NewEpochsAt announces m
 
 -- 22
 abbrev pub copies : Deed

@@ -1,1 +1,1 @@
-pub mod OfEnds
+pub mod Ends

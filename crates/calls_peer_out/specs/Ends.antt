@@ -13,7 +13,7 @@ use Rattle.wire_write.specs.declared.Reply.{Reply}
 use Rattle.wire_write.specs.Written.{replyGiven}
 use Rattle.node_header.specs.declared.Node.{Node}
 use Rattle.image_header.specs.Image.{headerWritten}
-use Rattle.node_lent.specs.Lend.{Lot}
+use Rattle.node_lent.specs.Lend.{LentStore}
 use Rattle.image_node.specs.Lent.{storesPut, Puts}
 use Rattle.node_replicate.specs.declared.PeerReply.{PeerReply}
 use Rattle.node_replicate.specs.declared.PeerReply.the-variants as P
@@ -54,7 +54,7 @@ endedAs b h s (P.Adopted o) = sends b h s (message.replyAdopted (o .0))
 endedAs b h s (P.Refused r) = ended r b
 
 -- .. those with the header that the call left and, in the slot of the shard at a place of the header n before it, the columns l
-abbrev pub endedWith : Buffers → (n : Node) (at : ℕ) → Lot → PeerAnswer → Ended
+abbrev pub endedWith : Buffers → (n : Node) (at : ℕ) → LentStore → PeerAnswer → Ended
 endedWith b n at l a = endedAs b (headerWritten (b .header) (a .node)) (storesPut (b .stores) n (a .node) l at) (a .answer)
 
 -- the answer as a refusal, or as a reply beside a state that stays or was made
@@ -71,6 +71,6 @@ pub record Replies (w : Reply) (s t : List ℕ) (r : ℕ) : Type 0 where
   pub bytes : t ≡ cond (leb 9 (length s)) (sets s 0 (message.encodeReply (replyGiven w))) s
 
 -- the buffers b became c with the number r; a call that was not turned down has written what it left, if its reply was sent
-pub record Finished (b c : Buffers) (n : Node) (at : ℕ) (l : Lot) (a : PeerAnswer) (r : ℕ) : Type 0 where
+pub record Finished (b c : Buffers) (n : Node) (at : ℕ) (l : LentStore) (a : PeerAnswer) (r : ℕ) : Type 0 where
   pub ends : ended r c ≡ endedWith b n at l a
   pub puts : turnedDown (a .answer) ≡ false → r ≡ 0 → Puts (b .header) (c .header) (b .stores) (c .stores) n (a .node) l at

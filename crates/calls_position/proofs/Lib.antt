@@ -1,5 +1,5 @@
-pub mod OfPattern
-pub mod OfBytes
+pub mod Pattern
+pub mod Bytes
 pub mod Answered
-pub mod OfVector
+pub mod Vector
 pub mod Cases

@@ -1,1 +1,1 @@
-pub mod OfReplicate
+pub mod ReplicateLaws

@@ -1,3 +1,3 @@
-pub mod OfHits
-pub mod OfHeld
-pub mod OfMessage
+pub mod HitLaws
+pub mod HeldLaws
+pub mod Message

@@ -4,8 +4,8 @@ ghost use mathlib.Core.Bool.{true};
 ghost use Rattle.spec.specs.Node.WellFormed.{wellFormedVector};
 ghost use Rattle.map_tables.specs.Names.{viewKey};
 ghost use Rattle.image_header.specs.Image.{nodeAt};
-ghost use Rattle.image_node.specs.Lent.{lotIn};
-ghost use Rattle.image_node_check.specs.Find.{keptIn, FoundIn};
+ghost use Rattle.image_node.specs.Lent.{lentStoreIn};
+ghost use Rattle.image_node_check.specs.Find.{heldRowIn, FoundIn};
 ghost use Rattle.calls_client_out.specs.Found.{ended};
 ghost use Rattle.calls_search.specs.Served.{NamedServed, NearestHeld};
 use crate::hits::put_found;
@@ -44,7 +44,7 @@ fn nearest_held(
     k: u32,
 ) -> Hits
     requires { ⌜ FoundIn (now header) (now stores) (viewKey key) at × (wellFormedVector (now query) ≡ true) ⌝ }
-    ensures { λ r. ⌜ NearestHeld (now (stores .entry)) (keptIn (now (header .entry)) (now (stores .entry)) (viewKey key) at) (now (query .entry)) k r ⌝ }
+    ensures { λ r. ⌜ NearestHeld (now (stores .entry)) (heldRowIn (now (header .entry)) (now (stores .entry)) (viewKey key) at) (now (query .entry)) k r ⌝ }
 {
     let row = ROWS + ROW * at;
     let slot = num::get8(header, row + SLOT) as usize;
@@ -69,7 +69,7 @@ pub fn search_held(
     answer: &mut [u8],
 ) -> u8
     requires { ⌜ FoundIn (now header) (now stores) (viewKey key) at × (wellFormedVector (now query) ≡ true) ⌝ }
-    ensures { λ r. ⌜ NamedServed (nodeAt (now (header .entry))) (lotIn (now (stores .entry)) (nodeAt (now (header .entry))) (viewKey key)) (viewKey key)
+    ensures { λ r. ⌜ NamedServed (nodeAt (now (header .entry))) (lentStoreIn (now (stores .entry)) (nodeAt (now (header .entry))) (viewKey key)) (viewKey key)
         clock (epoch .0) k (now (query .entry)) (now (hits .entry)) (now (answer .entry)) (ended r (now (hits .exit)) (now (answer .exit))) ⌝ }
 {
     let row = ROWS + ROW * at;

@@ -1,4 +1,4 @@
-pub mod OfFresh
-pub mod OfShow
-pub mod OfQuiet
-pub mod OfChange
+pub mod FreshLaws
+pub mod ShowLaws
+pub mod Quiet
+pub mod Change

@@ -1,7 +1,7 @@
-pub mod OfGrow
-pub mod OfLeave
-pub mod OfNews
-pub mod OfPeers
-pub mod OfRow
-pub mod OfSet
-pub mod OfStarts
+pub mod Grow
+pub mod LeaveLaws
+pub mod NewsLaws
+pub mod PeerLaws
+pub mod RowLaws
+pub mod SetLaws
+pub mod StartLaws

@@ -3,11 +3,11 @@ use mathlib.Core.Bool.{Bool}
 use Rattle.spec.specs.declared.Epoch.{Epoch}
 use Rattle.spec.specs.declared.Role.the-variants.{Primary}
 use Rattle.map_tables.specs.declared.Holders.{Holders}
-use Rattle.node_header.specs.declared.Kept.{Kept}
+use Rattle.node_header.specs.declared.HeldRow.{HeldRow}
 use Rattle.node_header.specs.View.{keptAs}
 
 -- the replicas that the map lists
-abbrev pub holdersSet : Kept → Holders → Kept
+abbrev pub holdersSet : HeldRow → Holders → HeldRow
 holdersSet x l = keptAs x (record {
   epoch = x .held .epoch;
   metric = x .held .metric;
@@ -21,7 +21,7 @@ holdersSet x l = keptAs x (record {
 })
 
 -- a new record: the primary of an epoch, which begins at the end of the log
-abbrev pub recordSet : Kept → Epoch → (own : Bool) → Kept
+abbrev pub recordSet : HeldRow → Epoch → (own : Bool) → HeldRow
 recordSet x e own = keptAs x (record {
   epoch = e;
   metric = x .held .metric;

@@ -5,7 +5,7 @@ ghost use lib.ListN.{length, take};
 ghost use Rattle.spec.specs.Lists.{collect};
 ghost use Rattle.spec.specs.Node.Client.{nodeOf};
 ghost use Rattle.spec.specs.Node.Shown.{isNew};
-ghost use Rattle.image_header_row.specs.Rows.{peersAt, keptAt};
+ghost use Rattle.image_header_row.specs.Rows.{peersAt, heldRowAt};
 use image_header_set::peers::place_of;
 use wire_put::put::put_bytes;
 
@@ -30,7 +30,7 @@ pub fn count_new(s: &[u8], at: usize, was: usize, t: &[u8], to: usize, count: us
 // A row copied into a buffer of its own.
 pub fn copy_row(out: &mut [u8], s: &[u8], at: usize)
     requires { ⌜ (length (now out) ≡ 1280) × (at + 1280 ≤ length (now s)) ⌝ }
-    ensures { λ _. ⌜ keptAt (now (out .exit)) 0 ≡ keptAt (now (s .entry)) at ⌝ }
+    ensures { λ _. ⌜ heldRowAt (now (out .exit)) 0 ≡ heldRowAt (now (s .entry)) at ⌝ }
 {
     let end = at + 1280;
     put_bytes(out, 0, &s[at..end]);

@@ -1,5 +1,5 @@
 // Internal: the row of a held shard as a row of the map leaves it.
-ghost use Rattle.image_header_row.specs.Rows.{keptAt};
+ghost use Rattle.image_header_row.specs.Rows.{heldRowAt};
 ghost use Rattle.calls_show_row.specs.Row.{Ready, Few, Needs, Shows, Refreshes};
 use crate::leave::leave;
 use crate::news::copy_row;
@@ -27,7 +27,7 @@ pub fn refresh_row(out: &mut [u8], at: usize, row: ShardRow)
 // before it is known that no shard has too many.
 pub fn workers_of(s: &[u8], at: usize, me: u64, row: ShardRow) -> usize
     requires { ⌜ Ready (now s) at row ⌝ }
-    ensures { λ r. ⌜ Needs (keptAt (now (s .entry)) at) me row r ⌝ }
+    ensures { λ r. ⌜ Needs (heldRowAt (now (s .entry)) at) me row r ⌝ }
 {
     let mut after = [0u8; ROW];
     copy_row(&mut after, s, at);
@@ -41,7 +41,7 @@ pub fn workers_of(s: &[u8], at: usize, me: u64, row: ShardRow) -> usize
 
 // The shard as the map leaves it.
 pub fn show_row(out: &mut [u8], at: usize, me: u64, row: ShardRow)
-    requires { ⌜ Ready (now out) at row × Few (keptAt (now out) at) me row ⌝ }
+    requires { ⌜ Ready (now out) at row × Few (heldRowAt (now out) at) me row ⌝ }
     ensures { λ _. ⌜ Shows (now (out .entry)) (now (out .exit)) at me row ⌝ }
 {
     let _was = leave(out, at, me, row);

@@ -1,7 +1,7 @@
 // Internal: the fields of a held shard's row that a map sets, stored where they stand.
 ghost use Prim.Native.Nat.{_+_, _≤_};
 ghost use lib.ListN.{length};
-ghost use Rattle.image_header_row.specs.Rows.{keptAt};
+ghost use Rattle.image_header_row.specs.Rows.{heldRowAt};
 ghost use Rattle.image_header_set.specs.Row.{RowBecomes, countSet};
 ghost use Rattle.calls_show_row.specs.Set.{holdersSet, recordSet};
 use image_header_row::held::put_role;
@@ -28,7 +28,7 @@ const REPLICAS: usize = 128;
 // The replicas that the map lists.
 pub fn set_holders(out: &mut [u8], at: usize, list: Holders)
     requires { ⌜ at + 1280 ≤ length (now out) ⌝ }
-    ensures { λ _. ⌜ RowBecomes (now (out .entry)) (now (out .exit)) at (holdersSet (keptAt (now (out .entry)) at) list) ⌝ }
+    ensures { λ _. ⌜ RowBecomes (now (out .entry)) (now (out .exit)) at (holdersSet (heldRowAt (now (out .entry)) at) list) ⌝ }
 {
     let copies = list.items;
     num::put8(out, at + HOLDERS, list.count as u64);
@@ -38,7 +38,7 @@ pub fn set_holders(out: &mut [u8], at: usize, list: Holders)
 // How many peers.
 pub fn set_count(out: &mut [u8], at: usize, count: usize)
     requires { ⌜ at + 1280 ≤ length (now out) ⌝ }
-    ensures { λ _. ⌜ RowBecomes (now (out .entry)) (now (out .exit)) at (countSet (keptAt (now (out .entry)) at) count) ⌝ }
+    ensures { λ _. ⌜ RowBecomes (now (out .entry)) (now (out .exit)) at (countSet (heldRowAt (now (out .entry)) at) count) ⌝ }
 {
     num::put8(out, at + COUNT, count as u64);
 }
@@ -46,7 +46,7 @@ pub fn set_count(out: &mut [u8], at: usize, count: usize)
 // A new record: the primary of that epoch, which begins at the end of the log.
 pub fn set_record(out: &mut [u8], at: usize, epoch: Epoch, own: bool)
     requires { ⌜ at + 1280 ≤ length (now out) ⌝ }
-    ensures { λ _. ⌜ RowBecomes (now (out .entry)) (now (out .exit)) at (recordSet (keptAt (now (out .entry)) at) epoch own) ⌝ }
+    ensures { λ _. ⌜ RowBecomes (now (out .entry)) (now (out .exit)) at (recordSet (heldRowAt (now (out .entry)) at) epoch own) ⌝ }
 {
     let end = Offset(num::get8(out, at + LAST));
     let role = Role::Primary {

@@ -7,7 +7,7 @@ ghost use Rattle.spec.specs.Layout.Parts.{keyF, keyValue, metricCode};
 ghost use Rattle.map_tables.specs.Names.{viewKey};
 ghost use Rattle.node_shard.specs.Shows.{workerAt};
 ghost use Rattle.image_parts.specs.Shape.{Stored};
-ghost use Rattle.image_header_row.specs.Rows.{keptAt, peersAt};
+ghost use Rattle.image_header_row.specs.Rows.{heldRowAt, peersAt};
 ghost use Rattle.calls_header.specs.Shows.{workerBytes};
 ghost use Rattle.calls_show_row.specs.Row.{Ready, Few, Holds, Puts};
 ghost use Rattle.calls_show_row.specs.Leave.{startsBetween, PutsNew};
@@ -76,9 +76,9 @@ fn put_new(
     t: &[u8],
     metric: Metric,
 ) -> usize
-    requires { ⌜ (at + 1024 ≤ length (now s)) × (was ≤ 32) × (1280 ≤ length (now t)) × (keptAt (now t) 0 .held .count ≤ 32) × (to ≤ 13824)
-        × (to + 54 * length (startsBetween was (peersAt (now s) at) (keptAt (now t) 0) metric) ≤ length (now starts)) ⌝ }
-    ensures { λ r. ⌜ PutsNew (now (starts .entry)) (now (starts .exit)) to (startsBetween was (peersAt (now (s .entry)) at) (keptAt (now (t .entry)) 0) metric) r ⌝ }
+    requires { ⌜ (at + 1024 ≤ length (now s)) × (was ≤ 32) × (1280 ≤ length (now t)) × (heldRowAt (now t) 0 .held .count ≤ 32) × (to ≤ 13824)
+        × (to + 54 * length (startsBetween was (peersAt (now s) at) (heldRowAt (now t) 0) metric) ≤ length (now starts)) ⌝ }
+    ensures { λ r. ⌜ PutsNew (now (starts .entry)) (now (starts .exit)) to (startsBetween was (peersAt (now (s .entry)) at) (heldRowAt (now (t .entry)) 0) metric) r ⌝ }
 {
     let key = key_at(t, 0);
     let role = role_at(t, ROLE);
@@ -109,8 +109,8 @@ pub fn put_workers(
     row: ShardRow,
     metric: Metric,
 ) -> usize
-    requires { ⌜ Ready (now s) at row × Few (keptAt (now s) at) me row × Holds (now starts) to (keptAt (now s) at) me row metric ⌝ }
-    ensures { λ r. ⌜ Puts (now (starts .entry)) (now (starts .exit)) to (keptAt (now (s .entry)) at) me row metric r ⌝ }
+    requires { ⌜ Ready (now s) at row × Few (heldRowAt (now s) at) me row × Holds (now starts) to (heldRowAt (now s) at) me row metric ⌝ }
+    ensures { λ r. ⌜ Puts (now (starts .entry)) (now (starts .exit)) to (heldRowAt (now (s .entry)) at) me row metric r ⌝ }
 {
     let mut after = [0u8; ROW];
     copy_row(&mut after, s, at);

@@ -1,4 +1,4 @@
-pub mod OfRow
-pub mod OfWalk
-pub mod OfSlots
-pub mod OfPut
+pub mod RowLaws
+pub mod WalkLaws
+pub mod SlotLaws
+pub mod PutLaws

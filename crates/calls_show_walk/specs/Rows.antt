@@ -17,7 +17,7 @@ use Rattle.map_tables.specs.View.{viewCollections}
 use Rattle.node_header.specs.declared.Node.{Node}
 use Rattle.node_header.specs.View.{Stores}
 use Rattle.image_parts.specs.Shape.{Stored}
-use Rattle.image_header_row.specs.Rows.{keptAt}
+use Rattle.image_header_row.specs.Rows.{heldRowAt}
 use Rattle.image_header_set.specs.Row.{Outside, RowBecomes}
 use Rattle.image_header_begin.specs.Begun.{begunSet}
 use Rattle.node_show.specs.Rows.{Taken, viewStart, startOf, placeOf, listedShown, Overworks, ShowsListed}
@@ -37,21 +37,21 @@ PlaceOf n row at = at ≡ placeOf n (viewKey (row .key))
 -- the row of a shard before the map: that of the header s at place `at`, or one that begins, and has no slot yet
 pub record Before (s u v : List ℕ) (to held at : ℕ) (key : ShardKey) (metric : Metric) : Type 0 where
   pub outside : Outside u v to 1280
-  pub old : at < held → keptAt v to ≡ keptAt s (48 + 1280 * at)
-  pub new : held ≤ at → keptAt v to ≡ begunSet (keptAt u to) key 8 0 metric
+  pub old : at < held → heldRowAt v to ≡ heldRowAt s (48 + 1280 * at)
+  pub new : held ≤ at → heldRowAt v to ≡ begunSet (heldRowAt u to) key 8 0 metric
 
 -- a shard whose collection the map has: its row at `to` becomes what the map leaves, and its workers stand behind the first `many`
 pub record ShowsAt (u v p q : List ℕ) (to me : ℕ) (row : ShardRow) (metric : Metric) (many after : ℕ) : Type 0 where
-  pub few : Few (keptAt u to) me row
+  pub few : Few (heldRowAt u to) me row
   pub shows : Shows u v to me row
-  pub stored : (st : Stores) → Stored p q (54 * many) (startBytes (showing me row metric st (keptAt u to) .start)) (54 * length (showing me row metric st (keptAt u to) .start))
-  pub next : (st : Stores) → after ≡ many + length (showing me row metric st (keptAt u to) .start)
-  pub most : (st : Stores) → length (showing me row metric st (keptAt u to) .start) ≤ 32
+  pub stored : (st : Stores) → Stored p q (54 * many) (startBytes (showing me row metric st (heldRowAt u to) .start)) (54 * length (showing me row metric st (heldRowAt u to) .start))
+  pub next : (st : Stores) → after ≡ many + length (showing me row metric st (heldRowAt u to) .start)
+  pub most : (st : Stores) → length (showing me row metric st (heldRowAt u to) .start) ≤ 32
 
 -- .. or a 33rd worker would be needed
 pub record ShowsPut (u v p q : List ℕ) (to me : ℕ) (row : ShardRow) (metric : Metric) (many : ℕ) (r : RowMade) : Type 0 where
   pub held : r .skip ≡ false
-  pub over : r .full ≡ true → (st : Stores) → show.overworked (showing me row metric st (keptAt u to)) ≡ true
+  pub over : r .full ≡ true → (st : Stores) → show.overworked (showing me row metric st (heldRowAt u to)) ≡ true
   pub fits : r .full ≡ false → ShowsAt u v p q to me row metric many (r .workers)
 
 -- why a shard is refused: a ninth is held after, or it needs a 33rd worker
@@ -95,7 +95,7 @@ Knows n row metric u v p q count many r =
 pub record Made (n : Node) (m : ShardMap) (u p : List ℕ) (r : RowsMade) : Type 0 where
   pub items : List Taken
   pub walks : Walks n m (record { full = r .full; items = items; count = r .count })
-  pub rows : r .full ≡ false → (j : ℕ) (d : Taken) → j < r .count → keptAt u (1280 * j) ≡ getD items j d .kept
+  pub rows : r .full ≡ false → (j : ℕ) (d : Taken) → j < r .count → heldRowAt u (1280 * j) ≡ getD items j d .kept
   pub starts : r .full ≡ false → take (54 * r .workers) p ≡ startBytes (viewStarts (map startOf (take (r .count) items)))
   pub workers : r .full ≡ false → r .workers ≡ length (viewStarts (map startOf (take (r .count) items)))
   pub most : r .workers ≤ 256

@@ -5,8 +5,8 @@ ghost use Prim.Native.Nat.{_*_, _≤_};
 ghost use lib.ListN.{length};
 ghost use Rattle.spec.specs.Lists.{every};
 ghost use Rattle.node_show_slots.specs.Slots.{openFits};
-ghost use Rattle.calls_show_walk.specs.Seats.{rowsIn, HeaderTakes};
-use crate::slots::seat;
+ghost use Rattle.calls_show_walk.specs.Slots.{rowsIn, HeaderTakes};
+use crate::slots::give_slots;
 use image_header_set::back::put_back;
 use wire_put::put::put_bytes;
 
@@ -26,6 +26,6 @@ pub fn put_rows(header: &mut [u8], rows: &[u8], count: usize, version: u64)
     num::put8(header, COUNT, count as u64);
     let end = 1280 * count;
     put_bytes(header, ROWS, &rows[..end]);
-    seat(header, count);
+    give_slots(header, count);
     put_back(header, count);
 }

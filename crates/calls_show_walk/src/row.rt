@@ -6,7 +6,7 @@ ghost use lib.ListN.{length};
 ghost use Rattle.spec.specs.Layout.Format.{numberAt};
 ghost use Rattle.map_tables.specs.Counted.{Sized};
 ghost use Rattle.node_header.specs.Formed.{formedNode};
-ghost use Rattle.image_header_row.specs.Rows.{keptAt};
+ghost use Rattle.image_header_row.specs.Rows.{heldRowAt};
 ghost use Rattle.image_header.specs.Image.{nodeAt};
 ghost use Rattle.image_header_check.specs.Rows.{Counts};
 ghost use Rattle.image_header_set.specs.Row.{RowBecomes};
@@ -46,7 +46,7 @@ const NO_SLOT: u64 = 8;
 // The row of a held shard as it is.
 fn copy_row(rows: &mut [u8], to: usize, header: &[u8], from: usize)
     requires { ⌜ (to + 1280 ≤ length (now rows)) × (from + 1280 ≤ length (now header)) ⌝ }
-    ensures { λ _. ⌜ RowBecomes (now (rows .entry)) (now (rows .exit)) to (keptAt (now (header .entry)) from) ⌝ }
+    ensures { λ _. ⌜ RowBecomes (now (rows .entry)) (now (rows .exit)) to (heldRowAt (now (header .entry)) from) ⌝ }
 {
     let end = from + ROW;
     put_bytes(rows, to, &header[from..end]);

@@ -6,7 +6,7 @@ ghost use Rattle.spec.specs.Lists.{every};
 ghost use Rattle.image_header.specs.Image.{nodeAt};
 ghost use Rattle.image_header_check.specs.Rows.{Counts};
 ghost use Rattle.node_show_slots.specs.Slots.{openFits};
-ghost use Rattle.calls_show_walk.specs.Seats.{Seated};
+ghost use Rattle.calls_show_walk.specs.Slots.{SlotsGiven};
 use image_header_begin::places::free_slot;
 
 // Where a header has its rows, and a row its slot.
@@ -15,9 +15,9 @@ const SLOTS: usize = 96;
 const ROW: usize = 1280;
 
 // Each shard that begins gets the lowest slot that no shard held after has: a freed place is used again.
-pub fn seat(out: &mut [u8], count: usize)
+pub fn give_slots(out: &mut [u8], count: usize)
     requires { ⌜ Counts (now out) count × (every openFits (take count (nodeAt (now out) .held)) ≡ true) ⌝ }
-    ensures { λ _. ⌜ Seated (now (out .entry)) (now (out .exit)) count ⌝ }
+    ensures { λ _. ⌜ SlotsGiven (now (out .entry)) (now (out .exit)) count ⌝ }
 {
     let mut i: usize = 0;
     while i < count {

@@ -11,9 +11,9 @@ use Rattle.spec.specs.Node.Client.{waitRow, toShrink, nodeOf, hasAcked}
 use Rattle.node_shard.specs.declared.Nodes.{Nodes}
 use Rattle.node_shard.specs.declared.Held.{Held}
 use Rattle.node_shard.specs.View.{withRows}
-use Rattle.node_header.specs.declared.Kept.{Kept}
+use Rattle.node_header.specs.declared.HeldRow.{HeldRow}
 use Rattle.node_header.specs.declared.Node.{Node}
-use Rattle.node_header.specs.View.{noKept, keptAs, withShard}
+use Rattle.node_header.specs.View.{noHeldRow, keptAs, withShard}
 use Rattle.image_parts.specs.Canon.{padded}
 use Rattle.image_header_row.specs.Rows.{noPeer, roleAt, peersAt}
 use Rattle.image_header.specs.Image.{nodeAt}
@@ -24,11 +24,11 @@ use Rattle.calls_header.specs.Waits.{idBytes, RowsPut}
 abbrev pub waitedHeld : Held → (clock timeout : ℕ) → Held
 waitedHeld h clock timeout = withRows h (padded 32 noPeer (map (waitRow (h .last) clock timeout) (take (h .count) (h .peers))))
 
-unfoldable pub waitedKept : Kept → (clock timeout : ℕ) → Kept
-waitedKept x clock timeout = keptAs x (waitedHeld (x .held) clock timeout)
+unfoldable pub waitedHeldRow : HeldRow → (clock timeout : ℕ) → HeldRow
+waitedHeldRow x clock timeout = keptAs x (waitedHeld (x .held) clock timeout)
 
 abbrev pub waitedNode : Node → (at clock timeout : ℕ) → Node
-waitedNode n at clock timeout = withShard n at (waitedHeld (getD (n .held) at noKept .held) clock timeout)
+waitedNode n at clock timeout = withShard n at (waitedHeld (getD (n .held) at noHeldRow .held) clock timeout)
 
 -- ---- the wait at a shard that is held
 

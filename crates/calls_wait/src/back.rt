@@ -6,12 +6,12 @@ ghost use lib.ListN.{length, set};
 ghost use lib.Seq.{sets};
 ghost use Rattle.spec.specs.Layout.Format.{numberAt, concatMap};
 ghost use Rattle.image_parts.specs.Shape.{Stored, items};
-ghost use Rattle.image_header_row.specs.Rows.{keptAt, keptBytes};
-ghost use Rattle.image_header_row.specs.Tidy.{tidyKept};
+ghost use Rattle.image_header_row.specs.Rows.{heldRowAt, heldRowBytes};
+ghost use Rattle.image_header_row.specs.Tidy.{tidyHeldRow};
 ghost use Rattle.image_header.specs.Image.{nodeAt};
 ghost use Rattle.image_header.specs.Becomes.{HeaderWrites};
 ghost use Rattle.image_header_check.specs.Rows.{Counts};
-ghost use Rattle.calls_wait.specs.Waited.{waitedKept, waitedNode};
+ghost use Rattle.calls_wait.specs.Waited.{waitedHeldRow, waitedNode};
 use image_header::expiry_code;
 use image_header::expiry_of;
 use image_header::expiry_time;
@@ -23,7 +23,7 @@ use image_header_put::row_tidied;
 // The row of the shard that is waited for: 1,280 bytes.
 fn row_waited(out: &mut [u8], at: usize, clock: u64, timeout: u64)
     requires { ⌜ (at + 1280 ≤ length (now out)) × (numberAt 8 (now out) (at + 88) ≤ 32) ⌝ }
-    ensures { λ _. ⌜ Stored (now (out .entry)) (now (out .exit)) at (keptBytes (tidyKept (waitedKept (keptAt (now (out .entry)) at) clock timeout))) 1280 ⌝ }
+    ensures { λ _. ⌜ Stored (now (out .entry)) (now (out .exit)) at (heldRowBytes (tidyHeldRow (waitedHeldRow (heldRowAt (now (out .entry)) at) clock timeout))) 1280 ⌝ }
 {
     let n = num::get8(out, at + 88) as usize;
     let last = num::get8(out, at + 72);
@@ -34,8 +34,8 @@ fn row_waited(out: &mut [u8], at: usize, clock: u64, timeout: u64)
 // The first `count` rows.
 fn rows_waited(out: &mut [u8], count: usize, at: usize, clock: u64, timeout: u64)
     requires { ⌜ (10288 ≤ length (now out)) × (count ≤ 8) × (at < count) × (numberAt 8 (now out) (48 + 1280 * at + 88) ≤ 32) ⌝ }
-    ensures { λ _. ⌜ now (out .exit) ≡ sets (now (out .entry)) 48 (concatMap keptBytes (map tidyKept
-        (set (items count (keptAt (now (out .entry))) 1280 48) at (waitedKept (keptAt (now (out .entry)) (48 + 1280 * at)) clock timeout)))) ⌝ }
+    ensures { λ _. ⌜ now (out .exit) ≡ sets (now (out .entry)) 48 (concatMap heldRowBytes (map tidyHeldRow
+        (set (items count (heldRowAt (now (out .entry))) 1280 48) at (waitedHeldRow (heldRowAt (now (out .entry)) (48 + 1280 * at)) clock timeout)))) ⌝ }
 {
     let mut i: usize = 0;
     while i < count {

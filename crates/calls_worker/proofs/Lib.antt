@@ -1,5 +1,5 @@
-pub mod OfCodes
-pub mod OfTold
-pub mod OfSome
-pub mod OfFound
-pub mod OfSteps
+pub mod CodeLaws
+pub mod AnswerLaws
+pub mod Some
+pub mod Found
+pub mod Steps

@@ -20,11 +20,11 @@ use Rattle.node_header.specs.Answers.{StepsNode}
 use Rattle.node_send.specs.declared.Request.{Request}
 use Rattle.node_send.specs.declared.Request.the-variants as request
 use Rattle.node_header.specs.declared.Node.{Node}
-use Rattle.node_lent.specs.Lend.{Lot, lentFor}
+use Rattle.node_lent.specs.Lend.{LentStore, lentFor}
 use Rattle.node_step.specs.Requests.{Requests}
 use Rattle.image_header.specs.Image.{nodeAt}
 use Rattle.calls_parts.specs.Answer.{answerLent, numberPut}
-use Rattle.image_node.specs.Lent.{lotIn, lendsState}
+use Rattle.image_node.specs.Lent.{lentStoreIn, lendsState}
 
 -- ---- the operands
 
@@ -91,7 +91,7 @@ pub record Refuses (number : ℕ) (o p : Outputs) (r : ℕ) : Type 0 where
   pub kept : p ≡ o
 
 -- what header and workers answer, on a header and columns: their step and their request, and what is told of them
-pub record Tells (n : Node) (a : Lot) (k : Key) (epoch peer : ℕ) (metric : Metric) (o p : Outputs) (r : ℕ) : Type 0 where
+pub record Tells (n : Node) (a : LentStore) (k : Key) (epoch peer : ℕ) (metric : Metric) (o p : Outputs) (r : ℕ) : Type 0 where
   pub step : StepAnswer
   pub sent : Request
   pub steps : StepsNode n k epoch peer step
@@ -100,11 +100,11 @@ pub record Tells (n : Node) (a : Lot) (k : Key) (epoch peer : ℕ) (metric : Met
   pub answer : p .answer ≡ answerLeft sent (o .answer)
 
 -- without room for the answer: 23, but 24 comes before; nothing is written
-pub record Short (n : Node) (a : Lot) (k : Key) (o p : Outputs) (r : ℕ) : Type 0 where
+pub record Short (n : Node) (a : LentStore) (k : Key) (o p : Outputs) (r : ℕ) : Type 0 where
   pub answer : (t : Stores) → r ≡ cond (lentFor t n a k) 23 24
   pub kept : p ≡ o
 
-pub record StepAsked (n : Node) (a : Lot) (k : Key) (epoch peer : ℕ) (metric : Metric) (o p : Outputs) (r : ℕ) : Type 0 where
+pub record StepAsked (n : Node) (a : LentStore) (k : Key) (epoch peer : ℕ) (metric : Metric) (o p : Outputs) (r : ℕ) : Type 0 where
   pub short : answerLent (o .answer) ≡ false → Short n a k o p r
   pub told : answerLent (o .answer) ≡ true → Tells n a k epoch peer metric o p r
 
@@ -113,4 +113,4 @@ pub record StepsImage (h s : List ℕ) (w : Asking) (o p : Outputs) (r : ℕ) : 
   pub undecoded : decodes w ≡ false → Refuses 21 o p r
   pub unlent : decodes w ≡ true → lendsState h s (keyOf w) ≡ false → Refuses 24 o p r
   pub asked : decodes w ≡ true → lendsState h s (keyOf w) ≡ true
-      → StepAsked (nodeAt h) (lotIn s (nodeAt h) (keyOf w)) (keyOf w) (w .epoch) (w .peer) (metricOf (w .metric)) o p r
+      → StepAsked (nodeAt h) (lentStoreIn s (nodeAt h) (keyOf w)) (keyOf w) (w .epoch) (w .peer) (metricOf (w .metric)) o p r

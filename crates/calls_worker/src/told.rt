@@ -6,10 +6,10 @@ ghost use lib.ListN.{length};
 ghost use Rattle.wire_write.specs.Written.{keyGiven};
 ghost use Rattle.node_admit.specs.Steps.{Steps};
 ghost use Rattle.node_send.specs.Requested.{Requested};
-ghost use Rattle.image_header_row.specs.Rows.{keptAt};
+ghost use Rattle.image_header_row.specs.Rows.{heldRowAt};
 ghost use Rattle.image_header.specs.Image.{nodeAt};
 ghost use Rattle.calls_parts.specs.Answer.{answerLent, numberPut};
-ghost use Rattle.image_node.specs.Lent.{lotIn};
+ghost use Rattle.image_node.specs.Lent.{lentStoreIn};
 ghost use Rattle.image_node_check.specs.Find.{FoundIn};
 ghost use Rattle.calls_worker.specs.Steps.{stepNumber, answerLeft, outputs, StepAsked};
 ghost use Rattle.calls_worker.specs.Found.{requestAt};
@@ -73,7 +73,7 @@ fn request_at(
     metric: Metric,
 ) -> Request
     requires { ⌜ FoundIn (now header) (now stores) (keyGiven (now name) shard) at × (length (now name) ≤ 32)
-        × Steps (keptAt (now header) (48 + 1280 * at) .held) epoch peer step ⌝ }
+        × Steps (heldRowAt (now header) (48 + 1280 * at) .held) epoch peer step ⌝ }
     ensures { λ r. ⌜ Requested (requestAt (now (header .entry)) (now (stores .entry)) (keyGiven (now (name .entry)) shard) at epoch peer metric)
         (now (out .entry)) (now (out .exit)) r ⌝ }
 {
@@ -120,7 +120,7 @@ pub fn step_at(
     answer: &mut [u8],
 ) -> u32
     requires { ⌜ FoundIn (now header) (now stores) (keyGiven (now name) shard) at × (length (now name) ≤ 32) ⌝ }
-    ensures { λ r. ⌜ StepAsked (nodeAt (now (header .entry))) (lotIn (now (stores .entry)) (nodeAt (now (header .entry))) (keyGiven (now (name .entry)) shard))
+    ensures { λ r. ⌜ StepAsked (nodeAt (now (header .entry))) (lentStoreIn (now (stores .entry)) (nodeAt (now (header .entry))) (keyGiven (now (name .entry)) shard))
         (keyGiven (now (name .entry)) shard) epoch peer metric
         (outputs (now (request .entry)) (now (answer .entry))) (outputs (now (request .exit)) (now (answer .exit))) r ⌝ }
 {

@@ -1,1 +1,1 @@
-pub mod OfWays
+pub mod Ways

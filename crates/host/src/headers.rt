@@ -2,7 +2,7 @@
 ghost use Rattle.calls_header.specs.Acks.{Acks};
 ghost use Rattle.calls_header.specs.Fresh.{Freshens};
 ghost use Rattle.calls_header.specs.Grants.{Grants};
-ghost use Rattle.calls_header.specs.Settles.{Settles};
+ghost use Rattle.calls_header.specs.Outcomes.{Settles};
 ghost use Rattle.calls_header.specs.Shows.{Shows};
 ghost use Rattle.calls_header.specs.Waits.{Waits};
 

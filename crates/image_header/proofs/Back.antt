@@ -21,21 +21,21 @@ use Rattle.node_admit.specs.declared.Expiry.{Expiry}
 use Rattle.node_admit.specs.declared.Expiry.the-variants.{Never, At}
 use Rattle.node_shard.specs.declared.Held.{Held}
 use Rattle.map_tables.proofs.Tables.{map-take}
-use Rattle.node_header.specs.View.{Stores, used, viewKept, viewNode}
-use Rattle.node_header.specs.Seats.{slotsOf}
-use Rattle.node_header.specs.declared.Kept.{Kept}
+use Rattle.node_header.specs.View.{Stores, used, viewHeldRow, viewNode}
+use Rattle.node_header.specs.Slots.{slotsOf}
+use Rattle.node_header.specs.declared.HeldRow.{HeldRow}
 use Rattle.node_header.specs.declared.Node.{Node}
 use Rattle.image_parts.specs.Shape.{Shape, Value, _▸_, u32, u64, value, inUse, codesBelow}
 use Rattle.image_parts.proofs.Canon.{take-used}
 use Rattle.image_parts.proofs.Images.{length-used}
 use Rattle.image_parts.proofs.Tidied.{take-within}
 use Rattle.image_parts.proofs.Back.{length-encode, value-encode, Holds, holds-stored, holds-kept, TableFits, length-table, table-back, table-codes}
-use Rattle.image_parts.proofs.OfCodes.{flag-back, flag-small, replicas-back}
-use Rattle.image_header_row.specs.Rows.{bitOf, weigh, peerOf, peerValue, roleOf, roleValue, keptF, keptOf, keptValue, keptAt, keptBytes, expiryOf, expiryCode, expiryTime}
-use Rattle.image_header_row.specs.Tidy.{tidyKept}
-use Rattle.image_header.proofs.OfFlags.{flags-back}
-use Rattle.image_header.proofs.OfTidy.{KeptFits, all-fit, view-tidied, slots-tidied}
-use Rattle.image_header.specs.Image.{noKept, shardCodes, flagsListed, codesListed, nodeAt, headBytes, shardsBytes, headerPut}
+use Rattle.image_parts.proofs.CodeLaws.{flag-back, flag-small, replicas-back}
+use Rattle.image_header_row.specs.Rows.{bitOf, weigh, peerOf, peerValue, roleOf, roleValue, heldRowF, heldRowOf, heldRowValue, heldRowAt, heldRowBytes, expiryOf, expiryCode, expiryTime}
+use Rattle.image_header_row.specs.Tidy.{tidyHeldRow}
+use Rattle.image_header.proofs.Flags.{flags-back}
+use Rattle.image_header.proofs.Tidy.{HeldRowFits, all-fit, view-tidied, slots-tidied}
+use Rattle.image_header.specs.Image.{noHeldRow, shardCodes, flagsListed, codesListed, nodeAt, headBytes, shardsBytes, headerPut}
 
 -- ---- parts
 
@@ -86,36 +86,36 @@ expiry-small (At t) = omega arith
 
 -- ---- a held shard
 
-kept-long : (x : Kept) → KeptFits x → length (keptBytes x) ≡ 1280
-unfolding keptBytes
-kept-long x g = length-encode keptF (keptValue x) g
+kept-long : (x : HeldRow) → HeldRowFits x → length (heldRowBytes x) ≡ 1280
+unfolding heldRowBytes
+kept-long x g = length-encode heldRowF (heldRowValue x) g
 
 module _ (s : List ℕ) where
-  kept-value : (x : Kept) (at : ℕ) (t : List ℕ) → KeptFits x → drop at s ≡ keptBytes x ++ t → value keptF s at ≡ keptValue x
-  unfolding keptBytes
-  kept-value x at t g e = value-encode keptF (keptValue x) s at t g e
+  kept-value : (x : HeldRow) (at : ℕ) (t : List ℕ) → HeldRowFits x → drop at s ≡ heldRowBytes x ++ t → value heldRowF s at ≡ heldRowValue x
+  unfolding heldRowBytes
+  kept-value x at t g e = value-encode heldRowF (heldRowValue x) s at t g e
 
-  kept-back : (x : Kept) (at : ℕ) (t : List ℕ) → KeptFits x → drop at s ≡ keptBytes x ++ t → keptAt s at ≡ x
-  unfolding keptAt
+  kept-back : (x : HeldRow) (at : ℕ) (t : List ℕ) → HeldRowFits x → drop at s ≡ heldRowBytes x ++ t → heldRowAt s at ≡ x
+  unfolding heldRowAt
   kept-back x at t g e =
-      ap keptOf (kept-value x at t g e)
+      ap heldRowOf (kept-value x at t g e)
       ∙ (rw (metric-of (x .held .metric), flag-back (x .held .own), role-back (x .held .role), replicas-back (x .held .replicas), peers-back (x .held .peers)))
 
-  metric-code : (x : Kept) (at : ℕ) (t : List ℕ) → KeptFits x → drop at s ≡ keptBytes x ++ t → numberAt 4 s (at + 96) < 2
+  metric-code : (x : HeldRow) (at : ℕ) (t : List ℕ) → HeldRowFits x → drop at s ≡ heldRowBytes x ++ t → numberAt 4 s (at + 96) < 2
   metric-code x at t g e =
-      let c : numberAt 4 s (at + 64 + 32) ≡ metricCode (x .held .metric) = ap (λ (v : Value keptF). v .1 .0 .0 .0 .0 .0 .1) (kept-value x at t g e) in
+      let c : numberAt 4 s (at + 64 + 32) ≡ metricCode (x .held .metric) = ap (λ (v : Value heldRowF). v .1 .0 .0 .0 .0 .0 .1) (kept-value x at t g e) in
       let q : at + 96 ≡ at + 64 + 32 = omega arith in
       rw (q, c) (metric-below (x .held .metric))
 
-  own-code : (x : Kept) (at : ℕ) (t : List ℕ) → KeptFits x → drop at s ≡ keptBytes x ++ t → numberAt 4 s (at + 100) < 2
+  own-code : (x : HeldRow) (at : ℕ) (t : List ℕ) → HeldRowFits x → drop at s ≡ heldRowBytes x ++ t → numberAt 4 s (at + 100) < 2
   own-code x at t g e =
-      let c = ap (λ (v : Value keptF). v .1 .0 .0 .0 .0 .1) (kept-value x at t g e) in
+      let c = ap (λ (v : Value heldRowF). v .1 .0 .0 .0 .0 .1) (kept-value x at t g e) in
       let q : at + 100 ≡ at + 64 + 36 = omega arith in
       rw (q, c) (flag-small (x .held .own))
 
-  role-code : (x : Kept) (at : ℕ) (t : List ℕ) → KeptFits x → drop at s ≡ keptBytes x ++ t → numberAt 4 s (at + 108) < 2
+  role-code : (x : HeldRow) (at : ℕ) (t : List ℕ) → HeldRowFits x → drop at s ≡ heldRowBytes x ++ t → numberAt 4 s (at + 108) < 2
   role-code x at t g e =
-      let c = ap (λ (v : Value keptF). v .1 .0 .0 .1 .0 .0) (kept-value x at t g e) in
+      let c = ap (λ (v : Value heldRowF). v .1 .0 .0 .1 .0 .0) (kept-value x at t g e) in
       let q : at + 108 ≡ at + 64 + 44 = omega arith in
       rw (q, c) (role-small (x .held .role))
 
@@ -128,7 +128,7 @@ pub record Fits (n : Node) : Type 0 where
   pub version : n .version < 256 ^ 8
   pub expiry : expiryTime (n .expiry) < 256 ^ 8
   pub long : length (n .held) ≡ 8
-  pub rows : All KeptFits (used n)
+  pub rows : All HeldRowFits (used n)
 
 abbrev headF : Shape
 headF = u64 ▸ u64 ▸ u64 ▸ u64 ▸ u32 ▸ u32 ▸ u64
@@ -144,31 +144,31 @@ same-node p q r s t = rw (p, q, r, s, t)
 
 module _ (n : Node) (fits : Fits n) where
   -- the rows written, as those of a table
-  rows-used : take (inUse 8 (n .count)) (map tidyKept (n .held)) ≡ map tidyKept (used n)
-  rows-used = sym (map-take tidyKept (inUse 8 (n .count)) (n .held)) ∙ ap (map tidyKept) (take-used 8 (n .count) (n .held) (fits .long))
+  rows-used : take (inUse 8 (n .count)) (map tidyHeldRow (n .held)) ≡ map tidyHeldRow (used n)
+  rows-used = sym (map-take tidyHeldRow (inUse 8 (n .count)) (n .held)) ∙ ap (map tidyHeldRow) (take-used 8 (n .count) (n .held) (fits .long))
 
-  table : TableFits KeptFits 8 (inUse 8 (n .count)) (map tidyKept (n .held))
+  table : TableFits HeldRowFits 8 (inUse 8 (n .count)) (map tidyHeldRow (n .held))
   table =
       let k = fits .long in
       let u = length-used 8 (n .count) (n .held) k in
       record {
         count = omega (arith, take-within (n .count) (n .held));
-        long = length-map (n .held) tidyKept ∙ k;
-        rows = subst (λ (l : List Kept). All KeptFits l) (sym rows-used) (all-fit (used n) (fits .rows));
+        long = length-map (n .held) tidyHeldRow ∙ k;
+        rows = subst (λ (l : List HeldRow). All HeldRowFits l) (sym rows-used) (all-fit (used n) (fits .rows));
       }
 
 module _ (s : List ℕ) (n : Node) (room : 10288 ≤ length s) (fits : Fits n) where
   abbrev count : ℕ
   count = inUse 8 (n .count)
 
-  abbrev rows : List Kept
-  rows = map tidyKept (n .held)
+  abbrev rows : List HeldRow
+  rows = map tidyHeldRow (n .held)
 
   length-shards : length (shardsBytes n) ≤ 10240
   length-shards =
       let k = table n fits .count in
-      let l = length-table KeptFits keptBytes 1280 kept-long 8 count rows (table n fits) in
-      let e = ap (λ (l : List Kept). length (concatMap keptBytes l)) (rows-used n fits) in
+      let l = length-table HeldRowFits heldRowBytes 1280 kept-long 8 count rows (table n fits) in
+      let e = ap (λ (l : List HeldRow). length (concatMap heldRowBytes l)) (rows-used n fits) in
       omega arith
 
   pub length-put : length (headerPut s n) ≡ length s
@@ -181,12 +181,12 @@ module _ (s : List ℕ) (n : Node) (room : 10288 ≤ length s) (fits : Fits n) w
       let lh : length (headBytes n) ≡ 48 = refl in
       holds-kept (sets s 0 (headBytes n)) 0 48 (headBytes n) (shardsBytes n) (holds-stored s 0 (headBytes n) (omega arith)) (omega arith)
 
-  shards-held : Holds (headerPut s n) 48 (concatMap keptBytes (take count rows))
+  shards-held : Holds (headerPut s n) 48 (concatMap heldRowBytes (take count rows))
   unfolding headerPut
   shards-held =
       let k = length-shards in
       let l : length (sets s 0 (headBytes n)) ≡ length s = length-sets s 0 (headBytes n) in
-      subst (λ (l : List Kept). Holds (headerPut s n) 48 (concatMap keptBytes l)) (sym (rows-used n fits))
+      subst (λ (l : List HeldRow). Holds (headerPut s n) 48 (concatMap heldRowBytes l)) (sym (rows-used n fits))
       (holds-stored (sets s 0 (headBytes n)) 48 (shardsBytes n) (omega arith))
 
   head-back : value headF (headerPut s n) 0 ≡ headValue n
@@ -200,10 +200,10 @@ module _ (s : List ℕ) (n : Node) (room : 10288 ≤ length s) (fits : Fits n) w
   count-back : numberAt 8 (headerPut s n) 24 ≡ count
   count-back = ap (λ (v : Value headF). v .0 .0 .0 .1) head-back
 
-  codes-below : (o : ℕ) → ((x : Kept) (p : ℕ) (t : List ℕ) → KeptFits x → drop p (headerPut s n) ≡ keptBytes x ++ t → numberAt 4 (headerPut s n) (p + o) < 2)
+  codes-below : (o : ℕ) → ((x : HeldRow) (p : ℕ) (t : List ℕ) → HeldRowFits x → drop p (headerPut s n) ≡ heldRowBytes x ++ t → numberAt 4 (headerPut s n) (p + o) < 2)
       → codesBelow 2 1280 (headerPut s n) (inUse 8 (numberAt 8 (headerPut s n) 24)) (48 + o) ≡ true
   codes-below o law =
-      table-codes KeptFits keptBytes 1280 kept-long 8 count rows (table n fits) (headerPut s n) 48 2 o law shards-held (numberAt 8 (headerPut s n) 24) count-back
+      table-codes HeldRowFits heldRowBytes 1280 kept-long 8 count rows (table n fits) (headerPut s n) 48 2 o law shards-held (numberAt 8 (headerPut s n) 24) count-back
 
   shard-codes : shardCodes (headerPut s n) ≡ true
   unfolding shardCodes
@@ -231,11 +231,11 @@ module _ (s : List ℕ) (n : Node) (room : 10288 ≤ length s) (fits : Fits n) w
   codes-listed = and-intro shard-codes flags-listed
 
   -- and its shards are those written
-  pub used-back : used (nodeAt (headerPut s n)) ≡ map tidyKept (used n)
+  pub used-back : used (nodeAt (headerPut s n)) ≡ map tidyHeldRow (used n)
   unfolding nodeAt
   used-back =
       let w = headerPut s n in
-      table-back KeptFits keptBytes 1280 kept-long 8 count rows (table n fits) w 48 (keptAt w) noKept (kept-back w) shards-held (numberAt 8 w 24) count-back
+      table-back HeldRowFits heldRowBytes 1280 kept-long 8 count rows (table n fits) w 48 (heldRowAt w) noHeldRow (kept-back w) shards-held (numberAt 8 w 24) count-back
       ∙ rows-used n fits
 
   -- so that it is read as the one that was given, and each shard has its slot
@@ -250,7 +250,7 @@ module _ (s : List ℕ) (n : Node) (room : 10288 ≤ length s) (fits : Fits n) w
       (ap (λ (v : Value headF). v .0 .0 .0 .0 .0 .1) head-back)
       (ap (λ (k : ℕ). expiryOf k (numberAt 8 w 40)) c ∙ ap (expiryOf (expiryCode (n .expiry))) t ∙ expiry-back (n .expiry))
       (ap (λ (v : Value headF). v .0 .0 .0 .0 .1) head-back)
-      (ap (map (viewKept st)) used-back ∙ view-tidied st (used n))
+      (ap (map (viewHeldRow st)) used-back ∙ view-tidied st (used n))
 
   -- the count is that of the rows
   pub counted-back : nodeAt (headerPut s n) .count ≡ inUse 8 (n .count)
@@ -261,4 +261,4 @@ module _ (s : List ℕ) (n : Node) (room : 10288 ≤ length s) (fits : Fits n) w
   count-within = let k = table n fits .count in let e = counted-back in omega arith
 
   pub slots-back : slotsOf (nodeAt (headerPut s n)) ≡ slotsOf n
-  slots-back = ap (map (λ (x : Kept). x .slot)) used-back ∙ slots-tidied (used n)
+  slots-back = ap (map (λ (x : HeldRow). x .slot)) used-back ∙ slots-tidied (used n)

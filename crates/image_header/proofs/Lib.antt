@@ -1,8 +1,8 @@
-pub mod OfImage
-pub mod OfTidy
-pub mod OfFormed
-pub mod OfFlags
+pub mod Image
+pub mod Tidy
+pub mod Formed
+pub mod Flags
 pub mod Back
 pub mod Types
-pub mod OfBecomes
-pub mod OfCounts
+pub mod Becomes
+pub mod Counts

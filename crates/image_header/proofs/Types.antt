@@ -20,16 +20,16 @@ use Rattle.node_admit.specs.declared.Expiry.the-variants.{Never, At}
 use Rattle.node_admit.proofs.Expiry as ofExpiry
 use Rattle.node_shard.specs.declared.Held.{Held}
 use Rattle.node_shard.proofs.Held as ofHeld
-use Rattle.node_header.specs.declared.Kept.{Kept}
+use Rattle.node_header.specs.declared.HeldRow.{HeldRow}
 use Rattle.node_header.specs.declared.Node.{Node}
-use Rattle.node_header.proofs.Kept as ofKept
+use Rattle.node_header.proofs.HeldRow as ofHeldRow
 use Rattle.node_header.proofs.Node as ofNode
 use Rattle.image_parts.specs.Shape.{Good}
-use Rattle.image_parts.proofs.OfCodes.{flag-small}
+use Rattle.image_parts.proofs.CodeLaws.{flag-small}
 use Rattle.image_parts.proofs.Types.{array-good, key-good, replicas-good}
 use Rattle.image_parts.proofs.Tidied.{all-take, all-mapped}
-use Rattle.image_header_row.specs.Rows.{weigh, peerFlags, peerF, peerValue, roleF, roleValue, heldF, heldValue, keptF, keptValue, expiryTime}
-use Rattle.image_header.proofs.OfTidy.{KeptFits}
+use Rattle.image_header_row.specs.Rows.{weigh, peerFlags, peerF, peerValue, roleF, roleValue, heldF, heldValue, heldRowF, heldRowValue, expiryTime}
+use Rattle.image_header.proofs.Tidy.{HeldRowFits}
 use Rattle.image_header.proofs.Back.{Fits}
 
 weigh-most : (b : Bool) (w : ℕ) → weigh b w ≤ w
@@ -63,7 +63,7 @@ held-good h vs p =
       peers,
     )
 
-kept-good : (x : Kept) (vs : List Val) → Is (row ofKept.the-type) x vs → KeptFits x
+kept-good : (x : HeldRow) (vs : List Val) → Is (row ofHeldRow.the-type) x vs → HeldRowFits x
 kept-good x vs p =
     ((((key-good (x .key) _ (p .1 .1 .0), omega arith), p .1 .1 .1 .0 .1), p .1 .1 .1 .1 .0 .1), held-good (x .held) _ (p .1 .1 .1 .1 .1 .0))
 
@@ -73,12 +73,12 @@ expiry-good (At t) vs p = p .1 .1 .1 .1 .0 .1
 
 pub node-fits : (n : Node) (vs : List Val) → Is (row ofNode.the-type) n vs → Fits n
 node-fits n vs p =
-    let rows = array-good (field ofKept.the-type .row .own) (ofKept.the-type .to) keptF keptValue kept-good 8 (n .held) _ (p .1 .1 .1 .1 .1 .1 .0) in
+    let rows = array-good (field ofHeldRow.the-type .row .own) (ofHeldRow.the-type .to) heldRowF heldRowValue kept-good 8 (n .held) _ (p .1 .1 .1 .1 .1 .1 .0) in
     record {
       id = p .1 .1 .0 .1 .1 .0 .1;
       incarnation = p .1 .1 .1 .0 .1;
       version = p .1 .1 .1 .1 .1 .0 .1;
       expiry = expiry-good (n .expiry) _ (p .1 .1 .1 .1 .0);
-      long = sym (length-map (n .held) keptValue) ∙ rows .0;
-      rows = all-take KeptFits (n .count) (n .held) (all-mapped (Good keptF) keptValue (n .held) (rows .1));
+      long = sym (length-map (n .held) heldRowValue) ∙ rows .0;
+      rows = all-take HeldRowFits (n .count) (n .held) (all-mapped (Good heldRowF) heldRowValue (n .held) (rows .1));
     }

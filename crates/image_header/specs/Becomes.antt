@@ -13,15 +13,15 @@ use Rattle.spec.specs.Layout.Format.{concatMap}
 use Rattle.spec.specs.Node.Held as held
 use Rattle.node_header.specs.View.{Stores, used, viewNode}
 use Rattle.node_header.specs.Formed.{formedNode}
-use Rattle.node_header.specs.Seats.{slotsOf}
-use Rattle.node_header.specs.declared.Kept.{Kept}
+use Rattle.node_header.specs.Slots.{slotsOf}
+use Rattle.node_header.specs.declared.HeldRow.{HeldRow}
 use Rattle.node_header.specs.declared.Node.{Node}
 use Rattle.image_parts.specs.Shape.{inUse}
 use Rattle.image_parts.specs.Codes.{epochOf}
 use Rattle.image_parts.specs.Parts.{noReplica}
 use Rattle.image_parts.specs.Canon.{padded, imageKey}
-use Rattle.image_header_row.specs.Rows.{noPeer, keptBytes}
-use Rattle.image_header_row.specs.Tidy.{tidyKept}
+use Rattle.image_header_row.specs.Rows.{noPeer, heldRowBytes}
+use Rattle.image_header_row.specs.Tidy.{tidyHeldRow}
 use Rattle.image_header.specs.Image.{headOf, headerLent, nodeAt, headerWritten}
 
 -- families of stores whose tables have as many vectors as the header counts
@@ -35,8 +35,8 @@ tableFits h = leb (length (h .replica .vectors)) maxEntries
 -- ---- the image of a node of the specification, whose shards have these slots
 
 -- a shard as the row that says it, in the store of its slot
-abbrev pub imageKept : held.Held → (slot : ℕ) → Kept
-imageKept h slot = record {
+abbrev pub imageHeldRow : held.Held → (slot : ℕ) → HeldRow
+imageHeldRow h slot = record {
   key = imageKey (h .key);
   slot = slot;
   stored = length (h .replica .vectors);
@@ -54,10 +54,10 @@ imageKept h slot = record {
 }
 
 -- each shard with its slot
-abbrev pub imageRows : List held.Held → (slots : List ℕ) → List Kept
+abbrev pub imageRows : List held.Held → (slots : List ℕ) → List HeldRow
 imageRows [] slots = []
 imageRows (h ∷ hs) [] = []
-imageRows (h ∷ hs) (slot ∷ slots) = imageKept h slot ∷ imageRows hs slots
+imageRows (h ∷ hs) (slot ∷ slots) = imageHeldRow h slot ∷ imageRows hs slots
 
 -- a lease's end: 0 never, 1 at a time
 abbrev pub leaseCode : Option ℕ → ℕ
@@ -72,7 +72,7 @@ leaseTime (some t) = t
 unfoldable pub headerImage : held.Node → (slots : List ℕ) → List ℕ
 headerImage n slots =
     headOf (n .id) (n .incarnation) (n .version) (length (n .held)) (leaseCode (n .expiry)) (leaseTime (n .expiry))
-    ++ concatMap keptBytes (imageRows (n .held) slots)
+    ++ concatMap heldRowBytes (imageRows (n .held) slots)
 
 -- ---- what a write promises
 
@@ -82,10 +82,10 @@ pub record HeaderBecomes (s t : List ℕ) (n : Node) : Type 0 where
   pub bytes : (st : Stores) → Counted st → t ≡ sets s 0 (headerImage (viewNode st n) (slotsOf n))
   pub lent : headerLent t ≡ true
   pub read : (st : Stores) → viewNode st (nodeAt t) ≡ viewNode st n
-  pub seats : slotsOf (nodeAt t) ≡ slotsOf n
+  pub slotsAre : slotsOf (nodeAt t) ≡ slotsOf n
   pub formed : formedNode n ≡ true → formedNode (nodeAt t) ≡ true
   pub count : nodeAt t .count ≡ inUse 8 (n .count)
-  pub rows : used (nodeAt t) ≡ map tidyKept (used n)
+  pub rows : used (nodeAt t) ≡ map tidyHeldRow (used n)
 
 -- a buffer that is shorter than an image stays as it was
 pub record HeaderWrites (s t : List ℕ) (n : Node) : Type 0 where

@@ -11,19 +11,19 @@ use Rattle.spec.specs.Layout.Format.{numberAt, bytesOf, concatMap}
 use Rattle.spec.specs.declared.Metric.the-variants.{Euclidean}
 use Rattle.spec.specs.declared.Role.the-variants.{Backup}
 use Rattle.node_admit.specs.declared.Expiry.the-variants.{Never}
-use Rattle.node_header.specs.declared.Kept.{Kept}
+use Rattle.node_header.specs.declared.HeldRow.{HeldRow}
 use Rattle.node_header.specs.declared.Node.{Node}
 use Rattle.image_header.specs.declared.Lent.{Lent}
 use Rattle.image_parts.specs.Shape.{inUse, rowsAt, codesBelow}
 use Rattle.image_parts.specs.Codes.{idOf, epochOf}
 use Rattle.image_parts.specs.Parts.{noKey, noReplica}
-use Rattle.image_header_row.specs.Rows.{noPeer, expiryOf, expiryCode, expiryTime, keptAt, keptBytes}
-use Rattle.image_header_row.specs.Tidy.{tidyKept}
+use Rattle.image_header_row.specs.Rows.{noPeer, expiryOf, expiryCode, expiryTime, heldRowAt, heldRowBytes}
+use Rattle.image_header_row.specs.Tidy.{tidyHeldRow}
 
 -- ---- rows that say nothing
 
-unfoldable pub noKept : Kept
-noKept = record {
+unfoldable pub noHeldRow : HeldRow
+noHeldRow = record {
   key = noKey;
   slot = 0;
   stored = 0;
@@ -42,12 +42,12 @@ noKept = record {
 
 -- a header without shards
 unfoldable pub noNode : Node
-noNode = record { id = idOf 0; incarnation = 0; expiry = Never; version = 0; held = replicate 8 noKept; count = 0 }
+noNode = record { id = idOf 0; incarnation = 0; expiry = Never; version = 0; held = replicate 8 noHeldRow; count = 0 }
 
 -- ---- what the bytes are read as
 
-abbrev pub shardsAt : List ℕ → List Kept
-shardsAt s = rowsAt 8 (inUse 8 (numberAt 8 s 24)) (keptAt s) noKept 1280 48
+abbrev pub shardsAt : List ℕ → List HeldRow
+shardsAt s = rowsAt 8 (inUse 8 (numberAt 8 s 24)) (heldRowAt s) noHeldRow 1280 48
 
 unfoldable pub nodeAt : List ℕ → Node
 nodeAt s = record {
@@ -93,7 +93,7 @@ abbrev pub headBytes : Node → List ℕ
 headBytes n = headOf (n .id .0) (n .incarnation) (n .version) (inUse 8 (n .count)) (expiryCode (n .expiry)) (expiryTime (n .expiry))
 
 abbrev pub shardsBytes : Node → List ℕ
-shardsBytes n = concatMap keptBytes (map tidyKept (take (n .count) (n .held)))
+shardsBytes n = concatMap heldRowBytes (map tidyHeldRow (take (n .count) (n .held)))
 
 unfoldable pub headerPut : List ℕ → Node → List ℕ
 headerPut s n = sets (sets s 0 (headBytes n)) 48 (shardsBytes n)

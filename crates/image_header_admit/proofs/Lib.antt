@@ -1,2 +1,2 @@
-pub mod OfAdmission
-pub mod OfStep
+pub mod AdmissionLaws
+pub mod Step

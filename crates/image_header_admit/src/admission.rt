@@ -9,7 +9,7 @@ ghost use Rattle.spec.specs.Node.Client.{isMember};
 ghost use Rattle.spec.specs.Node.Lease.{before};
 ghost use Rattle.node_admit.specs.View.{viewExpiry};
 ghost use Rattle.node_admit.specs.Admits.{AdmitsWrite};
-ghost use Rattle.image_header_row.specs.Rows.{peersAt, keptAt};
+ghost use Rattle.image_header_row.specs.Rows.{peersAt, heldRowAt};
 ghost use Rattle.image_header.specs.Image.{nodeAt};
 use image_header::expiry_of;
 use image_header_row::held::role_at;
@@ -67,7 +67,7 @@ fn is_leased(s: &[u8], clock: u64) -> bool
 // The shard whose row begins at `row`: 18, 19, 20, 23 a full log.
 pub fn admit_write(s: &[u8], row: usize, epoch: u64, clock: u64, least: u64) -> Admit
     requires { ⌜ (10288 ≤ length (now s)) × (row + 1280 ≤ length (now s)) × (numberAt 8 (now s) (row + 88) ≤ 32) ⌝ }
-    ensures { λ r. ⌜ AdmitsWrite (keptAt (now (s .entry)) row .held) epoch (before (viewExpiry (nodeAt (now (s .entry)) .expiry)) clock) least r ⌝ }
+    ensures { λ r. ⌜ AdmitsWrite (heldRowAt (now (s .entry)) row .held) epoch (before (viewExpiry (nodeAt (now (s .entry)) .expiry)) clock) least r ⌝ }
 {
     let role = role_at(s, row + ROLE);
     if !leads(role, epoch) {

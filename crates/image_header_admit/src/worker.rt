@@ -7,7 +7,7 @@ ghost use Rattle.spec.specs.Lists.{lead};
 ghost use Rattle.node_shard.specs.View.{others};
 ghost use Rattle.node_shard.specs.Formed.{formedHeld};
 ghost use Rattle.node_admit.specs.Steps.{stepFrom, Steps};
-ghost use Rattle.image_header_row.specs.Rows.{peersAt, keptAt};
+ghost use Rattle.image_header_row.specs.Rows.{peersAt, heldRowAt};
 use image_header_row::held::role_at;
 use image_header_row::peers::peer_at;
 use image_layout::header::COUNT;
@@ -63,8 +63,8 @@ fn peer_place(s: &[u8], at: usize, count: usize, node: u64) -> usize
 
 // The step at the shard whose row begins at `row`, which is not malformed.
 pub fn step(header: &[u8], row: usize, epoch: u64, peer: u64) -> Step
-    requires { ⌜ (row + 1280 ≤ length (now header)) × (formedHeld (keptAt (now header) row .held) ≡ true) ⌝ }
-    ensures { λ r. ⌜ Steps (keptAt (now (header .entry)) row .held) epoch peer r ⌝ }
+    requires { ⌜ (row + 1280 ≤ length (now header)) × (formedHeld (heldRowAt (now header) row .held) ≡ true) ⌝ }
+    ensures { λ r. ⌜ Steps (heldRowAt (now (header .entry)) row .held) epoch peer r ⌝ }
 {
     let rows = row + PEERS;
     let role = role_at(header, row + ROLE);

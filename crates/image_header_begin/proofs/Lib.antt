@@ -1,2 +1,2 @@
-pub mod OfRows
-pub mod OfBegun
+pub mod RowLaws
+pub mod Begun

@@ -10,16 +10,16 @@ use Rattle.spec.specs.declared.Role.the-variants.{Backup}
 use Rattle.node_shard.specs.declared.Held.{Held}
 use Rattle.node_admit.specs.Headers.{Begins, Realigns}
 use Rattle.map_tables.specs.declared.ShardKey.{ShardKey}
-use Rattle.node_header.specs.declared.Kept.{Kept}
+use Rattle.node_header.specs.declared.HeldRow.{HeldRow}
 use Rattle.node_header.specs.declared.Node.{Node}
 use Rattle.node_header.specs.Grow.{Inserts}
-use Rattle.image_header_row.specs.Rows.{keptAt}
+use Rattle.image_header_row.specs.Rows.{heldRowAt}
 use Rattle.image_header.specs.Image.{nodeAt}
 use Rattle.image_header.specs.Becomes.{HeaderWrites}
 
 -- the row at a place
-abbrev pub rowAt : List ℕ → ℕ → Kept
-rowAt s j = keptAt s (48 + 1280 * j)
+abbrev pub rowAt : List ℕ → ℕ → HeldRow
+rowAt s j = heldRowAt s (48 + 1280 * j)
 
 -- of `count` rows those from place `at` on are read one place up, those below it are as they were, and the header counts one more: the row at
 -- place `at` is free
@@ -49,7 +49,7 @@ begunHeld h epoch metric = record {
   count = 0;
 }
 
-abbrev pub begunSet : Kept → ShardKey → (slot epoch : ℕ) → Metric → Kept
+abbrev pub begunSet : HeldRow → ShardKey → (slot epoch : ℕ) → Metric → HeldRow
 begunSet x key slot epoch metric = record { key = key; slot = slot; stored = 0; held = begunHeld (x .held) epoch metric }
 
 -- the image s became t, in which the header stands with that shard put in

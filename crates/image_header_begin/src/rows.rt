@@ -2,7 +2,7 @@
 ghost use mathlib.Core.Path.{_≡_};
 ghost use Prim.Native.Nat.{_+_, _≤_, _<_};
 ghost use lib.ListN.{length};
-ghost use Rattle.image_header_row.specs.Rows.{keptAt};
+ghost use Rattle.image_header_row.specs.Rows.{heldRowAt};
 ghost use Rattle.image_header_set.specs.Row.{RowBecomes};
 ghost use Rattle.image_header_begin.specs.Begun.{Opened, begunSet};
 use image_header_set::set::set_aligned;
@@ -40,7 +40,7 @@ pub fn open_row(out: &mut [u8], at: usize, count: usize)
 // A shard with no entries, of which no replica and no peer is known. What the row held of them is past those in use.
 pub fn set_begun(out: &mut [u8], row: usize, key: ShardKey, slot: u64, epoch: u64, metric: Metric)
     requires { ⌜ row + 1280 ≤ length (now out) ⌝ }
-    ensures { λ _. ⌜ RowBecomes (now (out .entry)) (now (out .exit)) row (begunSet (keptAt (now (out .entry)) row) key slot epoch metric) ⌝ }
+    ensures { λ _. ⌜ RowBecomes (now (out .entry)) (now (out .exit)) row (begunSet (heldRowAt (now (out .entry)) row) key slot epoch metric) ⌝ }
 {
     put_key(out, row, key);
     num::put8(out, row + SLOT, slot);

@@ -5,8 +5,8 @@ ghost use lib.ListN.{length, take, drop};
 ghost use Rattle.spec.specs.Lists.{any, every, rising};
 ghost use Rattle.spec.specs.Node.Shards.{rowBelow};
 ghost use Rattle.spec.specs.Node.WellFormed.{ackFits};
-ghost use Rattle.node_header.specs.Formed.{onSlot, slotsFit, keptFits, keptBelow, formedNode};
-ghost use Rattle.image_header_row.specs.Rows.{peersAt, keptAt};
+ghost use Rattle.node_header.specs.Formed.{onSlot, slotsFit, heldRowFits, heldRowBelow, formedNode};
+ghost use Rattle.image_header_row.specs.Rows.{peersAt, heldRowAt};
 ghost use Rattle.image_header.specs.Image.{nodeAt};
 ghost use Rattle.image_header_check.specs.Rows.{Counts};
 use image_parts::keys::key_at;
@@ -48,7 +48,7 @@ fn rows_rise(s: &[u8], at: usize, count: usize) -> bool
 // One shard.
 fn row_fits(s: &[u8], at: usize) -> bool
     requires { ⌜ at + 1280 ≤ length (now s) ⌝ }
-    ensures { λ r. ⌜ r ≡ keptFits (keptAt (now (s .entry)) at) ⌝ }
+    ensures { λ r. ⌜ r ≡ heldRowFits (heldRowAt (now (s .entry)) at) ⌝ }
 {
     if 32 < num::get8(s, at) {
         return false;
@@ -73,7 +73,7 @@ fn row_fits(s: &[u8], at: usize) -> bool
 // Every shard.
 fn all_fit(s: &[u8], count: usize) -> bool
     requires { ⌜ Counts (now s) count ⌝ }
-    ensures { λ r. ⌜ r ≡ every keptFits (take count (nodeAt (now (s .entry)) .held)) ⌝ }
+    ensures { λ r. ⌜ r ≡ every heldRowFits (take count (nodeAt (now (s .entry)) .held)) ⌝ }
 {
     let mut i: usize = 0;
     while i < count {
@@ -88,7 +88,7 @@ fn all_fit(s: &[u8], count: usize) -> bool
 // Keys that rise.
 fn keys_rise(s: &[u8], count: usize) -> bool
     requires { ⌜ Counts (now s) count ⌝ }
-    ensures { λ r. ⌜ r ≡ rising keptBelow (take count (nodeAt (now (s .entry)) .held)) ⌝ }
+    ensures { λ r. ⌜ r ≡ rising heldRowBelow (take count (nodeAt (now (s .entry)) .held)) ⌝ }
 {
     if count == 0 {
         return true;

@@ -3,11 +3,11 @@ use Prim.Native.Nat.{ℕ}
 use mathlib.Core.List.{List}
 use lib.ListN.{getD, set}
 use Rattle.node_shard.specs.declared.Held.{Held}
-use Rattle.node_header.specs.declared.Kept.{Kept}
+use Rattle.node_header.specs.declared.HeldRow.{HeldRow}
 use Rattle.node_header.specs.declared.Node.{Node}
-use Rattle.node_header.specs.View.{noKept, withKepts}
+use Rattle.node_header.specs.View.{noHeldRow, withHeldRows}
 use Rattle.image_parts.specs.Shape.{items}
-use Rattle.image_header_row.specs.Rows.{keptAt}
+use Rattle.image_header_row.specs.Rows.{heldRowAt}
 
 abbrev pub lastAs : Held → ℕ → Held
 lastAs h last = record {
@@ -22,16 +22,16 @@ lastAs h last = record {
   count = h .count;
 }
 
-abbrev pub counted : Kept → (last stored : ℕ) → Kept
+abbrev pub counted : HeldRow → (last stored : ℕ) → HeldRow
 counted x last stored = record { key = x .key; slot = x .slot; stored = stored; held = lastAs (x .held) last }
 
-abbrev pub rowsIn : List ℕ → ℕ → List Kept
-rowsIn s count = items count (keptAt s) 1280 48
+abbrev pub rowsIn : List ℕ → ℕ → List HeldRow
+rowsIn s count = items count (heldRowAt s) 1280 48
 
 -- the rows of a header, one of them so
-abbrev pub countedRows : List ℕ → (count row last stored : ℕ) → List Kept
-countedRows s count row last stored = set (rowsIn s count) row (counted (getD (rowsIn s count) row noKept) last stored)
+abbrev pub countedRows : List ℕ → (count row last stored : ℕ) → List HeldRow
+countedRows s count row last stored = set (rowsIn s count) row (counted (getD (rowsIn s count) row noHeldRow) last stored)
 
 -- the header with these numbers of one shard: node_lent's `withStore`
 abbrev pub withCounts : Node → (row last stored : ℕ) → Node
-withCounts n row last stored = withKepts n (set (n .held) row (counted (getD (n .held) row noKept) last stored))
+withCounts n row last stored = withHeldRows n (set (n .held) row (counted (getD (n .held) row noHeldRow) last stored))

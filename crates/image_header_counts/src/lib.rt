@@ -6,8 +6,8 @@ ghost use lib.ListN.{length};
 ghost use lib.Seq.{sets};
 ghost use Rattle.spec.specs.Layout.Format.{concatMap};
 ghost use Rattle.image_parts.specs.Shape.{Stored};
-ghost use Rattle.image_header_row.specs.Rows.{keptAt, keptBytes};
-ghost use Rattle.image_header_row.specs.Tidy.{tidyKept};
+ghost use Rattle.image_header_row.specs.Rows.{heldRowAt, heldRowBytes};
+ghost use Rattle.image_header_row.specs.Tidy.{tidyHeldRow};
 ghost use Rattle.image_header.specs.Image.{nodeAt};
 ghost use Rattle.image_header.specs.Becomes.{HeaderWrites};
 ghost use Rattle.image_header_check.specs.Rows.{Counts};
@@ -30,7 +30,7 @@ const LAST: usize = 72;
 // The row at a position, tidied, with these numbers.
 fn row_counted(out: &mut [u8], at: usize, last: u64, stored: u64)
     requires { ⌜ at + 1280 ≤ length (now out) ⌝ }
-    ensures { λ _. ⌜ Stored (now (out .entry)) (now (out .exit)) at (keptBytes (tidyKept (counted (keptAt (now (out .entry)) at) last stored))) 1280 ⌝ }
+    ensures { λ _. ⌜ Stored (now (out .entry)) (now (out .exit)) at (heldRowBytes (tidyHeldRow (counted (heldRowAt (now (out .entry)) at) last stored))) 1280 ⌝ }
 {
     row_tidied(out, at);
     num::put8(out, at + STORED, stored);
@@ -40,7 +40,7 @@ fn row_counted(out: &mut [u8], at: usize, last: u64, stored: u64)
 // The first `count` rows, that of the shard with these numbers.
 fn rows_counted(out: &mut [u8], count: usize, row: usize, last: u64, stored: u64)
     requires { ⌜ (10288 ≤ length (now out)) × (count ≤ 8) × (row < count) ⌝ }
-    ensures { λ _. ⌜ now (out .exit) ≡ sets (now (out .entry)) 48 (concatMap keptBytes (map tidyKept (countedRows (now (out .entry)) count row last stored))) ⌝ }
+    ensures { λ _. ⌜ now (out .exit) ≡ sets (now (out .entry)) 48 (concatMap heldRowBytes (map tidyHeldRow (countedRows (now (out .entry)) count row last stored))) ⌝ }
 {
     let mut i: usize = 0;
     while i < count {

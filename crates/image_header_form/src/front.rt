@@ -6,8 +6,8 @@ ghost use lib.ListN.{length};
 ghost use Rattle.spec.specs.Layout.Format.{bytesOf};
 ghost use Rattle.image_parts.specs.Shape.{Stored};
 ghost use Rattle.image_parts.specs.Parts.{keyBytes, replicasBytes};
-ghost use Rattle.image_header_row.specs.Rows.{roleBytes, keptAt};
-ghost use Rattle.image_header_row.specs.Tidy.{tidyKept};
+ghost use Rattle.image_header_row.specs.Rows.{roleBytes, heldRowAt};
+ghost use Rattle.image_header_row.specs.Tidy.{tidyHeldRow};
 ghost use Rattle.image_header_form.specs.Rows.{countsBytes, frontBytes};
 use image_header_row::held::put_role;
 use image_header_row::held::role_at;
@@ -95,7 +95,7 @@ fn put_front(
 // The canonical form.
 pub fn front_tidied(out: &mut [u8], at: usize)
     requires { ⌜ at + 1280 ≤ length (now out) ⌝ }
-    ensures { λ _. ⌜ Stored (now (out .entry)) (now (out .exit)) at (frontBytes (tidyKept (keptAt (now (out .entry)) at))) 256 ⌝ }
+    ensures { λ _. ⌜ Stored (now (out .entry)) (now (out .exit)) at (frontBytes (tidyHeldRow (heldRowAt (now (out .entry)) at))) 256 ⌝ }
 {
     let slots = at + 48;
     let tables = at + 56;

@@ -6,8 +6,8 @@ ghost use lib.ListN.{length};
 ghost use lib.Seq.{sets};
 ghost use Rattle.spec.specs.Layout.Format.{concatMap};
 ghost use Rattle.image_parts.specs.Shape.{Stored, items};
-ghost use Rattle.image_header_row.specs.Rows.{keptAt, keptBytes};
-ghost use Rattle.image_header_row.specs.Tidy.{tidyKept};
+ghost use Rattle.image_header_row.specs.Rows.{heldRowAt, heldRowBytes};
+ghost use Rattle.image_header_row.specs.Tidy.{tidyHeldRow};
 ghost use Rattle.image_header.specs.Image.{nodeAt, headOf};
 ghost use Rattle.image_header.specs.Becomes.{HeaderWrites};
 ghost use Rattle.image_header_check.specs.Rows.{Counts};
@@ -19,7 +19,7 @@ use image_parts::bytes::in_use;
 // One row: 1,280 bytes.
 pub fn row_tidied(out: &mut [u8], at: usize)
     requires { ⌜ at + 1280 ≤ length (now out) ⌝ }
-    ensures { λ _. ⌜ Stored (now (out .entry)) (now (out .exit)) at (keptBytes (tidyKept (keptAt (now (out .entry)) at))) 1280 ⌝ }
+    ensures { λ _. ⌜ Stored (now (out .entry)) (now (out .exit)) at (heldRowBytes (tidyHeldRow (heldRowAt (now (out .entry)) at))) 1280 ⌝ }
 {
     let n = in_use(32, num::get8(out, at + 88) as usize);
     front_tidied(out, at);
@@ -29,7 +29,7 @@ pub fn row_tidied(out: &mut [u8], at: usize)
 // The first `count` rows.
 fn rows_tidied(out: &mut [u8], count: usize)
     requires { ⌜ (10288 ≤ length (now out)) × (count ≤ 8) ⌝ }
-    ensures { λ _. ⌜ now (out .exit) ≡ sets (now (out .entry)) 48 (concatMap keptBytes (map tidyKept (items count (keptAt (now (out .entry))) 1280 48))) ⌝ }
+    ensures { λ _. ⌜ now (out .exit) ≡ sets (now (out .entry)) 48 (concatMap heldRowBytes (map tidyHeldRow (items count (heldRowAt (now (out .entry))) 1280 48))) ⌝ }
 {
     let mut i: usize = 0;
     while i < count {

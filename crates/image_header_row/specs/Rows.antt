@@ -12,7 +12,7 @@ use Rattle.spec.specs.declared.Role.the-variants.{Backup, Primary}
 use Rattle.node_admit.specs.declared.Expiry.{Expiry}
 use Rattle.node_admit.specs.declared.Expiry.the-variants.{Never, At}
 use Rattle.node_shard.specs.declared.Held.{Held}
-use Rattle.node_header.specs.declared.Kept.{Kept}
+use Rattle.node_header.specs.declared.HeldRow.{HeldRow}
 use Rattle.image_parts.specs.Shape.{Shape, Value, rep, _▸_, u32, u64, value, encode}
 use Rattle.image_parts.specs.Parts.{keyF, keyOf, keyValue, replicaF, replicaRead, replicaValue}
 use Rattle.image_parts.specs.Codes.{idOf, epochOf, flagOf, flagCode}
@@ -96,14 +96,14 @@ abbrev pub heldValue : Held → Value heldF
 heldValue h = (((numbersValue h, roleValue (h .role)), map replicaValue (h .replicas)), map peerValue (h .peers))
 
 -- key, 0, slot, stored, the shard
-abbrev pub keptF : Shape
-keptF = keyF ▸ u32 ▸ u64 ▸ u64 ▸ heldF
+abbrev pub heldRowF : Shape
+heldRowF = keyF ▸ u32 ▸ u64 ▸ u64 ▸ heldF
 
-abbrev pub keptOf : Value keptF → Kept
-keptOf ((((key, unused), slot), stored), held) = record { key = keyOf key; slot = slot; stored = stored; held = heldOf held }
+abbrev pub heldRowOf : Value heldRowF → HeldRow
+heldRowOf ((((key, unused), slot), stored), held) = record { key = keyOf key; slot = slot; stored = stored; held = heldOf held }
 
-abbrev pub keptValue : Kept → Value keptF
-keptValue x = ((((keyValue (x .key), 0), x .slot), x .stored), heldValue (x .held))
+abbrev pub heldRowValue : HeldRow → Value heldRowF
+heldRowValue x = ((((keyValue (x .key), 0), x .slot), x .stored), heldValue (x .held))
 
 -- ---- a lease's end: 0 never, 1 at a time
 
@@ -147,8 +147,8 @@ heldAt s at = heldOf (value heldF s at)
 unfoldable pub heldBytes : Held → List ℕ
 heldBytes h = encode heldF (heldValue h)
 
-unfoldable pub keptAt : List ℕ → ℕ → Kept
-keptAt s at = keptOf (value keptF s at)
+unfoldable pub heldRowAt : List ℕ → ℕ → HeldRow
+heldRowAt s at = heldRowOf (value heldRowF s at)
 
-unfoldable pub keptBytes : Kept → List ℕ
-keptBytes x = encode keptF (keptValue x)
+unfoldable pub heldRowBytes : HeldRow → List ℕ
+heldRowBytes x = encode heldRowF (heldRowValue x)

@@ -3,7 +3,7 @@
 use lib.ListN.{length, take}
 use Rattle.map_tables.specs.Names.{viewKey}
 use Rattle.node_shard.specs.declared.Held.{Held}
-use Rattle.node_header.specs.declared.Kept.{Kept}
+use Rattle.node_header.specs.declared.HeldRow.{HeldRow}
 use Rattle.image_parts.specs.Parts.{noReplica}
 use Rattle.image_parts.specs.Canon.{padded, imageKey}
 use Rattle.image_header_row.specs.Rows.{noPeer}
@@ -21,5 +21,5 @@ tidyHeld h = record {
   count = length (take (h .count) (h .peers));
 }
 
-unfoldable pub tidyKept : Kept → Kept
-tidyKept x = record { key = imageKey (viewKey (x .key)); slot = x .slot; stored = x .stored; held = tidyHeld (x .held) }
+unfoldable pub tidyHeldRow : HeldRow → HeldRow
+tidyHeldRow x = record { key = imageKey (viewKey (x .key)); slot = x .slot; stored = x .stored; held = tidyHeld (x .held) }

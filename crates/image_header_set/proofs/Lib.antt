@@ -1,4 +1,4 @@
-pub mod OfParts
-pub mod OfSet
-pub mod OfPlace
-pub mod OfVersion
+pub mod Parts
+pub mod SetLaws
+pub mod Place
+pub mod VersionLaws

@@ -9,9 +9,9 @@ use Rattle.spec.specs.declared.Role.{Role}
 use Rattle.spec.specs.declared.Role.the-variants.{Backup}
 use Rattle.node_shard.specs.declared.Held.{Held}
 use Rattle.node_shard.specs.View.{withRows}
-use Rattle.node_header.specs.declared.Kept.{Kept}
+use Rattle.node_header.specs.declared.HeldRow.{HeldRow}
 use Rattle.node_header.specs.View.{keptAs, relogged}
-use Rattle.image_header_row.specs.Rows.{keptAt}
+use Rattle.image_header_row.specs.Rows.{heldRowAt}
 
 -- all but `width` bytes from a position on are as they were
 pub record Outside (s t : List ℕ) (at width : ℕ) : Type 0 where
@@ -20,9 +20,9 @@ pub record Outside (s t : List ℕ) (at width : ℕ) : Type 0 where
   pub back : drop (at + width) t ≡ drop (at + width) s
 
 -- the row at a position becomes x, and nothing else is changed
-pub record RowBecomes (s t : List ℕ) (at : ℕ) (x : Kept) : Type 0 where
+pub record RowBecomes (s t : List ℕ) (at : ℕ) (x : HeldRow) : Type 0 where
   pub outside : Outside s t at 1280
-  pub row : keptAt t at ≡ x
+  pub row : heldRowAt t at ≡ x
 
 -- ---- a shard with one thing changed
 
@@ -40,18 +40,18 @@ heldWith h role own count = record {
 }
 
 -- the row of one peer
-abbrev pub peerSet : Kept → ℕ → Peer → Kept
+abbrev pub peerSet : HeldRow → ℕ → Peer → HeldRow
 peerSet x i q = keptAs x (withRows (x .held) (set (x .held .peers) i q))
 
 -- whether the node is in its own ack set
-abbrev pub ownSet : Kept → Bool → Kept
+abbrev pub ownSet : HeldRow → Bool → HeldRow
 ownSet x own = keptAs x (heldWith (x .held) (x .held .role) own (x .held .count))
 
-abbrev pub roleSet : Kept → Role → Kept
+abbrev pub roleSet : HeldRow → Role → HeldRow
 roleSet x role = keptAs x (heldWith (x .held) role (x .held .own) (x .held .count))
 
 -- how many peers
-abbrev pub countSet : Kept → ℕ → Kept
+abbrev pub countSet : HeldRow → ℕ → HeldRow
 countSet x count = keptAs x (heldWith (x .held) (x .held .role) (x .held .own) count)
 
 -- node.rs, step_down: the primary role left, with all that the record tracked
@@ -74,13 +74,13 @@ alignedHeld h epoch last = record {
 }
 
 -- .. with as many rows of its table
-abbrev pub alignedSet : Kept → (epoch last stored : ℕ) → Kept
+abbrev pub alignedSet : HeldRow → (epoch last stored : ℕ) → HeldRow
 alignedSet x epoch last stored = record { key = x .key; slot = x .slot; stored = stored; held = alignedHeld (x .held) epoch last }
 
-abbrev pub storedSet : Kept → ℕ → Kept
+abbrev pub storedSet : HeldRow → ℕ → HeldRow
 storedSet x stored = record { key = x .key; slot = x .slot; stored = stored; held = x .held }
 
-abbrev pub epochSet : Kept → ℕ → Kept
+abbrev pub epochSet : HeldRow → ℕ → HeldRow
 epochSet x epoch = record {
   key = x .key;
   slot = x .slot;
@@ -98,5 +98,5 @@ epochSet x epoch = record {
   };
 }
 
-abbrev pub lastSet : Kept → ℕ → Kept
+abbrev pub lastSet : HeldRow → ℕ → HeldRow
 lastSet x last = record { key = x .key; slot = x .slot; stored = x .stored; held = relogged (x .held) last }

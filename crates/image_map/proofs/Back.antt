@@ -23,13 +23,13 @@ use Rattle.map_tables.specs.declared.Sessions.{Sessions}
 use Rattle.map_tables.specs.declared.ShardMap.{ShardMap}
 use Rattle.image_parts.specs.Shape.{Shape, Value, _▸_, u64, Good, value}
 use Rattle.image_parts.proofs.Back.{length-encode, value-encode, length-rows, Holds, holds-stored, holds-kept}
-use Rattle.image_parts.proofs.OfCodes.{flag-back, flag-small, primary-back, primary-small, outcome-back, outcome-small, replicas-back, ids-back}
+use Rattle.image_parts.proofs.CodeLaws.{flag-back, flag-small, primary-back, primary-small, outcome-back, outcome-small, replicas-back, ids-back}
 use Rattle.image_map_form.specs.Canon.{imageNode, imageCollection, imageShard, imageSession}
 use Rattle.image_map_row.specs.Rows.{nodeF, nodeOf, nodeValue, nodeAt, nodeBytes, collectionF, collectionOf, collectionValue, collectionAt, collectionBytes, shardF, shardRowOf, shardValue, shardAt, shardBytes, sessionF, sessionOf, sessionValue, sessionAt, sessionBytes}
 use Rattle.image_map.specs.Image.{noNode, noCollection, noShard, noSession, codesListed, mapLent, mapAt, headImage, mapStored, imageMap, MapBecomes}
 use Rattle.image_map.proofs.Canon.{view-map}
 use Rattle.image_map.proofs.Tables.{Few, table-held, table-listed}
-use Rattle.image_map.proofs.OfImage.{lent-whole}
+use Rattle.image_map.proofs.Image.{lent-whole}
 
 -- ---- rows: the numbers and arrays of a row are those of its types
 

@@ -1,4 +1,4 @@
-pub mod OfImage
+pub mod Image
 pub mod Canon
 pub mod Tables
 pub mod Back

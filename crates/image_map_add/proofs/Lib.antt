@@ -1,2 +1,2 @@
-pub mod OfCollections
-pub mod OfShards
+pub mod CollectionLaws
+pub mod ShardLaws

@@ -1,6 +1,6 @@
-pub mod OfIds
-pub mod OfSums
-pub mod OfRoom
-pub mod OfTests
-pub mod OfSix
-pub mod OfAnswer
+pub mod Ids
+pub mod SumLaws
+pub mod Room
+pub mod TestLaws
+pub mod SixLaws
+pub mod Answer

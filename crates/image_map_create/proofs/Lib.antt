@@ -1,5 +1,5 @@
-pub mod OfNodes
-pub mod OfLists
-pub mod OfRoom
-pub mod OfGrown
-pub mod OfCreated
+pub mod NodeLaws
+pub mod ListLaws
+pub mod RoomLaws
+pub mod Grown
+pub mod Created

@@ -1,2 +1,2 @@
-pub mod OfKept
-pub mod OfDrop
+pub mod Kept
+pub mod Drop

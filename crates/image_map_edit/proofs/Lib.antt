@@ -1,8 +1,8 @@
-pub mod OfApart
-pub mod OfTable
-pub mod OfTypes
-pub mod OfPut
-pub mod OfTables
-pub mod OfNodes
-pub mod OfCover
-pub mod OfFrames
+pub mod Apart
+pub mod Table
+pub mod Types
+pub mod Put
+pub mod Tables
+pub mod NodeLaws
+pub mod Cover
+pub mod Frames

@@ -1,2 +1,2 @@
-pub mod OfRows
-pub mod OfLoads
+pub mod Rows
+pub mod Loads

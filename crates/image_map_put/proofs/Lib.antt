@@ -1,3 +1,3 @@
-pub mod OfGood
-pub mod OfTidy
-pub mod OfWhole
+pub mod Good
+pub mod Tidy
+pub mod Whole

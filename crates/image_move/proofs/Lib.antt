@@ -1,2 +1,2 @@
-pub mod OfBytes
-pub mod OfMoves
+pub mod Bytes
+pub mod Moves

@@ -1,6 +1,6 @@
-pub mod OfRoom
-pub mod OfGrown
-pub mod OfBytes
-pub mod OfBatch
-pub mod OfTable
-pub mod OfColumns
+pub mod RoomLaws
+pub mod Grown
+pub mod Bytes
+pub mod Batch
+pub mod TableLaws
+pub mod Columns

@@ -16,7 +16,7 @@ use Rattle.log_store.specs.Store.{Store, lent, replicaIn}
 use Rattle.image_store.specs.Image.{keysAt, storeSize, keysIn, placesIn, logAt, rowsAt, wellFormedImage}
 use Rattle.image_store.specs.Read.{columnsAt}
 use Rattle.image_store.specs.Write.{logPut, rowsPut}
-use Rattle.image_node.specs.Lent.{noLot, storesSize}
+use Rattle.image_node.specs.Lent.{noLentStore, storesSize}
 use Rattle.image_store_append.specs.Put.{Grown, entryBy}
 use Rattle.image_node_batch.specs.declared.Stock.{Stock}
 
@@ -27,13 +27,13 @@ Reaches es n P = (q : ShardReplica) → lastOffset q ≡ n → P (lastOffset (st
 abbrev pub HoldsAll : List WireEntry → (n : ℕ) → Type 0
 HoldsAll es n = Reaches es n (λ k. k ≤ maxEntries)
 
-pub record RoomTold (es : List WireEntry) (n : ℕ) (r : Bool) : Type 0 where
+pub record RoomAnswered (es : List WireEntry) (n : ℕ) (r : Bool) : Type 0 where
   pub yes : r ≡ true → HoldsAll es n
   pub over : r ≡ false → Reaches es n (λ k. maxEntries < k)
 
 -- the columns that a store's bytes are read as
 abbrev pub storeAt : List ℕ → (base count stored : ℕ) → Store
-storeAt s base count stored = lent (columnsAt s base count (noLot .columns .floats)) (keysIn s base) (placesIn s base) count stored
+storeAt s base count stored = lent (columnsAt s base count (noLentStore .columns .floats)) (keysIn s base) (placesIn s base) count stored
 
 -- one entry of a message: appended if it is the next
 pub record Steps (s t : List ℕ) (base count stored : ℕ) (m : List ℕ) (e : EntryPart) (r : Stock) : Type 0 where

@@ -1,1 +1,1 @@
-pub mod OfFind
+pub mod FindLaws

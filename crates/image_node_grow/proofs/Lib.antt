@@ -1,3 +1,3 @@
-pub mod OfGrow
-pub mod OfOps
-pub mod OfKept
+pub mod GrowLaws
+pub mod Ops
+pub mod Kept

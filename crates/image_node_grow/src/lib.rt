@@ -11,7 +11,7 @@ ghost use Rattle.image_header.specs.Becomes.{HeaderWrites};
 ghost use Rattle.image_header_check.specs.Rows.{Counts};
 ghost use Rattle.image_header_counts.specs.Counts.{withCounts};
 ghost use Rattle.image_node.specs.Lent.{beginOf};
-ghost use Rattle.image_node.specs.State.{keptImage};
+ghost use Rattle.image_node.specs.State.{heldRowImage};
 ghost use Rattle.image_node_grow.specs.Grow.{rowIn, Grows};
 use image_header_counts::put_counts;
 use image_layout::header::EPOCH;
@@ -29,7 +29,7 @@ use wire_read::OpPart;
 pub fn grow(header: &mut [u8], stores: &mut [u8], at: usize, message: &[u8], op: OpPart)
     requires { ⌜ Counts (now header) (nodeAt (now header) .count) × (at < nodeAt (now header) .count) × (rowIn (now header) at .slot < 8)
         × (rowIn (now header) at .held .last < 1024)
-        × (beginOf (rowIn (now header) at) + 174080 ≤ length (now stores)) × (keptImage (now stores) (rowIn (now header) at) ≡ true)
+        × (beginOf (rowIn (now header) at) + 174080 ≤ length (now stores)) × (heldRowImage (now stores) (rowIn (now header) at) ≡ true)
         × OpThere (now message) op × (opInDomain (opIn (now message) op) ≡ true) ⌝ }
     ensures { λ _. ⌜ Grows (now (header .entry)) (now (header .exit)) (now (stores .entry)) (now (stores .exit)) at (now (message .entry)) op ⌝ }
 {

@@ -1,6 +1,6 @@
 pub mod Images
 pub mod Tests
-pub mod OfCodes
+pub mod CodeLaws
 pub mod Back
 pub mod Canon
 pub mod Types

@@ -1,2 +1,2 @@
-pub mod OfStore
-pub mod OfRuns
+pub mod Store
+pub mod Runs

@@ -12,11 +12,11 @@ use Rattle.log_store.specs.View.{Columns, logOf}
 use Rattle.node_send_entries.specs.Sent.{Sendable}
 use Rattle.image_store.specs.Image.{storeSize, logAt}
 use Rattle.image_store.specs.Read.{columnsAt, allReadable}
-use Rattle.image_node.specs.Lent.{noLot}
+use Rattle.image_node.specs.Lent.{noLentStore}
 
 -- the columns of the store of `count` entries that begins at `base`
 abbrev pub storeColumns : List ℕ → (base count : ℕ) → Columns
-storeColumns s base count = columnsAt s base count (noLot .columns .floats)
+storeColumns s base count = columnsAt s base count (noLentStore .columns .floats)
 
 -- what the test of a store (24) says of its bytes
 pub record Sends (s : List ℕ) (base count : ℕ) : Type 0 where

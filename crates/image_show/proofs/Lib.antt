@@ -1,2 +1,2 @@
-pub mod OfRow
-pub mod OfQuiet
+pub mod RowLaws
+pub mod QuietLaws

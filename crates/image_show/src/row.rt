@@ -10,7 +10,7 @@ ghost use Rattle.spec.specs.Node.Shown.{withRows};
 ghost use Rattle.spec.specs.declared.Role.the-variants.{Backup};
 ghost use Rattle.map_tables.specs.View.{viewHolders};
 ghost use Rattle.map_tables.specs.Counted.{Sized};
-ghost use Rattle.image_header_row.specs.Rows.{peersAt, keptAt};
+ghost use Rattle.image_header_row.specs.Rows.{peersAt, heldRowAt};
 ghost use Rattle.image_show.specs.Quiet.{lost, HoldsAs, LedOn, LeftOn, QuietRow};
 use image_header_row::held::role_at;
 use image_header_row::peers::peer_at;
@@ -116,7 +116,7 @@ fn same_replicas(a: [Replica; 8], b: [Replica; 8], count: usize) -> bool
 // The shard has the replicas that the map lists.
 fn holds_as(s: &[u8], at: usize, list: Holders) -> bool
     requires { ⌜ (at + 1280 ≤ length (now s)) × (list .count ≤ 8) ⌝ }
-    ensures { λ r. ⌜ (r ≡ true → HoldsAs (keptAt (now (s .entry)) at .held) list) ⌝ }
+    ensures { λ r. ⌜ (r ≡ true → HoldsAs (heldRowAt (now (s .entry)) at .held) list) ⌝ }
 {
     if num::get8(s, at + HOLDERS) as usize != list.count {
         return false;
@@ -129,7 +129,7 @@ fn holds_as(s: &[u8], at: usize, list: Holders) -> bool
 // The map names this node primary: no new record, and none of the peers changes.
 fn led_on(s: &[u8], at: usize, me: u64, row: ShardRow) -> bool
     requires { ⌜ (at + 1280 ≤ length (now s)) × (numberAt 8 (now s) (at + 88) ≤ 32) × Sized row ⌝ }
-    ensures { λ r. ⌜ (r ≡ true → LedOn (keptAt (now (s .entry)) at .held) me row) ⌝ }
+    ensures { λ r. ⌜ (r ≡ true → LedOn (heldRowAt (now (s .entry)) at .held) me row) ⌝ }
 {
     let list = row.replicas;
     let items = list.items;
@@ -158,7 +158,7 @@ fn is_backup(role: Role) -> bool
 // The map does not: a backup that tracks nothing.
 fn left_on(s: &[u8], at: usize) -> bool
     requires { ⌜ at + 1280 ≤ length (now s) ⌝ }
-    ensures { λ r. ⌜ (r ≡ true → LeftOn (keptAt (now (s .entry)) at .held)) ⌝ }
+    ensures { λ r. ⌜ (r ≡ true → LeftOn (heldRowAt (now (s .entry)) at .held)) ⌝ }
 {
     let role = role_at(s, at + ROLE);
     if !is_backup(role) {
@@ -172,7 +172,7 @@ fn left_on(s: &[u8], at: usize) -> bool
 
 pub fn row_quiet(s: &[u8], at: usize, me: u64, row: ShardRow) -> bool
     requires { ⌜ (at + 1280 ≤ length (now s)) × (numberAt 8 (now s) (at + 88) ≤ 32) × Sized row ⌝ }
-    ensures { λ r. ⌜ (r ≡ true → QuietRow (keptAt (now (s .entry)) at .held) me row) ⌝ }
+    ensures { λ r. ⌜ (r ≡ true → QuietRow (heldRowAt (now (s .entry)) at .held) me row) ⌝ }
 {
     let list = row.replicas;
     if !holds_as(s, at, list) {

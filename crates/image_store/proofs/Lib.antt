@@ -3,7 +3,7 @@ pub mod Sizes
 pub mod Reading
 pub mod Writing
 pub mod Stored
-pub mod OfRead
-pub mod OfWrite
-pub mod OfImage
-pub mod OfTest
+pub mod Read
+pub mod WriteLaws
+pub mod Image
+pub mod Test

@@ -1,7 +1,7 @@
-pub mod OfEntries
-pub mod OfFits
-pub mod OfLeft
-pub mod OfOps
-pub mod OfRows
-pub mod OfStores
-pub mod OfWords
+pub mod EntryLaws
+pub mod Fits
+pub mod Left
+pub mod OpLaws
+pub mod RowLaws
+pub mod Stores
+pub mod WordLaws

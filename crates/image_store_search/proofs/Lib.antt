@@ -1,3 +1,3 @@
-pub mod OfFour
-pub mod OfColumn
-pub mod OfStore
+pub mod FourLaws
+pub mod ColumnLaws
+pub mod Store

@@ -1,1 +1,1 @@
-pub mod OfTable
+pub mod Table

@@ -1,5 +1,5 @@
 pub mod InMessage
-pub mod OfOps
-pub mod OfStores
-pub mod OfBatch
-pub mod OfMessages
+pub mod OpLaws
+pub mod Stores
+pub mod Batch
+pub mod Messages

@@ -1,6 +1,6 @@
-pub mod OfFits
-pub mod OfCalls
-pub mod OfAppends
-pub mod OfArrives
-pub mod OfAdopts
-pub mod OfCopies
+pub mod FitLaws
+pub mod Calls
+pub mod AppendLaws
+pub mod ArriveLaws
+pub mod AdoptLaws
+pub mod Copies

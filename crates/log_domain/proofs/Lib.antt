@@ -1,5 +1,5 @@
 pub mod InMessage
-pub mod OfBits
-pub mod OfGrowth
-pub mod OfTables
-pub mod OfMessages
+pub mod Bits
+pub mod GrowthLaws
+pub mod Tables
+pub mod Messages

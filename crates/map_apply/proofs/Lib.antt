@@ -1,3 +1,3 @@
-pub mod OfCommand
-pub mod OfApply
+pub mod Command
+pub mod Apply
 pub mod Ways

@@ -1,3 +1,3 @@
 pub mod Scan
-pub mod OfRows
+pub mod Rows
 pub mod Formed

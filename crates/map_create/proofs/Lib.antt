@@ -1,3 +1,3 @@
-pub mod OfList
-pub mod OfWalk
-pub mod OfCreate
+pub mod List
+pub mod Walk
+pub mod Create

@@ -1,4 +1,4 @@
-pub mod OfNames
+pub mod NameLaws
 pub mod Tables
 pub mod Defaults
 pub mod Rows

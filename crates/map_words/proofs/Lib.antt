@@ -1,2 +1,2 @@
-pub mod OfParts
-pub mod OfDigits
+pub mod PartLaws
+pub mod DigitLaws

@@ -1,1 +1,1 @@
-pub mod OfAck
+pub mod Ack

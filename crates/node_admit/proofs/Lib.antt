@@ -1,3 +1,3 @@
-pub mod OfAdmission
-pub mod OfLease
-pub mod OfStep
+pub mod AdmissionLaws
+pub mod LeaseLaws
+pub mod StepLaws

@@ -1,4 +1,4 @@
-pub mod OfNamed
-pub mod OfBegin
-pub mod OfSeats
-pub mod OfAnnounces
+pub mod Named
+pub mod Begin
+pub mod Slots
+pub mod Announces

@@ -1,1 +1,1 @@
-pub mod Announces
+pub mod NewEpochs

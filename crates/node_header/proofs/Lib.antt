@@ -1,6 +1,6 @@
-pub mod OfLists
-pub mod OfFormed
-pub mod OfShards
-pub mod OfCalls
-pub mod OfGrow
-pub mod OfArrays
+pub mod Lists
+pub mod Formed
+pub mod Shards
+pub mod Calls
+pub mod Grow
+pub mod Arrays

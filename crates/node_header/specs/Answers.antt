@@ -40,12 +40,12 @@ use Rattle.node_header.specs.View.{Stores, viewNode}
 use Rattle.node_header.specs.Formed.{lentNode}
 
 -- an answer with the node after
-pub record Told (A : Type 0) : Type 0 where
+pub record Answered (A : Type 0) : Type 0 where
   pub answer : A
   pub node : held.Node
 
-abbrev pub told : {A B : Type 0} → (A → B) → Result A held.Node → Told B
-told f r = record { answer = f (r .answer); node = r .after }
+abbrev pub answeredAs : {A B : Type 0} → (A → B) → Result A held.Node → Answered B
+answeredAs f r = record { answer = f (r .answer); node = r .after }
 
 -- ---- lease grant
 
@@ -57,49 +57,49 @@ abbrev pub grantWord : leases.GrantAnswer → GrantAnswer
 grantWord leases.granted = G.Granted
 grantWord (leases.grantRefused r) = G.Refused (numberOf r)
 
-abbrev pub viewGranted : Stores → NodeGranted → Told GrantAnswer
+abbrev pub viewGranted : Stores → NodeGranted → Answered GrantAnswer
 viewGranted s r = record { answer = r .answer; node = viewNode s (r .node) }
 
 abbrev pub GrantsNode : Node → (incarnation sent lease : ℕ) → NodeGranted → Type 0
 GrantsNode n i sent lease r =
-    (s : Stores) → viewGranted s r ≡ told grantWord (calls.grantWith (lentNode s n) (viewNode s n) i sent lease)
+    (s : Stores) → viewGranted s r ≡ answeredAs grantWord (calls.grantWith (lentNode s n) (viewNode s n) i sent lease)
 
 -- ---- waiting for acks
 
 -- what the caller of a wait gets
-pub record WaitTold : Type 0 where
+pub record WaitAnswered : Type 0 where
   pub answer : WaitAnswer
   pub shrink : List DataNodeId
   pub node : held.Node
 
-abbrev pub waitTold : Result client.WaitAnswer held.Node → WaitTold
-waitTold r = record { answer = waitWord (r .answer); shrink = shrinkOf (r .answer); node = r .after }
+abbrev pub waitAnswered : Result client.WaitAnswer held.Node → WaitAnswered
+waitAnswered r = record { answer = waitWord (r .answer); shrink = shrinkOf (r .answer); node = r .after }
 
-abbrev pub viewWaited : Stores → NodeWaited → WaitTold
+abbrev pub viewWaited : Stores → NodeWaited → WaitAnswered
 viewWaited s r = record { answer = r .answer; shrink = take (r .shrink .count) (r .shrink .items); node = viewNode s (r .node) }
 
 -- internal: past the checks
 abbrev pub WaitsIn : Node → Key → (epoch offset now timeout : ℕ) → NodeWaited → Type 0
 WaitsIn n k epoch offset now timeout r =
-    (s : Stores) → viewWaited s r ≡ waitTold (client.onWait (viewNode s n) now timeout k epoch offset)
+    (s : Stores) → viewWaited s r ≡ waitAnswered (client.onWait (viewNode s n) now timeout k epoch offset)
 
 abbrev pub WaitsNode : Node → Key → (epoch offset now timeout : ℕ) → NodeWaited → Type 0
 WaitsNode n k epoch offset now timeout r =
-    (s : Stores) → viewWaited s r ≡ waitTold (calls.waitWith (lentNode s n) (viewNode s n) now timeout k epoch offset)
+    (s : Stores) → viewWaited s r ≡ waitAnswered (calls.waitWith (lentNode s n) (viewNode s n) now timeout k epoch offset)
 
 -- ---- ack
 
-abbrev pub viewAcked : Stores → NodeAcked → Told AckAnswer
+abbrev pub viewAcked : Stores → NodeAcked → Answered AckAnswer
 viewAcked s r = record { answer = r .answer; node = viewNode s (r .node) }
 
 -- internal: past the checks
 abbrev pub AcksIn : Node → Key → (epoch peer : ℕ) → Sent → Reply → NodeAcked → Type 0
 AcksIn n k epoch peer step reply r =
-    (s : Stores) → viewAcked s r ≡ told ackWord (ack.onAck (viewNode s n) k epoch peer (sentOf step) (replyOf reply))
+    (s : Stores) → viewAcked s r ≡ answeredAs ackWord (ack.onAck (viewNode s n) k epoch peer (sentOf step) (replyOf reply))
 
 abbrev pub AcksNode : Node → Key → (epoch peer : ℕ) → Sent → Reply → NodeAcked → Type 0
 AcksNode n k epoch peer step reply r =
-    (s : Stores) → viewAcked s r ≡ told ackWord (calls.ackOf (lentNode s n) (viewNode s n) k epoch peer (sentOf step) (some (replyOf reply)))
+    (s : Stores) → viewAcked s r ≡ answeredAs ackWord (calls.ackOf (lentNode s n) (viewNode s n) k epoch peer (sentOf step) (some (replyOf reply)))
 
 -- ---- outcome of a proposal
 
@@ -107,26 +107,26 @@ abbrev pub proposalOf : Proposal → ack.Proposal
 proposalOf P.Shrink = ack.shrink
 proposalOf P.Grow = ack.grow
 
-abbrev pub viewSettled : Stores → NodeSettled → Told OutcomeAnswer
+abbrev pub viewSettled : Stores → NodeSettled → Answered OutcomeAnswer
 viewSettled s r = record { answer = r .answer; node = viewNode s (r .node) }
 
 -- internal: past the checks
-abbrev pub SettlesIn : Node → Key → (epoch peer : ℕ) → Bool → Node → Type 0
-SettlesIn n k epoch peer left r =
+abbrev pub OutcomesIn : Node → Key → (epoch peer : ℕ) → Bool → Node → Type 0
+OutcomesIn n k epoch peer left r =
     (s : Stores) (what : ack.Proposal) (applied : Bool) → ack.leaves what applied ≡ left
-    → record { answer = outcomeWord ack.settled; node = viewNode s r } ≡ told outcomeWord (ack.onOutcome (viewNode s n) k epoch peer what applied)
+    → record { answer = outcomeWord ack.settled; node = viewNode s r } ≡ answeredAs outcomeWord (ack.onOutcome (viewNode s n) k epoch peer what applied)
 
-abbrev pub SettlesNode : Node → Key → (epoch peer : ℕ) → Proposal → Bool → NodeSettled → Type 0
-SettlesNode n k epoch peer what applied r =
+abbrev pub OutcomesNode : Node → Key → (epoch peer : ℕ) → Proposal → Bool → NodeSettled → Type 0
+OutcomesNode n k epoch peer what applied r =
     (s : Stores)
-    → viewSettled s r ≡ told outcomeWord (calls.outcomeWith (lentNode s n) (viewNode s n) k epoch peer (proposalOf what) applied)
+    → viewSettled s r ≡ answeredAs outcomeWord (calls.outcomeWith (lentNode s n) (viewNode s n) k epoch peer (proposalOf what) applied)
 
 -- ---- the worker's step
 
-abbrev pub stepTold : calls.StepAnswer → StepAnswer
-stepTold (calls.stepped x) = S.Stepped (stepWord x)
-stepTold (calls.stepRefused r) = S.Refused (numberOf r)
+abbrev pub stepAnswered : calls.StepAnswer → StepAnswer
+stepAnswered (calls.stepped x) = S.Stepped (stepWord x)
+stepAnswered (calls.stepRefused r) = S.Refused (numberOf r)
 
 abbrev pub StepsNode : Node → Key → (epoch peer : ℕ) → StepAnswer → Type 0
 StepsNode n k epoch peer r =
-    (s : Stores) → r ≡ stepTold (calls.stepWith (λ x. lentNode s n) (viewNode s n) k epoch peer)
+    (s : Stores) → r ≡ stepAnswered (calls.stepWith (λ x. lentNode s n) (viewNode s n) k epoch peer)

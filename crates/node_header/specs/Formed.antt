@@ -11,14 +11,14 @@ use Rattle.spec.specs.Keys.{keyBelow}
 use Rattle.spec.specs.Node.WellFormed.{wellFormedHeader}
 use Rattle.node_shard.specs.Formed.{formedHeld}
 use Rattle.map_tables.specs.Names.{viewKey}
-use Rattle.node_header.specs.declared.Kept.{Kept}
+use Rattle.node_header.specs.declared.HeldRow.{HeldRow}
 use Rattle.node_header.specs.declared.Node.{Node}
 use Rattle.node_header.specs.View.{Stores, viewNode, used}
 
 -- ---- the definition
 
 -- 'a count over its limit', of the arrays and the table of one shard
-unfoldable pub countsFit : Kept → Bool
+unfoldable pub countsFit : HeldRow → Bool
 countsFit x =
     leb (x .key .collection .len) maxName
     and leb (x .stored) maxEntries
@@ -26,11 +26,11 @@ countsFit x =
     and leb (x .held .count) maxWorkers
 
 -- a shard in that slot
-abbrev pub onSlot : ℕ → Kept → Bool
+abbrev pub onSlot : ℕ → HeldRow → Bool
 onSlot s x = eqb (x .slot) s
 
 -- every slot is one of the eight, and no two shards have the same
-unfoldable pub slotsFit : List Kept → Bool
+unfoldable pub slotsFit : List HeldRow → Bool
 slotsFit [] = true
 slotsFit (x ∷ xs) = ltb (x .slot) maxHeld and not (any (onSlot (x .slot)) xs) and slotsFit xs
 
@@ -41,14 +41,14 @@ lentNode s n =
 
 -- ---- the same without the stores
 
-unfoldable pub keptFits : Kept → Bool
-keptFits x = leb (x .key .collection .len) maxName and leb (x .stored) maxEntries and formedHeld (x .held)
+unfoldable pub heldRowFits : HeldRow → Bool
+heldRowFits x = leb (x .key .collection .len) maxName and leb (x .stored) maxEntries and formedHeld (x .held)
 
-abbrev pub keptBelow : Kept → Kept → Bool
-keptBelow x y = keyBelow (viewKey (x .key)) (viewKey (y .key))
+abbrev pub heldRowBelow : HeldRow → HeldRow → Bool
+heldRowBelow x y = keyBelow (viewKey (x .key)) (viewKey (y .key))
 
 unfoldable pub formedNode : Node → Bool
-formedNode n = leb (n .count) maxHeld and rising keptBelow (used n) and every keptFits (used n) and slotsFit (used n)
+formedNode n = leb (n .count) maxHeld and rising heldRowBelow (used n) and every heldRowFits (used n) and slotsFit (used n)
 
 -- what the test of a header promises
 pub record Formed (n : Node) (r : Bool) : Type 0 where

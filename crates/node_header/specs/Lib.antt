@@ -2,5 +2,5 @@ pub mod View
 pub mod Formed
 pub mod Answers
 pub mod Arrays
-pub mod Seats
+pub mod Slots
 pub mod Grow

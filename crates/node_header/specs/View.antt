@@ -13,7 +13,7 @@ use Rattle.node_shard.specs.declared.Held.{Held}
 use Rattle.node_shard.specs.View.{viewHeld}
 use Rattle.node_admit.specs.View.{viewExpiry}
 use Rattle.map_tables.specs.Names.{viewKey}
-use Rattle.node_header.specs.declared.Kept.{Kept}
+use Rattle.node_header.specs.declared.HeldRow.{HeldRow}
 use Rattle.node_header.specs.declared.Node.{Node}
 
 -- what the stores hold, by slot: the log of so many entries, and the vectors of a table of so many rows for such a log. A log read at
@@ -25,11 +25,11 @@ pub record Stores : Type 0 where
   pub bare : (slot : ℕ) → vectors slot 0 0 ≡ []
 
 -- one held shard under its key, with its own store's log and vectors
-abbrev pub viewKept : Stores → Kept → held.Held
-viewKept s x = viewHeld (viewKey (x .key)) (s .log (x .slot) (x .held .last)) (s .vectors (x .slot) (x .held .last) (x .stored)) (x .held)
+abbrev pub viewHeldRow : Stores → HeldRow → held.Held
+viewHeldRow s x = viewHeld (viewKey (x .key)) (s .log (x .slot) (x .held .last)) (s .vectors (x .slot) (x .held .last) (x .stored)) (x .held)
 
 -- the shards in use
-abbrev pub used : Node → List Kept
+abbrev pub used : Node → List HeldRow
 used n = take (n .count) (n .held)
 
 abbrev pub viewNode : Stores → Node → held.Node
@@ -38,11 +38,11 @@ viewNode s n = record {
   incarnation = n .incarnation;
   expiry = viewExpiry (n .expiry);
   version = n .version;
-  held = map (viewKept s) (used n);
+  held = map (viewHeldRow s) (used n);
 }
 
 -- the shards before that of a key
-abbrev pub otherKey : Key → Kept → Bool
+abbrev pub otherKey : Key → HeldRow → Bool
 otherKey k x = not (sameKey (viewKey (x .key)) k)
 
 -- a held shard as a call left it, the length of its log apart
@@ -59,12 +59,12 @@ relogged h last = record {
   count = h .count;
 }
 
-abbrev pub keptAs : Kept → Held → Kept
+abbrev pub keptAs : HeldRow → Held → HeldRow
 keptAs x h = record { key = x .key; slot = x .slot; stored = x .stored; held = relogged h (x .held .last) }
 
 -- a shard that no header has
-abbrev pub noKept : Kept
-noKept = record {
+abbrev pub noHeldRow : HeldRow
+noHeldRow = record {
   key = record { collection = record { bytes = []; len = 0 }; shard = 0 };
   slot = 0;
   stored = 0;
@@ -81,9 +81,9 @@ noKept = record {
   };
 }
 
-abbrev pub withKepts : Node → List Kept → Node
-withKepts n l = record { id = n .id; incarnation = n .incarnation; expiry = n .expiry; version = n .version; held = l; count = n .count }
+abbrev pub withHeldRows : Node → List HeldRow → Node
+withHeldRows n l = record { id = n .id; incarnation = n .incarnation; expiry = n .expiry; version = n .version; held = l; count = n .count }
 
 -- the header with one shard as a call left it
 abbrev pub withShard : Node → ℕ → Held → Node
-withShard n at h = withKepts n (set (n .held) at (keptAs (getD (n .held) at noKept) h))
+withShard n at h = withHeldRows n (set (n .held) at (keptAs (getD (n .held) at noHeldRow) h))

@@ -14,7 +14,7 @@ pub mod outcome;
 
 // A held shard: which of the eight stores is its own, and how many rows that store's table of vectors has. The slot stays with the shard
 // when keys shift places.
-pub struct Kept {
+pub struct HeldRow {
     pub key: ShardKey,
     pub slot: usize,
     pub stored: usize,
@@ -27,7 +27,7 @@ pub struct Node {
     pub incarnation: u64,
     pub expiry: Expiry,
     pub version: u64,
-    pub held: [Kept; 8],
+    pub held: [HeldRow; 8],
     pub count: usize,
 }
 

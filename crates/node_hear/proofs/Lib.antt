@@ -1,1 +1,1 @@
-pub mod OfHears
+pub mod Hears

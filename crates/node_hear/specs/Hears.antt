@@ -20,20 +20,20 @@ use Rattle.node_header.specs.declared.Node.{Node}
 use Rattle.node_header.specs.declared.NodeAcked.{NodeAcked}
 use Rattle.node_header.specs.View.{Stores, viewNode, used}
 use Rattle.node_header.specs.Formed.{lentNode, formedNode, slotsFit}
-use Rattle.node_header.specs.Seats.{slotsOf, SameSlots}
-use Rattle.node_header.specs.Answers.{told, viewAcked}
+use Rattle.node_header.specs.Slots.{slotsOf, SameSlots}
+use Rattle.node_header.specs.Answers.{answeredAs, viewAcked}
 use Rattle.node_show.specs.declared.NodeShown.{NodeShown}
 use Rattle.node_show.specs.Slots.{slotsAfter}
-use Rattle.node_show.specs.Shows.{shownTold, viewShown}
+use Rattle.node_show.specs.Shows.{shownAnswered, viewShown}
 use Rattle.node_hear.specs.declared.Heard.{Heard}
 use Rattle.node_hear.specs.declared.Heard.the-variants as H
 
 -- ---- map shown: 24 for a malformed header and for a malformed map. The slots after are those that the shards before and their slots give
 
 pub record HearsMap (n : Node) (m : ShardMap) (fresh : ℕ) (r : NodeShown) : Type 0 where
-  pub same : (s : Stores) → viewShown s r ≡ shownTold (calls.shownWith (lentNode s n and wellFormedLent m) (viewNode s n) fresh (viewMap m))
+  pub same : (s : Stores) → viewShown s r ≡ shownAnswered (calls.shownWith (lentNode s n and wellFormedLent m) (viewNode s n) fresh (viewMap m))
   pub slots : formedNode n ≡ true → slotsFit (used (r .node)) ≡ true
-  pub seats : formedNode n ≡ true → (s : Stores) → slotsOf (r .node) ≡ slotsAfter (viewNode s n) (slotsOf n) (viewNode s (r .node))
+  pub slotsAre : formedNode n ≡ true → (s : Stores) → slotsOf (r .node) ≡ slotsAfter (viewNode s n) (slotsOf n) (viewNode s (r .node))
   pub stays : formedNode n ≡ false → SameSlots n (r .node)
 
 -- ---- ack: the reply in bytes
@@ -52,4 +52,4 @@ heardOf (some r) = H.Reply (replyWord r)
 
 abbrev pub HearsReply : Node → Key → (epoch peer : ℕ) → Sent → List ℕ → NodeAcked → Type 0
 HearsReply n k epoch peer sent reply r =
-    (s : Stores) → viewAcked s r ≡ told ackWord (calls.ackWith (lentNode s n) (viewNode s n) k epoch peer (sentOf sent) reply)
+    (s : Stores) → viewAcked s r ≡ answeredAs ackWord (calls.ackWith (lentNode s n) (viewNode s n) k epoch peer (sentOf sent) reply)

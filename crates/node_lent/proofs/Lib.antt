@@ -1,3 +1,3 @@
-pub mod OfLend
-pub mod OfPut
-pub mod OfSeats
+pub mod Lend
+pub mod Put
+pub mod Slots

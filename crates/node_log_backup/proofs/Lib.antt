@@ -1,2 +1,2 @@
-pub mod OfBackup
-pub mod OfBegun
+pub mod Backup
+pub mod Begun

@@ -1,4 +1,4 @@
-pub mod OfRows
-pub mod OfVectors
-pub mod OfEnds
-pub mod OfEntries
+pub mod Rows
+pub mod VectorLaws
+pub mod EndLaws
+pub mod EntryLaws

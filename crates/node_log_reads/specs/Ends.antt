@@ -31,7 +31,7 @@ abbrev pub endOf : End → ℕ
 endOf t = t .end
 
 -- the answer, and both columns at exit
-pub record EndsTold (s : Store) (froms froms′ ends ends′ : List ℕ) (r : Told) : Type 0 where
+pub record EndsAnswered (s : Store) (froms froms′ ends ends′ : List ℕ) (r : Told) : Type 0 where
   pub answer : r ≡ endsLent s (min (length froms) (length ends))
   pub epochs : froms′ ≡ leftIn r (map epochOf (epochEnds (storeLog s))) froms
   pub offsets : ends′ ≡ leftIn r (map endOf (epochEnds (storeLog s))) ends

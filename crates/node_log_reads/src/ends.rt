@@ -5,7 +5,7 @@ ghost use Prim.Native.Nat.{_≤_};
 ghost use lib.ListN.{length, take, drop};
 ghost use Rattle.log_store.specs.View.{columns};
 ghost use Rattle.log_store.specs.Store.{lent};
-ghost use Rattle.node_log_reads.specs.Ends.{EndsTold};
+ghost use Rattle.node_log_reads.specs.Ends.{EndsAnswered};
 use log_calls::fits::lent_fits;
 
 // How many pairs the table has, or the number of the refusal.
@@ -42,7 +42,7 @@ pub fn epoch_ends(
     froms: &mut [u64],
     ends: &mut [u64],
 ) -> Told
-    ensures { λ r. ⌜ EndsTold (lent (columns (now (epochs .entry)) (now (offsets .entry)) (now (ids .entry)) (now (codes .entry)) (now (lengths .entry)) (now (floats .entry)))
+    ensures { λ r. ⌜ EndsAnswered (lent (columns (now (epochs .entry)) (now (offsets .entry)) (now (ids .entry)) (now (codes .entry)) (now (lengths .entry)) (now (floats .entry)))
         (now (keys .entry)) (now (places .entry)) count stored)
         (now (froms .entry)) (now (froms .exit)) (now (ends .entry)) (now (ends .exit)) r ⌝ }
 {

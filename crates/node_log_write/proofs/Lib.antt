@@ -1,1 +1,1 @@
-pub mod OfWrite
+pub mod Write

@@ -1,1 +1,1 @@
-pub mod OfOutcome
+pub mod Outcome

@@ -1,2 +1,2 @@
-pub mod OfNamed
-pub mod OfPeers
+pub mod Named
+pub mod Peers

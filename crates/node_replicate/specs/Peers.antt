@@ -15,12 +15,12 @@ use Rattle.spec.specs.Node.Calls as calls
 use Rattle.node_header.specs.declared.Node.{Node}
 use Rattle.node_header.specs.View.{Stores, viewNode, used}
 use Rattle.node_header.specs.Formed.{formedNode, slotsFit}
-use Rattle.node_header.specs.Seats.{SameSlots}
-use Rattle.node_header.specs.Answers.{Told, told}
+use Rattle.node_header.specs.Slots.{SameSlots}
+use Rattle.node_header.specs.Answers.{Answered, answeredAs}
 use Rattle.node_replicate.specs.declared.PeerReply.{PeerReply}
 use Rattle.node_replicate.specs.declared.PeerReply.the-variants as P
 use Rattle.node_replicate.specs.declared.PeerAnswer.{PeerAnswer}
-use Rattle.node_lent.specs.Lend.{Lot, lentFor, slotOf, Changes, Whole}
+use Rattle.node_lent.specs.Lend.{LentStore, lentFor, slotOf, Changes, Whole}
 
 -- 'Bytes on the wire', 30 to 33; 'Who is turned down', the number of a refusal
 abbrev pub word : BackupAnswer → PeerReply
@@ -38,24 +38,24 @@ turnedDown (P.StaleEpoch e) = true
 turnedDown (P.Adopted o) = false
 turnedDown (P.Refused r) = true
 
-abbrev pub viewPeer : Stores → PeerAnswer → Told PeerReply
+abbrev pub viewPeer : Stores → PeerAnswer → Answered PeerReply
 viewPeer t r = record { answer = r .answer; node = viewNode t (r .node) }
 
 -- a call with the columns a, which leaves b, in a slot of which `lends` says that it is the shard's which the message names, as `names` says
 -- of its key: whatever the other stores hold, they stay, and the lent one becomes the definition's. Turned down, it leaves every place of
--- the columns and of the header as it was, the free ones too. Which slot each shard has after an answer is `seated`; no two come to have one
+-- the columns and of the header as it was, the free ones too. Which slot each shard has after an answer is `slotted`; no two come to have one
 -- store. Not turned down, it leaves the store of a shard that was held well formed
 pub record Serves (call : (Key → Bool) → held.Node → Result BackupAnswer held.Node) (lends : ℕ → Type 0) (names : Key → Type 0)
-    (seated : PeerReply → Node → Type 0) (n : Node) (a b : Lot) (r : PeerAnswer) : Type 0 where
-  pub same : (s t : Stores) (slot : ℕ) → lends slot → Changes s t slot a b → viewPeer t r ≡ told word (call (lentFor s n a) (viewNode s n))
+    (slotted : PeerReply → Node → Type 0) (n : Node) (a b : LentStore) (r : PeerAnswer) : Type 0 where
+  pub same : (s t : Stores) (slot : ℕ) → lends slot → Changes s t slot a b → viewPeer t r ≡ answeredAs word (call (lentFor s n a) (viewNode s n))
   pub kept : turnedDown (r .answer) ≡ true → (b ≡ a) × (r .node ≡ n)
-  pub seats : seated (r .answer) (r .node)
+  pub slotsAre : slotted (r .answer) (r .node)
   pub slots : formedNode n ≡ true → slotsFit (used (r .node)) ≡ true
   pub whole : turnedDown (r .answer) ≡ false → (k : Key) → names k → Whole n (r .node) b k
 
 -- each shard has the slot that it had, whatever the answer
-abbrev pub Seated : Node → PeerReply → Node → Type 0
-Seated n w p = SameSlots n p
+abbrev pub SlotsGiven : Node → PeerReply → Node → Type 0
+SlotsGiven n w p = SameSlots n p
 
 -- 20: the shard that the message names, and its slot
 abbrev pub ReplicateNames : List ℕ → Key → Type 0
@@ -64,8 +64,8 @@ ReplicateNames m k = (v : Replicated) → decodeReplicate m ≡ some v → k ≡
 abbrev pub ReplicateSlot : Node → List ℕ → ℕ → Type 0
 ReplicateSlot n m slot = (v : Replicated) → decodeReplicate m ≡ some v → slot ≡ slotOf n (v .key)
 
-abbrev pub ReplicatesAt : Node → (a b : Lot) → List ℕ → PeerAnswer → Type 0
-ReplicatesAt n a b m r = Serves (λ lent v. calls.replicateWith lent v m) (ReplicateSlot n m) (ReplicateNames m) (Seated n) n a b r
+abbrev pub ReplicatesAt : Node → (a b : LentStore) → List ℕ → PeerAnswer → Type 0
+ReplicatesAt n a b m r = Serves (λ lent v. calls.replicateWith lent v m) (ReplicateSlot n m) (ReplicateNames m) (SlotsGiven n) n a b r
 
 -- 22
 abbrev pub CopyNames : List ℕ → Key → Type 0
@@ -74,5 +74,5 @@ CopyNames m k = (v : Copied) → decodeCopyShard m ≡ some v → k ≡ v .key
 abbrev pub CopySlot : Node → List ℕ → ℕ → Type 0
 CopySlot n m slot = (v : Copied) → decodeCopyShard m ≡ some v → slot ≡ slotOf n (v .key)
 
-abbrev pub CopiesAt : Node → (a b : Lot) → List ℕ → PeerAnswer → Type 0
-CopiesAt n a b m r = Serves (λ lent v. calls.copyWith lent v m) (CopySlot n m) (CopyNames m) (Seated n) n a b r
+abbrev pub CopiesAt : Node → (a b : LentStore) → List ℕ → PeerAnswer → Type 0
+CopiesAt n a b m r = Serves (λ lent v. calls.copyWith lent v m) (CopySlot n m) (CopyNames m) (SlotsGiven n) n a b r

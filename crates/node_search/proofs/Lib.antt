@@ -1,4 +1,4 @@
-pub mod OfQuery
-pub mod OfNamed
-pub mod OfHeld
-pub mod OfSearches
+pub mod QueryLaws
+pub mod Named
+pub mod Held
+pub mod Searches

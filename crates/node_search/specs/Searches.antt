@@ -26,7 +26,7 @@ use Rattle.log_search.specs.declared.answer.Found.the-variants as N
 use Rattle.log_search.specs.Search.{idOf, distanceOf}
 use Rattle.node_header.specs.declared.Node.{Node}
 use Rattle.node_header.specs.View.{Stores, viewNode}
-use Rattle.node_lent.specs.Lend.{Lot, lentFor, slotOf, Lends}
+use Rattle.node_lent.specs.Lend.{LentStore, lentFor, slotOf, Lends}
 use Rattle.node_search.specs.declared.SearchAnswer.{SearchAnswer}
 use Rattle.node_search.specs.declared.SearchAnswer.the-variants as S
 use Rattle.node_search.specs.declared.NodeSearched.{NodeSearched}
@@ -78,15 +78,15 @@ filled o (client.searchRefused x) = o
 
 -- ---- what the caller gets
 
-pub record SearchTold : Type 0 where
+pub record SearchAnswered : Type 0 where
   pub answer : SearchAnswer
   pub output : Output
   pub refused : ℕ
   pub node : held.Node
 
 -- of the definition's result, with the output and the count before
-abbrev pub searchTold : Output → ℕ → Result client.SearchAnswer held.Node → SearchTold
-searchTold o before q =
+abbrev pub searchAnswered : Output → ℕ → Result client.SearchAnswer held.Node → SearchAnswered
+searchAnswered o before q =
     record { answer = word (q .answer); output = filled o (q .answer); refused = countSearch before (q .answer); node = q .after }
 
 -- 'Bytes on the wire', 24: the slot of the shard that the message names
@@ -96,10 +96,10 @@ SearchSlot n m slot = (v : Query) → decodeSearch m ≡ some v → slot ≡ slo
 -- a Search of the bytes m at a clock reading, on the header n with the columns a, the output o before and p after it: with whatever stores
 -- have these columns in the named shard's slot, it tells what the definition does, and the node after is the one before. Refused, it leaves
 -- every place of the output as it was; every refusal counts, and nothing else does
-pub record SearchesAt (n : Node) (a : Lot) (m : List ℕ) (clock : ℕ) (o p : Output) (before : ℕ) (r : NodeSearched) : Type 0 where
+pub record SearchesAt (n : Node) (a : LentStore) (m : List ℕ) (clock : ℕ) (o p : Output) (before : ℕ) (r : NodeSearched) : Type 0 where
   pub same : (s : Stores) (slot : ℕ) → SearchSlot n m slot → Lends s slot a
       → record { answer = r .answer; output = p; refused = r .refused; node = viewNode s n }
-      ≡ searchTold o before (calls.searchWith (lentFor s n a) (viewNode s n) clock (room o) m)
+      ≡ searchAnswered o before (calls.searchWith (lentFor s n a) (viewNode s n) clock (room o) m)
   pub kept : turnedDown (r .answer) ≡ true → p ≡ o
   pub counts : r .refused ≡ counted before (turnedDown (r .answer))
 
@@ -126,7 +126,7 @@ testedSearch lent v clock room key epoch k q =
     cond (not lent) (gives (client.searchRefused malformed) v) (client.onSearch v clock room key epoch k q)
 
 -- at the shard of a key
-abbrev pub SearchesNamed : Node → Lot → Key → (clock epoch k : ℕ) → List Float → (o p : Output) → SearchAnswer → Type 0
+abbrev pub SearchesNamed : Node → LentStore → Key → (clock epoch k : ℕ) → List Float → (o p : Output) → SearchAnswer → Type 0
 SearchesNamed n a key clock epoch k q o p r =
     (s : Stores) → Lends s (slotOf n key) a → Tells o p r (testedSearch (lentFor s n a key) (viewNode s n) clock (room o) key epoch k q .answer)
 
@@ -135,7 +135,7 @@ abbrev pub IsSearch : List ℕ → SearchPart → Type 0
 IsSearch m p = messageOf m ≡ Search p
 
 -- of bytes, the count apart
-abbrev pub Searches : Node → Lot → List ℕ → (clock : ℕ) → (o p : Output) → SearchAnswer → Type 0
+abbrev pub Searches : Node → LentStore → List ℕ → (clock : ℕ) → (o p : Output) → SearchAnswer → Type 0
 Searches n a m clock o p r =
     (s : Stores) (slot : ℕ) → SearchSlot n m slot → Lends s slot a
     → Tells o p r (calls.searchWith (lentFor s n a) (viewNode s n) clock (room o) m .answer)

@@ -1,5 +1,5 @@
-pub mod OfAnswer
-pub mod OfEntry
-pub mod OfEntries
-pub mod OfTable
-pub mod OfStep
+pub mod Answer
+pub mod Entry
+pub mod EntryLaws
+pub mod Table
+pub mod Step

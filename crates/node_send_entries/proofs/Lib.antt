@@ -1,2 +1,2 @@
-pub mod OfEntry
-pub mod OfEntries
+pub mod EntryLaws
+pub mod EntriesLaws

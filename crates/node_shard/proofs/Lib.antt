@@ -1,5 +1,5 @@
 pub mod Loops
-pub mod OfRows
-pub mod OfFormed
-pub mod OfCalls
-pub mod OfView
+pub mod RowLaws
+pub mod Formed
+pub mod Calls
+pub mod View

@@ -55,21 +55,21 @@ ackWord ack.expand = A.Expand
 ackWord (ack.ackRefused r) = A.Refused (numberOf r)
 
 -- what the caller of an ack gets
-pub record AckTold : Type 0 where
+pub record AckAnswered : Type 0 where
   pub answer : AckAnswer
   pub held : held.Held
 
-abbrev pub ackTold : shards.Result ack.AckAnswer held.Held → AckTold
-ackTold r = record { answer = ackWord (r .answer); held = r .after }
+abbrev pub ackAnswered : shards.Result ack.AckAnswer held.Held → AckAnswered
+ackAnswered r = record { answer = ackWord (r .answer); held = r .after }
 
-abbrev pub viewAcked : Key → Log → Vectors → Acked → AckTold
+abbrev pub viewAcked : Key → Log → Vectors → Acked → AckAnswered
 viewAcked k l v r = record { answer = r .answer; held = viewHeld k l v (r .held) }
 
 -- internal: past the checks
 abbrev pub AcksHeld : Held → (epoch peer : ℕ) → Sent → Reply → Acked → Type 0
 AcksHeld h epoch peer s a r =
     (k : Key) (l : Log) (v : Vectors) → length l ≡ h .last
-    → viewAcked k l v r ≡ ackTold (ack.ackHeld epoch peer (sentOf s) (replyOf a) (viewHeld k l v h))
+    → viewAcked k l v r ≡ ackAnswered (ack.ackHeld epoch peer (sentOf s) (replyOf a) (viewHeld k l v h))
 
 -- 'Ack': 21, 24, then the ack
 unfoldable pub ackCall : (lent : Bool) → (epoch peer : ℕ) → ack.Sent → message.Reply → held.Held → shards.Result ack.AckAnswer held.Held
@@ -81,4 +81,4 @@ ackCall lent epoch peer s a h =
 abbrev pub Acks : Held → (epoch peer : ℕ) → Sent → Reply → Acked → Type 0
 Acks h epoch peer s a r =
     (k : Key) (l : Log) (v : Vectors) → length l ≡ h .last
-    → viewAcked k l v r ≡ ackTold (ackCall (formedHeld h) epoch peer (sentOf s) (replyOf a) (viewHeld k l v h))
+    → viewAcked k l v r ≡ ackAnswered (ackCall (formedHeld h) epoch peer (sentOf s) (replyOf a) (viewHeld k l v h))

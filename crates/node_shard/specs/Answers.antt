@@ -51,22 +51,22 @@ shrinkOf (client.waiting l) = l
 shrinkOf (client.waitRefused r) = []
 
 -- what the caller of a wait gets
-pub record WaitTold : Type 0 where
+pub record WaitAnswered : Type 0 where
   pub answer : WaitAnswer
   pub shrink : List DataNodeId
   pub held : held.Held
 
-abbrev pub waitTold : Result client.WaitAnswer held.Held → WaitTold
-waitTold r = record { answer = waitWord (r .answer); shrink = shrinkOf (r .answer); held = r .after }
+abbrev pub waitAnswered : Result client.WaitAnswer held.Held → WaitAnswered
+waitAnswered r = record { answer = waitWord (r .answer); shrink = shrinkOf (r .answer); held = r .after }
 
-abbrev pub viewWaited : Key → Log → Vectors → Waited → WaitTold
+abbrev pub viewWaited : Key → Log → Vectors → Waited → WaitAnswered
 viewWaited k l v r = record { answer = r .answer; shrink = take (r .shrink .count) (r .shrink .items); held = viewHeld k l v (r .held) }
 
 -- internal: past the checks
 abbrev pub WaitsHeld : Held → (epoch offset now timeout : ℕ) → Waited → Type 0
 WaitsHeld h epoch offset now timeout r =
     (k : Key) (l : Log) (v : Vectors) → length l ≡ h .last
-    → viewWaited k l v r ≡ waitTold (client.waitHeld now timeout epoch offset (viewHeld k l v h))
+    → viewWaited k l v r ≡ waitAnswered (client.waitHeld now timeout epoch offset (viewHeld k l v h))
 
 -- 'Who is turned down', waiting for acks: 21, 24, then the wait
 unfoldable pub waitCall : (lent : Bool) → (now timeout epoch offset : ℕ) → held.Held → Result client.WaitAnswer held.Held
@@ -78,27 +78,27 @@ waitCall lent now timeout epoch offset h =
 abbrev pub Waits : Held → (epoch offset now timeout : ℕ) → Waited → Type 0
 Waits h epoch offset now timeout r =
     (k : Key) (l : Log) (v : Vectors) → length l ≡ h .last
-    → viewWaited k l v r ≡ waitTold (waitCall (formedHeld h) now timeout epoch offset (viewHeld k l v h))
+    → viewWaited k l v r ≡ waitAnswered (waitCall (formedHeld h) now timeout epoch offset (viewHeld k l v h))
 
 -- ---- outcome of a proposal
 
 -- internal: past the checks
-abbrev pub SettlesHeld : Held → (me epoch peer : ℕ) → Bool → Held → Type 0
-SettlesHeld h me epoch peer left r =
+abbrev pub OutcomesHeld : Held → (me epoch peer : ℕ) → Bool → Held → Type 0
+OutcomesHeld h me epoch peer left r =
     (k : Key) (l : Log) (v : Vectors) → viewHeld k l v r ≡ ack.outcomeHeld me epoch peer left (viewHeld k l v h)
 
 abbrev pub outcomeWord : ack.OutcomeAnswer → OutcomeAnswer
 outcomeWord ack.settled = O.Noted
 outcomeWord (ack.outcomeRefused r) = O.Refused (numberOf r)
 
-pub record OutcomeTold : Type 0 where
+pub record OutcomeAnswered : Type 0 where
   pub answer : OutcomeAnswer
   pub held : held.Held
 
-abbrev pub outcomeTold : Result ack.OutcomeAnswer held.Held → OutcomeTold
-outcomeTold r = record { answer = outcomeWord (r .answer); held = r .after }
+abbrev pub outcomeAnswered : Result ack.OutcomeAnswer held.Held → OutcomeAnswered
+outcomeAnswered r = record { answer = outcomeWord (r .answer); held = r .after }
 
-abbrev pub viewSettled : Key → Log → Vectors → Settled → OutcomeTold
+abbrev pub viewSettled : Key → Log → Vectors → Settled → OutcomeAnswered
 viewSettled k l v r = record { answer = r .answer; held = viewHeld k l v (r .held) }
 
 -- 'Outcome of a proposal': 24, then the outcome
@@ -108,4 +108,4 @@ outcomeCall lent me epoch peer left h =
 
 abbrev pub Settles : Held → (me epoch peer : ℕ) → Bool → Settled → Type 0
 Settles h me epoch peer left r =
-    (k : Key) (l : Log) (v : Vectors) → viewSettled k l v r ≡ outcomeTold (outcomeCall (formedHeld h) me epoch peer left (viewHeld k l v h))
+    (k : Key) (l : Log) (v : Vectors) → viewSettled k l v r ≡ outcomeAnswered (outcomeCall (formedHeld h) me epoch peer left (viewHeld k l v h))

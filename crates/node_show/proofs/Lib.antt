@@ -1,4 +1,4 @@
-pub mod OfListed
-pub mod OfWalk
-pub mod OfShown
-pub mod OfBytes
+pub mod Listed
+pub mod Walk
+pub mod Shown
+pub mod Bytes

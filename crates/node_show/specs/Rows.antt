@@ -16,16 +16,16 @@ use Rattle.map_tables.specs.declared.ShardRow.{ShardRow}
 use Rattle.map_tables.specs.declared.Collections.{Collections}
 use Rattle.map_tables.specs.Names.{viewName, viewKey}
 use Rattle.map_tables.specs.View.{viewShard, viewCollections}
-use Rattle.node_header.specs.declared.Kept.{Kept}
+use Rattle.node_header.specs.declared.HeldRow.{HeldRow}
 use Rattle.node_header.specs.declared.Node.{Node}
-use Rattle.node_header.specs.View.{Stores, viewKept, viewNode, used, otherKey, noKept}
+use Rattle.node_header.specs.View.{Stores, viewHeldRow, viewNode, used, otherKey, noHeldRow}
 use Rattle.node_show.specs.declared.Start.{Start}
 
 -- ---- one shard after the map
 
 -- a shard after the map, with the workers to start for it. One that begins has no slot yet: 8
 pub record Taken : Type 0 where
-  pub kept : Kept
+  pub kept : HeldRow
   pub start : Start
 
 -- one row of the map: the shard is not held after, a 33rd worker would be needed, or it is taken
@@ -38,10 +38,10 @@ abbrev pub viewStart : Start → List show.Worker
 viewStart x = map (workerAt (viewKey (x .key)) (x .epoch .0) (x .metric)) (take (x .peers .count) (x .peers .items))
 
 abbrev pub viewTaken : Stores → Taken → show.Showing
-viewTaken s x = record { held = viewKept s (x .kept); start = viewStart (x .start) }
+viewTaken s x = record { held = viewHeldRow s (x .kept); start = viewStart (x .start) }
 
-abbrev pub keptOf : Taken → Kept
-keptOf x = x .kept
+abbrev pub heldRowOf : Taken → HeldRow
+heldRowOf x = x .kept
 
 abbrev pub startOf : Taken → Start
 startOf x = x .start
@@ -51,10 +51,10 @@ abbrev pub placeOf : Node → keys.Key → ℕ
 placeOf n k = lead (otherKey k) (used n)
 
 -- the slot of a shard held after: that of the same shard before, or none yet for one that begins
-pub data SlotFrom (n : Node) (y : Kept) : Type 0 where
+pub data SlotFrom (n : Node) (y : HeldRow) : Type 0 where
   opens : n .count ≤ placeOf n (viewKey (y .key)) → y .slot ≡ maxHeld → y .held .last ≡ 0 → y .stored ≡ 0 → SlotFrom n y
-  stays : (q : ℕ) → q ≡ placeOf n (viewKey (y .key)) → q < n .count → getD (n .held) q noKept .slot ≡ y .slot
-      → viewKey (getD (n .held) q noKept .key) ≡ viewKey (y .key) → SlotFrom n y
+  stays : (q : ℕ) → q ≡ placeOf n (viewKey (y .key)) → q < n .count → getD (n .held) q noHeldRow .slot ≡ y .slot
+      → viewKey (getD (n .held) q noHeldRow .key) ≡ viewKey (y .key) → SlotFrom n y
 
 -- the definition's answer for a shard that lists this node
 abbrev pub listedShown : Stores → Node → tables.Map → ShardRow → Option show.Showing

@@ -15,7 +15,7 @@ use Rattle.map_tables.specs.View.{viewMap}
 use Rattle.node_header.specs.declared.Node.{Node}
 use Rattle.node_header.specs.View.{Stores, viewNode, used}
 use Rattle.node_header.specs.Formed.{lentNode, formedNode, slotsFit}
-use Rattle.node_header.specs.Seats.{slotsOf, SameSlots}
+use Rattle.node_header.specs.Slots.{slotsOf, SameSlots}
 use Rattle.node_show.specs.declared.Start.{Start}
 use Rattle.node_show.specs.declared.ShownAnswer.{ShownAnswer}
 use Rattle.node_show.specs.declared.ShownAnswer.the-variants as A
@@ -37,32 +37,32 @@ workersOf (show.shown l) = l
 workersOf (show.shownRefused r) = []
 
 -- what the caller of a shown map gets
-pub record ShownTold : Type 0 where
+pub record ShownAnswered : Type 0 where
   pub answer : ShownAnswer
   pub workers : List show.Worker
   pub node : held.Node
 
-abbrev pub shownTold : Result show.ShownAnswer held.Node → ShownTold
-shownTold r = record { answer = shownWord (r .answer); workers = workersOf (r .answer); node = r .after }
+abbrev pub shownAnswered : Result show.ShownAnswer held.Node → ShownAnswered
+shownAnswered r = record { answer = shownWord (r .answer); workers = workersOf (r .answer); node = r .after }
 
-abbrev pub viewShown : Stores → NodeShown → ShownTold
+abbrev pub viewShown : Stores → NodeShown → ShownAnswered
 viewShown s r = record { answer = r .answer; workers = viewStarts (take (r .count) (r .starts)); node = viewNode s (r .node) }
 
 -- internal: nothing is held, and no map known
 pub record StartsOver (n : Node) (fresh : ℕ) (r : Node) : Type 0 where
   pub same : (s : Stores) → viewNode s r ≡ held.emptyNode (n .id .0) fresh
   pub slots : slotsFit (used r) ≡ true
-  pub seats : slotsOf r ≡ []
+  pub slotsAre : slotsOf r ≡ []
 
 -- internal: past the first checks
 pub record TakesMap (n : Node) (m : ShardMap) (r : NodeShown) : Type 0 where
-  pub same : (s : Stores) → viewShown s r ≡ shownTold (show.takeMap (viewNode s n) (viewMap m))
+  pub same : (s : Stores) → viewShown s r ≡ shownAnswered (show.takeMap (viewNode s n) (viewMap m))
   pub slots : slotsFit (used (r .node)) ≡ true
-  pub seats : (s : Stores) → slotsOf (r .node) ≡ slotsAfter (viewNode s n) (slotsOf n) (viewNode s (r .node))
+  pub slotsAre : (s : Stores) → slotsOf (r .node) ≡ slotsAfter (viewNode s n) (slotsOf n) (viewNode s (r .node))
 
 -- a malformed header comes back as it was
 pub record ShowsMap (n : Node) (m : ShardMap) (fresh : ℕ) (r : NodeShown) : Type 0 where
-  pub same : (s : Stores) → viewShown s r ≡ shownTold (calls.shownWith (lentNode s n) (viewNode s n) fresh (viewMap m))
+  pub same : (s : Stores) → viewShown s r ≡ shownAnswered (calls.shownWith (lentNode s n) (viewNode s n) fresh (viewMap m))
   pub slots : formedNode n ≡ true → slotsFit (used (r .node)) ≡ true
-  pub seats : formedNode n ≡ true → (s : Stores) → slotsOf (r .node) ≡ slotsAfter (viewNode s n) (slotsOf n) (viewNode s (r .node))
+  pub slotsAre : formedNode n ≡ true → (s : Stores) → slotsOf (r .node) ≡ slotsAfter (viewNode s n) (slotsOf n) (viewNode s (r .node))
   pub stays : formedNode n ≡ false → SameSlots n (r .node)

@@ -11,8 +11,8 @@ use Rattle.map_tables.specs.declared.ShardMap.{ShardMap}
 use Rattle.map_tables.specs.View.{viewMap}
 use Rattle.node_header.specs.declared.Node.{Node}
 use Rattle.node_header.specs.View.{Stores, viewNode}
-use Rattle.node_header.specs.Formed.{keptBelow}
-use Rattle.node_show.specs.Rows.{Taken, viewTaken, keptOf, SlotFrom}
+use Rattle.node_header.specs.Formed.{heldRowBelow}
+use Rattle.node_show.specs.Rows.{Taken, viewTaken, heldRowOf, SlotFrom}
 
 -- the definition's shards held after
 abbrev pub shardsAfter : Stores → Node → ShardMap → List show.Showing
@@ -30,5 +30,5 @@ pub record Walks (n : Node) (m : ShardMap) (r : Walked) : Type 0 where
   pub over : r .full ≡ true → (s : Stores) → show.tooMany (shardsAfter s n m) ≡ true
   pub same : r .full ≡ false → (s : Stores) → shardsAfter s n m ≡ map (viewTaken s) (take (r .count) (r .items))
   pub fits : r .full ≡ false → (s : Stores) → any show.overworked (map (viewTaken s) (take (r .count) (r .items))) ≡ false
-  pub rise : r .full ≡ false → rising shardBelow (viewMap m .shards) ≡ true → rising keptBelow (map keptOf (take (r .count) (r .items))) ≡ true
+  pub rise : r .full ≡ false → rising shardBelow (viewMap m .shards) ≡ true → rising heldRowBelow (map heldRowOf (take (r .count) (r .items))) ≡ true
   pub slots : (i : ℕ) (d : Taken) → i < r .count → SlotFrom n (getD (r .items) i d .kept)

@@ -1,1 +1,1 @@
-pub mod OfGrow
+pub mod Grow

@@ -1,3 +1,3 @@
-pub mod OfKeys
-pub mod OfSeats
-pub mod OfSlots
+pub mod Keys
+pub mod SlotList
+pub mod Slots

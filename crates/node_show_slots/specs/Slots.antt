@@ -10,8 +10,8 @@ use Rattle.spec.specs.Lists.{_and_, _or_, any, lead}
 use Rattle.spec.specs.Limits.{maxHeld}
 use Rattle.spec.specs.Keys.{Key, sameKey}
 use Rattle.spec.specs.Node.Held as held
-use Rattle.node_header.specs.declared.Kept.{Kept}
-use Rattle.node_header.specs.View.{Stores, viewKept}
+use Rattle.node_header.specs.declared.HeldRow.{HeldRow}
+use Rattle.node_header.specs.View.{Stores, viewHeldRow}
 use Rattle.node_header.specs.Formed.{onSlot, slotsFit}
 use Rattle.node_header.specs.Grow.{lowestSlot}
 
@@ -25,30 +25,30 @@ abbrev pub slotBefore : List Key → List ℕ → Key → ℕ
 slotBefore keys slots k = getD slots (lead (λ j. not (sameKey j k)) keys) maxHeld
 
 -- `before` have a slot. Of `rest`, one that has a slot keeps it, and one that has none takes the lowest that none of the others has then
-unfoldable pub seated : (before rest : List ℕ) → List ℕ
-seated before [] = before
-seated before (t ∷ rest) = seated (before ++ (cond (ltb t maxHeld) t (lowestSlot (before ++ rest)) ∷ [])) rest
+unfoldable pub slotted : (before rest : List ℕ) → List ℕ
+slotted before [] = before
+slotted before (t ∷ rest) = slotted (before ++ (cond (ltb t maxHeld) t (lowestSlot (before ++ rest)) ∷ [])) rest
 
 -- the slots of the shards of the node n, where those of the node before it had `slots`
 unfoldable pub slotsAfter : held.Node → (slots : List ℕ) → (n : held.Node) → List ℕ
-slotsAfter old slots n = seated [] (map (slotBefore (keysOf old) slots) (keysOf n))
+slotsAfter old slots n = slotted [] (map (slotBefore (keysOf old) slots) (keysOf n))
 
 -- ---- what the loop that gives out slots keeps
 
-abbrev pub slottedAt : Kept → ℕ → Kept
+abbrev pub slottedAt : HeldRow → ℕ → HeldRow
 slottedAt x slot = record { key = x .key; slot = slot; stored = x .stored; held = x .held }
 
 -- a shard that has a slot, or one that begins
-abbrev pub openFits : Kept → Bool
+abbrev pub openFits : HeldRow → Bool
 openFits x = ltb (x .slot) maxHeld or (eqb (x .held .last) 0 and eqb (x .stored) 0)
 
 -- no two shards that have a slot have the same
-unfoldable pub slotsOpen : List Kept → Bool
+unfoldable pub slotsOpen : List HeldRow → Bool
 slotsOpen [] = true
 slotsOpen (x ∷ xs) = (leb maxHeld (x .slot) or not (any (onSlot (x .slot)) xs)) and slotsOpen xs
 
 -- every shard has a slot of its own then, the lowest that was left where it had none, and nothing else changed
-pub record Assigns (l r : List Kept) : Type 0 where
-  pub same : (s : Stores) → map (viewKept s) r ≡ map (viewKept s) l
+pub record Assigns (l r : List HeldRow) : Type 0 where
+  pub same : (s : Stores) → map (viewHeldRow s) r ≡ map (viewHeldRow s) l
   pub slots : slotsOpen l ≡ true → slotsFit r ≡ true
-  pub seats : map (λ (x : Kept). x .slot) r ≡ seated [] (map (λ (x : Kept). x .slot) l)
+  pub slotsAre : map (λ (x : HeldRow). x .slot) r ≡ slotted [] (map (λ (x : HeldRow). x .slot) l)

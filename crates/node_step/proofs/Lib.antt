@@ -1,1 +1,1 @@
-pub mod OfRequests
+pub mod Requests

@@ -1,1 +1,1 @@
-pub mod OfWait
+pub mod Wait

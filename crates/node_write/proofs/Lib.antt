@@ -1,2 +1,2 @@
-pub mod OfNamed
-pub mod OfWrites
+pub mod Named
+pub mod Writes

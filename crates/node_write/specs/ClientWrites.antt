@@ -26,9 +26,9 @@ use Rattle.node_log_write.specs.Writes.{Writes}
 use Rattle.node_header.specs.declared.Node.{Node}
 use Rattle.node_header.specs.View.{Stores, viewNode, used}
 use Rattle.node_header.specs.Formed.{formedNode, slotsFit}
-use Rattle.node_header.specs.Seats.{SameSlots}
-use Rattle.node_header.specs.Answers.{told}
-use Rattle.node_lent.specs.Lend.{Lot, lentFor, slotOf, Changes, Whole}
+use Rattle.node_header.specs.Slots.{SameSlots}
+use Rattle.node_header.specs.Answers.{answeredAs}
+use Rattle.node_lent.specs.Lend.{LentStore, lentFor, slotOf, Changes, Whole}
 use Rattle.node_write.specs.declared.WriteReply.{WriteReply}
 use Rattle.node_write.specs.declared.WriteReply.the-variants as R
 use Rattle.node_write.specs.declared.NodeWritten.{NodeWritten}
@@ -93,13 +93,13 @@ WriteSlot n m slot = (v : message.Write) → message.decodeWrite m ≡ some v �
 
 -- a call with the columns a, which leaves b, and the reply w with the header p: whatever the other stores hold, they stay, and the lent one
 -- becomes the definition's
-abbrev pub SameWrite : Node → (a b : Lot) → (clock least : ℕ) → List ℕ → WriteReply → Node → Type 0
+abbrev pub SameWrite : Node → (a b : LentStore) → (clock least : ℕ) → List ℕ → WriteReply → Node → Type 0
 SameWrite n a b clock least m w p =
     (s t : Stores) (slot : ℕ) → WriteSlot n m slot → Changes s t slot a b
-    → record { answer = w; node = viewNode t p } ≡ told writeWord (calls.writeWith (lentFor s n a) (viewNode s n) clock least m)
+    → record { answer = w; node = viewNode t p } ≡ answeredAs writeWord (calls.writeWith (lentFor s n a) (viewNode s n) clock least m)
 
 -- refused, it leaves every place of the columns and of the header as it was, the free ones too
-abbrev pub KeptWrite : Node → (a b : Lot) → WriteReply → Node → Type 0
+abbrev pub KeptWrite : Node → (a b : LentStore) → WriteReply → Node → Type 0
 KeptWrite n a b w p = turnedDown w ≡ true → (b ≡ a) × (p ≡ n)
 
 -- no two shards come to have one store
@@ -107,24 +107,24 @@ abbrev pub SlotsWrite : (n p : Node) → Type 0
 SlotsWrite n p = formedNode n ≡ true → slotsFit (used p) ≡ true
 
 -- accepted, it leaves the store of the shard well formed
-abbrev pub WholeWrite : Node → (b : Lot) → List ℕ → WriteReply → Node → Type 0
+abbrev pub WholeWrite : Node → (b : LentStore) → List ℕ → WriteReply → Node → Type 0
 WholeWrite n b m w p = turnedDown w ≡ false → (k : Key) → WriteNames m k → Whole n p b k
 
 -- internal: before the call is counted; each shard has the slot that it had, and a reply is turned down where it has a number
-pub record Serves (n : Node) (a b : Lot) (clock least : ℕ) (m : List ℕ) (r : NodeWritten) : Type 0 where
+pub record Serves (n : Node) (a b : LentStore) (clock least : ℕ) (m : List ℕ) (r : NodeWritten) : Type 0 where
   pub same : SameWrite n a b clock least m (r .answer) (r .node)
   pub kept : KeptWrite n a b (r .answer) (r .node)
-  pub seats : SameSlots n (r .node)
+  pub slotsAre : SameSlots n (r .node)
   pub slots : SlotsWrite n (r .node)
   pub whole : WholeWrite n b m (r .answer) (r .node)
   pub listed : not (eqb (numberIn (r .answer)) 0) ≡ turnedDown (r .answer)
 
 -- each shard has the slot that it had. `before` is the count of refused calls: one more for each refused call, 21 to 24 included, up to the
 -- largest u32
-pub record WritesAt (n : Node) (a b : Lot) (clock least : ℕ) (m : List ℕ) (before : ℕ) (r : WriteAnswer) : Type 0 where
+pub record WritesAt (n : Node) (a b : LentStore) (clock least : ℕ) (m : List ℕ) (before : ℕ) (r : WriteAnswer) : Type 0 where
   pub same : SameWrite n a b clock least m (r .answer) (r .node)
   pub kept : KeptWrite n a b (r .answer) (r .node)
-  pub seats : SameSlots n (r .node)
+  pub slotsAre : SameSlots n (r .node)
   pub slots : SlotsWrite n (r .node)
   pub whole : WholeWrite n b m (r .answer) (r .node)
   pub count : r .refused ≡ counted before (turnedDown (r .answer))

@@ -21,7 +21,7 @@ use Rattle.spec.specs.Node.Wire as wire
 use Rattle.spec_laws.proofs.Lists.{not-both}
 use Rattle.num_position.specs.Positions.{within, isMinus, arcseconds, leftOver, numbersOf, floatsOf}
 use Rattle.num_position.specs.declared.Position.{Position}
-use Rattle.num_position.proofs.OfSizes.{within-sizes, sizes-bounds}
+use Rattle.num_position.proofs.Sizes.{within-sizes, sizes-bounds}
 
 -- ---- one whole number
 

@@ -13,9 +13,9 @@ use Rattle.num_position.specs.Positions.{Turned, turned, outOfRange, noT
 use Rattle.num_position.specs.Sizes.{sizesWithin}
 use Rattle.num_position.specs.declared.Fields.{Fields}
 use Rattle.num_position.specs.declared.Position.{Position}
-use Rattle.num_position.proofs.OfFields.{InRange, in-facts, facts-in}
-use Rattle.num_position.proofs.OfPlaces.{raSize}
-use Rattle.num_position.proofs.OfSizes.{within-sizes, sizes-bounds}
+use Rattle.num_position.proofs.FieldLaws.{InRange, in-facts, facts-in}
+use Rattle.num_position.proofs.Places.{raSize}
+use Rattle.num_position.proofs.Sizes.{within-sizes, sizes-bounds}
 
 -- ---- sizes in sixtieths
 

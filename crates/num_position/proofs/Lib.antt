@@ -1,8 +1,8 @@
-pub mod OfSigned
-pub mod OfFields
-pub mod OfSizes
-pub mod OfFloats
-pub mod OfPlaces
+pub mod SignedLaws
+pub mod FieldLaws
+pub mod Sizes
+pub mod FloatsLaws
+pub mod Places
 pub mod Laws
 pub mod FloatLaws
 pub mod Refusals

@@ -1,5 +1,5 @@
-pub mod OfLogs
-pub mod OfCalls
-pub mod OfPlaces
-pub mod OfLent
-pub mod OfBegin
+pub mod Logs
+pub mod Calls
+pub mod Places
+pub mod Lent
+pub mod Begin

@@ -13,4 +13,4 @@ pub mod Lost
 pub mod SeqOnce
 pub mod OnlyPromote
 pub mod OwnWorker
-pub mod OfPaper
+pub mod Paper

@@ -21,7 +21,7 @@ use Rattle.spec_run.proofs.Cases.Fresh.{start-fresh, start-shard}
 use Rattle.spec_run.proofs.Cases.Promotion.{events, end, may-happen, acknowledged, in-sync}
 use Rattle.spec_run.proofs.Cases.LoneEntry as lone
 use Rattle.spec_run.proofs.Cases.LateAlignment as late
-use Rattle.spec_run.proofs.Cases.OfPaper.{seqs, seqs-rise, promotion-of-paper, lone-of-paper, overtaken-of-paper, repeated-of-paper}
+use Rattle.spec_run.proofs.Cases.Paper.{seqs, seqs-rise, promotion-of-paper, lone-of-paper, overtaken-of-paper, repeated-of-paper}
 use Rattle.spec_run.proofs.Paper.Allowed.{paper-allowed, paper-durable, paper-alike, paper-written}
 
 kept : Durable end

@@ -26,9 +26,9 @@ use Rattle.spec_words.specs.Decimal.{spelled, decimal, value}
 use Rattle.spec_words.specs.Words.{words, textOf}
 use Rattle.spec_words.specs.Calls.{said, shortBuffer, AppliedInWords, inWords, applyInWords}
 use Rattle.spec_words.specs.Small.{MapNumbers}
-use Rattle.spec_words.proofs.OfDecimal.{decimal-back, decimal-leads}
+use Rattle.spec_words.proofs.Decimal.{decimal-back, decimal-leads}
 use Rattle.spec_words.proofs.Fixes.{words-fix, number-and-words-fix, no-numbers-share}
-use Rattle.spec_words.proofs.OfCalls.{short-keeps, sent-again, again-with-room}
+use Rattle.spec_words.proofs.Calls.{short-keeps, sent-again, again-with-room}
 use Rattle.spec_words.proofs.Roomy.{roomy-is-apply, roomy-of-bytes}
 use Rattle.spec_words.proofs.Cases.{slash-says}
 

@@ -29,7 +29,7 @@ use Rattle.spec_words.specs.Decimal.{decimal}
 use Rattle.spec_words.specs.Texts.{saysNotAlive, saysKnown, saysNotAt, saysHolds, saysNotHeld, saysNotInSync, saysInSync}
 use Rattle.spec_words.specs.Words.{keyWords, words, textOf}
 use Rattle.spec_words.specs.Small.{SmallName, Numbers, Named, SmallAnswer}
-use Rattle.spec_words.proofs.OfDecimal.{decimal-64, decimal-32}
+use Rattle.spec_words.proofs.Decimal.{decimal-64, decimal-32}
 
 pub key-length : (k : Key) → SmallName (k .collection) → length (decimal (k .shard)) ≤ 10 → length (keyWords k) ≤ 43
 unfolding keyWords

@@ -1,7 +1,7 @@
-pub mod OfDecimal
+pub mod Decimal
 pub mod Read
 pub mod Fixes
-pub mod OfCalls
+pub mod Calls
 pub mod Lengths
 pub mod Roomy
 pub mod Cases

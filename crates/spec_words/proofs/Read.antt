@@ -53,7 +53,7 @@ use Rattle.spec_words.specs.Texts.{
   saysShrinks,
 }
 use Rattle.spec_words.specs.Words.{keyWords, words}
-use Rattle.spec_words.proofs.OfDecimal.{decimal-back, decimal-digits, every-append}
+use Rattle.spec_words.proofs.Decimal.{decimal-back, decimal-digits, every-append}
 
 -- ---- leading digits, and what follows them
 

@@ -47,7 +47,7 @@ use Rattle.spec_words.specs.Words.{textOf}
 use Rattle.spec_words.specs.Calls.{said, applyInWords}
 use Rattle.spec_words.specs.Small.{Named, OutcomeNumbers, SmallAnswer, MapNumbers}
 use Rattle.spec_words.proofs.Lengths.{text-length}
-use Rattle.spec_words.proofs.OfCalls.{roomy}
+use Rattle.spec_words.proofs.Calls.{roomy}
 
 -- ---- what is found in a table, or in a placement, is one of its own
 

@@ -13,7 +13,7 @@ use Rattle.image_map.specs.Image.{mapAt}
 use Rattle.thm_map_never_malformed.specs.Calls.{Intact}
 use Rattle.image_map_put.specs.Few.{Few}
 use Rattle.image_map_put.specs.Rows.{readAs}
-use Rattle.image_map_put.proofs.OfWhole.{read-as}
+use Rattle.image_map_put.proofs.Whole.{read-as}
 
 pub shards-rise : (s : List ℕ) → Intact s → Few s → rising shardBelow (readAs s .shards) ≡ true
 shards-rise s i few =

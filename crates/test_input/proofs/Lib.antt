@@ -1,3 +1,3 @@
 pub mod Front
-pub mod OfStep
+pub mod StepLaws
 pub mod Going

@@ -51,23 +51,23 @@ use Rattle.log_store.specs.View.{firsts, opOf, entryOf, logOf}
 use Rattle.log_store.specs.Table.{zipped, rowsOf, vectorsOf, rowOp, playRows, playRowsFrom}
 use Rattle.log_store.specs.Store.{wellFormedStore, everyBelow, sameRows}
 use Rattle.log_calls.specs.Fits.{sized, lentFits}
-use Rattle.log_calls.proofs.OfFits.{fits-sized, fits-well}
-use Rattle.node_header.specs.declared.Kept.{Kept}
+use Rattle.log_calls.proofs.FitLaws.{fits-sized, fits-well}
+use Rattle.node_header.specs.declared.HeldRow.{HeldRow}
 use Rattle.node_header.specs.declared.Node.{Node}
 use Rattle.node_header.specs.declared.NodeGranted.{NodeGranted}
 use Rattle.node_header.specs.declared.NodeWaited.{NodeWaited}
 use Rattle.node_header.specs.declared.GrantAnswer.the-variants as G
-use Rattle.node_header.specs.View.{Stores, viewNode, used, noKept}
+use Rattle.node_header.specs.View.{Stores, viewNode, used, noHeldRow}
 use Rattle.node_header.specs.Formed.{slotsFit, countsFit, lentNode, formedNode}
 use Rattle.node_header.specs.Grow.{freeFrom}
-use Rattle.node_header.specs.Answers.{GrantsNode, WaitsNode, told}
+use Rattle.node_header.specs.Answers.{GrantsNode, WaitsNode, answeredAs}
 use Rattle.node_show.specs.declared.Start.{Start}
 use Rattle.node_show.specs.declared.NodeShown.{NodeShown}
 use Rattle.node_show.specs.declared.ShownAnswer.the-variants as S
-use Rattle.node_show.specs.Slots.{seated, slotsAfter}
+use Rattle.node_show.specs.Slots.{slotted, slotsAfter}
 use Rattle.node_show.specs.Shows.{viewStarts}
 use Rattle.node_hear.specs.Hears.{HearsMap}
-use Rattle.node_lent.specs.Lend.{Lot, lot, storeOf, keptStore, placeOf, lentAt, lentFor, slotOf, Whole}
+use Rattle.node_lent.specs.Lend.{LentStore, lentStore, storeOf, heldRowStore, placeOf, lentAt, lentFor, slotOf, Whole}
 use Rattle.node_write.specs.declared.WriteAnswer.{WriteAnswer}
 use Rattle.node_write.specs.declared.WriteReply.the-variants as C
 use Rattle.node_write.specs.ClientWrites.{writeWord, WriteNames, WriteSlot, SameWrite, WritesAt}
@@ -156,7 +156,7 @@ is-created = record {
 -- ---- the header: new, as `show` gave it back, with a lease, and with an entry in the log
 
 abbrev pub new : ℕ → Node
-new n = record { id = node n; incarnation = 4; expiry = Never; version = 0; held = array 8 noKept []; count = 0 }
+new n = record { id = node n; incarnation = 4; expiry = Never; version = 0; held = array 8 noHeldRow []; count = 0 }
 
 abbrev solo : (last : ℕ) → Held
 solo last = record {
@@ -173,8 +173,8 @@ solo last = record {
 
 abbrev leads : Expiry → (last : ℕ) → Node
 leads e last =
-    let x : Kept = record { key = key; slot = 0; stored = 0; held = solo last } in
-    record { id = node 1; incarnation = 4; expiry = e; version = 2; held = array 8 noKept (x ∷ []); count = 1 }
+    let x : HeldRow = record { key = key; slot = 0; stored = 0; held = solo last } in
+    record { id = node 1; incarnation = 4; expiry = e; version = 2; held = array 8 noHeldRow (x ∷ []); count = 1 }
 
 pub nil : (l : Log) → length l ≡ 0 → l ≡ []
 nil [] e = refl
@@ -187,11 +187,11 @@ abbrev shown : NodeShown
 shown = record { answer = S.Shown; starts = array 8 starting []; count = 0; node = leads Never 0 }
 
 shows : HearsMap (new 1) map 0 shown
-unfolding opened fill wellFormedLent counted tableCounted lentNode formedNode slotsFit viewStarts seated slotsAfter freeFrom
+unfolding opened fill wellFormedLent counted tableCounted lentNode formedNode slotsFit viewStarts slotted slotsAfter freeFrom
 shows = record {
   same = λ s. rw (nil (s .log 0 0) (s .long 0 0), s .bare 0) refl;
   slots = λ e. refl;
-  seats = λ e s. refl;
+  slotsAre = λ e s. refl;
   stays = λ e. not-both true refl e;
 }
 
@@ -214,11 +214,11 @@ waits = λ s. rw (s .long 0 1) refl
 abbrev pub bytes : List ℕ
 bytes = message.encodeWrite (record { key = run.key; epoch = 1; op = wireDelete 41 })
 
-abbrev pub before : Lot
-before = let z : List ℕ = fill 1024 0 in lot z z z z z (fill 32768 nan) z z
+abbrev pub before : LentStore
+before = let z : List ℕ = fill 1024 0 in lentStore z z z z z (fill 32768 nan) z z
 
-abbrev pub after : Lot
-after = let z : List ℕ = fill 1024 0 in lot (set z 0 1) (set z 0 1) (set z 0 41) (set z 0 2) z (fill 32768 nan) z z
+abbrev pub after : LentStore
+after = let z : List ℕ = fill 1024 0 in lentStore (set z 0 1) (set z 0 1) (set z 0 41) (set z 0 2) z (fill 32768 nan) z z
 
 slot-zero : (slot : ℕ) → WriteSlot (leads (At 100) 0) bytes slot → slot ≡ 0
 unfolding opened fill slotOf
@@ -251,7 +251,7 @@ unfolding opened fill lentNode slotsFit countsFit
 header-lent s = rw (s .long 0 0) refl
 
 store-lent : lentAt (leads (At 100) 0) before (placeOf (leads (At 100) 0) run.key) ≡ true
-unfolding opened fill lentAt keptStore lentFits sized wellFormedStore everyBelow sameRows logOf firsts rowsOf zipped playRows playRowsFrom
+unfolding opened fill lentAt heldRowStore lentFits sized wellFormedStore everyBelow sameRows logOf firsts rowsOf zipped playRows playRowsFrom
 store-lent = refl
 
 lent : (s : Stores) → lentFor s (leads (At 100) 0) before run.key ≡ true
@@ -263,7 +263,7 @@ abbrev pub accepted : C.the-data
 accepted = C.Accepted (record { 0 = 1 })
 
 taken : (s : Stores)
-    → record { answer = accepted; node = read (run.entry 1 1 41 ∷ []) } ≡ told writeWord (calls.writeWith (lentFor s (leads (At 100) 0) before) (read []) 5 1 bytes)
+    → record { answer = accepted; node = read (run.entry 1 1 41 ∷ []) } ≡ answeredAs writeWord (calls.writeWith (lentFor s (leads (At 100) 0) before) (read []) 5 1 bytes)
 unfolding opened
 taken s = rw (lent s) refl
 
@@ -276,7 +276,7 @@ same = λ s t slot w c.
     let to : viewNode t (leads (At 100) 1) ≡ read (run.entry 1 1 41 ∷ []) = rw (l, v) refl in
     ap (λ (x : held.Node). record { answer = accepted; node = x }) to
     ∙ taken s
-    ∙ ap (λ (x : held.Node). told writeWord (calls.writeWith (lentFor s (leads (At 100) 0) before) x 5 1 bytes)) (sym (read-before s))
+    ∙ ap (λ (x : held.Node). answeredAs writeWord (calls.writeWith (lentFor s (leads (At 100) 0) before) x 5 1 bytes)) (sym (read-before s))
 
 abbrev wrote : WriteAnswer
 wrote = record { answer = accepted; node = leads (At 100) 1; refused = 0 }
@@ -285,7 +285,7 @@ slots-after : slotsFit (used (leads (At 100) 1)) ≡ true
 unfolding opened fill slotsFit
 slots-after = refl
 
-store-after : lentFits (storeOf after (getD (leads (At 100) 1 .held) 0 noKept)) ≡ true
+store-after : lentFits (storeOf after (getD (leads (At 100) 1 .held) 0 noHeldRow)) ≡ true
 unfolding opened fill lentFits sized wellFormedStore everyBelow sameRows logOf firsts entryOf opOf rowsOf zipped rowOp playRows playRowsFrom
 store-after = refl
 
@@ -303,7 +303,7 @@ unfolding refused.counted
 writes = record {
   same = same;
   kept = λ e. not-both false e refl;
-  seats = refl;
+  slotsAre = refl;
   slots = λ e. slots-after;
   whole = λ e. whole;
   count = refl;
@@ -321,7 +321,7 @@ pub first : Engine
 first = record {
   map = map;
   nodes = nodes;
-  lots = λ n slot. before;
+  lentStores = λ n slot. before;
   clients = λ n. 100;
   requests = λ a b. [];
   replies = [];

@@ -25,15 +25,15 @@ use Rattle.map_tables.specs.declared.ShardMap.{ShardMap}
 use Rattle.map_check.specs.Lent as maps
 use Rattle.log_store.specs.Store.{replicaIn}
 use Rattle.log_store.proofs.Facts.{facts, store-in-step}
-use Rattle.log_calls.proofs.OfFits.{fits-well}
+use Rattle.log_calls.proofs.FitLaws.{fits-well}
 use Rattle.node_log_write.specs.Writes.{viewStored}
-use Rattle.node_header.specs.declared.Kept.{Kept}
+use Rattle.node_header.specs.declared.HeldRow.{HeldRow}
 use Rattle.node_header.specs.declared.Node.{Node}
-use Rattle.node_header.specs.View.{Stores, viewKept, viewNode, used, noKept}
+use Rattle.node_header.specs.View.{Stores, viewHeldRow, viewNode, used, noHeldRow}
 use Rattle.node_header.specs.Formed.{countsFit, slotsFit, lentNode}
-use Rattle.node_header.proofs.OfLists.{by-case}
-use Rattle.node_lent.specs.Lend.{Lot, storeOf, keptStore, placeOf, lentAt, lentFor, slotOf, Lends}
-use Rattle.node_lent.proofs.OfLend.{slot-held, lends-view}
+use Rattle.node_header.proofs.Lists.{by-case}
+use Rattle.node_lent.specs.Lend.{LentStore, storeOf, heldRowStore, placeOf, lentAt, lentFor, slotOf, Lends}
+use Rattle.node_lent.proofs.Lend.{slot-held, lends-view}
 
 -- ---- a map
 
@@ -65,32 +65,32 @@ find-lead v p d (x ∷ xs) =
     ⊎-elim (λ q. inl (rw e q)) (λ q. inr (rw e (let h = q .0 in omega arith), rw e (q .1))) (find-lead v p d xs))
 
 -- a store that passes is a log that is well formed
-stored-well : (k : Key) (x : Kept) (a : Lot) → keptStore a x ≡ true → wellFormedLog (viewStored k (x .held) (storeOf a x) .replica) ≡ true
-unfolding keptStore replicaIn
+stored-well : (k : Key) (x : HeldRow) (a : LentStore) → heldRowStore a x ≡ true → wellFormedLog (viewStored k (x .held) (storeOf a x) .replica) ≡ true
+unfolding heldRowStore replicaIn
 stored-well k x a e =
     let s = storeOf a x in
     let f = facts s (fits-well s e) in
     formed-log (replicaIn (x .held .epoch .0) (x .held .metric) s)
     (record { numbered = f .numbered; entries = f .entries; played = store-in-step s f (x .held .epoch .0) (x .held .metric) })
 
-module _ (s : Stores) (slot : ℕ) (a : Lot) (n : Node) (k : Key) (l : Lends s slot a) (own : slot ≡ slotOf n k) where
+module _ (s : Stores) (slot : ℕ) (a : LentStore) (n : Node) (k : Key) (l : Lends s slot a) (own : slot ≡ slotOf n k) where
   held-well : lentAt n a (placeOf n k) ≡ true → placeOf n k < length (used n)
-      → logIfHeld (some (viewKept s (getD (used n) (placeOf n k) noKept))) ≡ true
+      → logIfHeld (some (viewHeldRow s (getD (used n) (placeOf n k) noHeldRow))) ≡ true
   unfolding lentAt
   held-well e h =
       let at = placeOf n k in
-      let x = getD (n .held) at noKept in
+      let x = getD (n .held) at noHeldRow in
       let under : at < n .count = let q = length-take (n .count) (n .held) in omega arith in
-      let stored : keptStore a x ≡ true = subst (λ (b : Bool). cond b (keptStore a x) (leb minFloats (length (a .columns .floats))) ≡ true) (lt-ltb at (n .count) under) e in
+      let stored : heldRowStore a x ≡ true = subst (λ (b : Bool). cond b (heldRowStore a x) (leb minFloats (length (a .columns .floats))) ≡ true) (lt-ltb at (n .count) under) e in
       subst (λ (h : held.Held). logIfHeld (some h) ≡ true)
-      (sym (ap (viewKept s) (getD-take (n .count) (n .held) at noKept under) ∙ lends-view s slot a l x (sym (own ∙ slot-held n k at refl under))))
+      (sym (ap (viewHeldRow s) (getD-take (n .count) (n .held) at noHeldRow under) ∙ lends-view s slot a l x (sym (own ∙ slot-held n k at refl under))))
       (stored-well (viewKey (x .key)) x a stored)
 
   log-well : lentAt n a (placeOf n k) ≡ true → logIfHeld (heldShard (viewNode s n) k) ≡ true
   unfolding heldShard
   log-well e =
       ⊎-elim (λ q. rw q) (λ q. rw (q .1) (held-well e (q .0)))
-      (find-lead (viewKept s) (ofKey k) noKept (used n))
+      (find-lead (viewHeldRow s) (ofKey k) noHeldRow (used n))
 
   pub lent-well : lentFor s n a k ≡ true → wellFormedLent (viewNode s n) k ≡ true
   unfolding lentFor wellFormedLent

@@ -18,8 +18,8 @@ use Rattle.spec_run.specs.Rules.{allowed}
 use Rattle.spec_run.specs.Step.{removed, heard, answered, arrives, onArrival, onRequestLost, step}
 use Rattle.node_header.specs.declared.Node.{Node}
 use Rattle.node_header.specs.View.{viewNode}
-use Rattle.node_header.specs.Answers.{Told, told}
-use Rattle.node_lent.specs.Lend.{Lot, lentFor}
+use Rattle.node_header.specs.Answers.{Answered, answeredAs}
+use Rattle.node_lent.specs.Lend.{LentStore, lentFor}
 use Rattle.node_replicate.specs.declared.PeerAnswer.{PeerAnswer}
 use Rattle.node_replicate.specs.declared.PeerReply.{PeerReply}
 use Rattle.node_replicate.specs.declared.PeerReply.the-variants as R
@@ -27,7 +27,7 @@ use Rattle.node_replicate.specs.Peers.{word, viewPeer}
 use Rattle.thm_durable.specs.Engine.{Engine, storesOf, seen}
 use Rattle.thm_durable.specs.Calls.{peerSaid, Hears, Arrives, Called}
 use Rattle.thm_durable.proofs.Simulated.{Simulated, nothing, one}
-use Rattle.thm_durable.proofs.Seen.{lots-lend, lots-change, Beside, given-store}
+use Rattle.thm_durable.proofs.Seen.{stores-lend, stores-change, Beside, given-store}
 use Rattle.thm_durable.proofs.Ways.{As, called}
 use Rattle.thm_durable.proofs.Lent.{lent-well}
 use Rattle.thm_durable.proofs.Tested.{replicate-as, new-epoch-as, copy-as}
@@ -51,7 +51,7 @@ peer-said s from to q (replied (replyAdopted o)) = refl
 peer-said s from to q (backupRefused r) = refl
 
 -- the contract of the call of a request's kind: the definition's call, or refused
-module _ (l : ℕ → Lot) (n : Node) (slot : ℕ) (b : Lot) (m : List ℕ) (r : PeerAnswer) where
+module _ (l : ℕ → LentStore) (n : Node) (slot : ℕ) (b : LentStore) (m : List ℕ) (r : PeerAnswer) where
   abbrev v : held.Node
   v = viewNode (storesOf l) n
 
@@ -60,25 +60,25 @@ module _ (l : ℕ → Lot) (n : Node) (slot : ℕ) (b : Lot) (m : List ℕ) (r :
 
   pub record Heard (sent : Sent) : Type 0 where
     pub result : Result BackupAnswer held.Node
-    pub told : viewPeer (storesOf (at l slot b)) r ≡ told word result
+    pub answeredAs : viewPeer (storesOf (at l slot b)) r ≡ answeredAs word result
     pub way : As backupRefused v result (heard v sent m)
 
   hears-as : (sent : Sent) → Hears sent n slot (l slot) b m r → Heard sent
   unfolding heard
   hears-as sentAlign c = record {
     result = newEpochWith lent v m;
-    told = c .1 .same (storesOf l) (storesOf (at l slot b)) slot (c .0) (lots-change l slot b);
-    way = new-epoch-as v lent m (λ z d. lent-well (storesOf l) slot (l slot) n (z .key) (lots-lend l slot) (c .0 z d));
+    answeredAs = c .1 .same (storesOf l) (storesOf (at l slot b)) slot (c .0) (stores-change l slot b);
+    way = new-epoch-as v lent m (λ z d. lent-well (storesOf l) slot (l slot) n (z .key) (stores-lend l slot) (c .0 z d));
   }
   hears-as sentReplicate c = record {
     result = replicateWith lent v m;
-    told = c .1 .same (storesOf l) (storesOf (at l slot b)) slot (c .0) (lots-change l slot b);
-    way = replicate-as v lent m (λ z d. lent-well (storesOf l) slot (l slot) n (z .key) (lots-lend l slot) (c .0 z d));
+    answeredAs = c .1 .same (storesOf l) (storesOf (at l slot b)) slot (c .0) (stores-change l slot b);
+    way = replicate-as v lent m (λ z d. lent-well (storesOf l) slot (l slot) n (z .key) (stores-lend l slot) (c .0 z d));
   }
   hears-as sentCopy c = record {
     result = copyWith lent v m;
-    told = c .1 .same (storesOf l) (storesOf (at l slot b)) slot (c .0) (lots-change l slot b);
-    way = copy-as v lent m (λ z d. lent-well (storesOf l) slot (l slot) n (z .key) (lots-lend l slot) (c .0 z d));
+    answeredAs = c .1 .same (storesOf l) (storesOf (at l slot b)) slot (c .0) (stores-change l slot b);
+    way = copy-as v lent m (λ z d. lent-well (storesOf l) slot (l slot) n (z .key) (stores-lend l slot) (c .0 z d));
   }
 
 module _ (e f : Engine) (from to i : ℕ) (may : allowed (seen e) (requestArrives from to i) ≡ true) where
@@ -91,13 +91,13 @@ module _ (e f : Engine) (from to i : ℕ) (may : allowed (seen e) (requestArrive
       let slot = c .0 in
       let b = c .1 in
       let r = c .2 in
-      let h = hears-as (e .lots to) (e .nodes to) slot b (q .bytes) r (q .sent) (c .3) in
+      let h = hears-as (e .lentStores to) (e .nodes to) slot b (q .bytes) r (q .sent) (c .3) in
       let z = h .result in
-      let x = viewNode (storesOf (e .lots to)) (e .nodes to) in
+      let x = viewNode (storesOf (e .lentStores to)) (e .nodes to) in
       called backupRefused e f to z (heard x (q .sent) (q .bytes)) (λ a s. answered (gone s) from to q a)
       (given-store e f to (r .node) slot b (λ s. peerSaid (gone s) from to q (r .answer))
       (λ s. let d = peer-beside (gone s) from to q (r .answer) in record { map = d .map; nodes = d .nodes; clients = d .clients }) (c .4)
-      ∙ ap (λ (u : Told PeerReply). peerSaid (gone (setNode (seen e) to (u .node))) from to q (u .answer)) (h .told)
+      ∙ ap (λ (u : Answered PeerReply). peerSaid (gone (setNode (seen e) to (u .node))) from to q (u .answer)) (h .answeredAs)
       ∙ peer-said (gone (setNode (seen e) to (z .after))) from to q (z .answer))
       (h .way) (requestArrives from to i) may (rw found)
       (λ r. one (seen e) (gone (seen e)) (requestLost from to i) refl refl)

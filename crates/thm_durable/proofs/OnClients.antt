@@ -13,7 +13,7 @@ use Rattle.spec_run.specs.Event.{clientWrites, clientSearches}
 use Rattle.spec_run.specs.Rules.{allowed}
 use Rattle.spec_run.specs.Step.{recordWrite, onWrite, step}
 use Rattle.node_header.specs.View.{viewNode}
-use Rattle.node_header.specs.Answers.{Told}
+use Rattle.node_header.specs.Answers.{Answered}
 use Rattle.node_lent.specs.Lend.{lentFor}
 use Rattle.node_write.specs.declared.WriteReply.{WriteReply}
 use Rattle.node_write.specs.declared.WriteReply.the-variants as C
@@ -21,7 +21,7 @@ use Rattle.node_write.specs.ClientWrites.{writeWord}
 use Rattle.thm_durable.specs.Engine.{Engine, storesOf, seen}
 use Rattle.thm_durable.specs.Calls.{writeSaid, Called}
 use Rattle.thm_durable.proofs.Simulated.{Simulated, nothing}
-use Rattle.thm_durable.proofs.Seen.{lots-lend, lots-change, Beside, given-store}
+use Rattle.thm_durable.proofs.Seen.{stores-lend, stores-change, Beside, given-store}
 use Rattle.thm_durable.proofs.Ways.{called}
 use Rattle.thm_durable.proofs.Lent.{lent-well}
 use Rattle.thm_durable.proofs.Tested.{write-as}
@@ -65,7 +65,7 @@ module _ (e f : Engine) where
       let slot = c .0 in
       let b = c .1 in
       let r = c .3 in
-      let l = e .lots n in
+      let l = e .lentStores n in
       let t = storesOf l in
       let x = e .nodes n in
       let v = viewNode t x in
@@ -73,9 +73,9 @@ module _ (e f : Engine) where
       let z = writeWith (lentFor t x (l slot)) v now least m in
       called client.writeRefused e f n z (callWrite v now least m) (λ a s. recordWrite s n d a)
       (given-store e f n (r .node) slot b (λ s. writeSaid s n d (r .answer)) (λ s. write-beside s n d (r .answer)) (c .6)
-      ∙ ap (λ (u : Told WriteReply). writeSaid (setNode (seen e) n (u .node)) n d (u .answer)) (c .5 .same t (storesOf (at l slot b)) slot (c .4) (lots-change l slot b))
+      ∙ ap (λ (u : Answered WriteReply). writeSaid (setNode (seen e) n (u .node)) n d (u .answer)) (c .5 .same t (storesOf (at l slot b)) slot (c .4) (stores-change l slot b))
       ∙ write-said (setNode (seen e) n (z .after)) n d (z .answer))
-      (write-as v (lentFor t x (l slot)) m now least (λ w g. lent-well t slot (l slot) x (w .key) (lots-lend l slot) (c .4 w g)))
+      (write-as v (lentFor t x (l slot)) m now least (λ w g. lent-well t slot (l slot) x (w .key) (stores-lend l slot) (c .4 w g)))
       (clientWrites n now least m) may refl
       (λ q. nothing (seen e) (recordWrite (seen e) n d (client.writeRefused q)) (sym (refused-keeps (seen e) n d q)))
 

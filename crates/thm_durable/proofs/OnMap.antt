@@ -18,7 +18,7 @@ use Rattle.map_tables.specs.View.{viewMap, answerOf}
 use Rattle.map_tables.specs.declared.ShardMap.{ShardMap}
 use Rattle.map_check.specs.Lent.{wellFormedLent}
 use Rattle.map_apply.specs.Calls.{applyLent}
-use Rattle.node_header.proofs.OfLists.{by-case}
+use Rattle.node_header.proofs.Lists.{by-case}
 use Rattle.thm_durable.specs.Engine.{Engine, seen, withMap}
 use Rattle.thm_durable.specs.Calls.{Offers, Called}
 use Rattle.thm_durable.proofs.Simulated.{Simulated, nothing, one, then}

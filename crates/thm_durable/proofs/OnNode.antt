@@ -29,8 +29,8 @@ use Rattle.node_shard.specs.Answers.{waitWord, shrinkOf}
 use Rattle.node_shard.specs.Acks.{ackWord, sentOf}
 use Rattle.node_header.specs.View.{viewNode}
 use Rattle.node_header.specs.Formed.{lentNode}
-use Rattle.node_header.specs.Answers.{Told, WaitTold, proposalOf}
-use Rattle.node_show.specs.Shows.{ShownTold}
+use Rattle.node_header.specs.Answers.{Answered, WaitAnswered, proposalOf}
+use Rattle.node_show.specs.Shows.{ShownAnswered}
 use Rattle.thm_durable.specs.Engine.{Engine, storesOf, seen}
 use Rattle.thm_durable.specs.Calls.{waitSaid, Waits, sentWord, ackSaid, Acks, proposalWord, Settles, Called}
 use Rattle.thm_durable.proofs.Simulated.{Simulated, nothing, one}
@@ -44,12 +44,12 @@ module _ (e f : Engine) where
   pub on-shown : (n fresh : ℕ) → allowed (seen e) (mapShown n fresh) ≡ true → Called e (mapShown n fresh) f → Simulated (seen e) (seen f)
   unfolding Called step onShown seen
   on-shown n fresh may c =
-      let t = storesOf (e .lots n) in
+      let t = storesOf (e .lentStores n) in
       let x = e .nodes n in
       let m = viewMap (e .map) in
       let z = shownWith (lentNode t x and wellFormedLent (e .map)) (viewNode t x) fresh m in
       called shownRefused e f n z (callShown (viewNode t x) fresh m) (λ a s. s)
-      (ap seen (c .2) ∙ seen-node e n (c .0 .node) ∙ ap (λ (y : ShownTold). setNode (seen e) n (y .node)) (c .1 .same t))
+      (ap seen (c .2) ∙ seen-node e n (c .0 .node) ∙ ap (λ (y : ShownAnswered). setNode (seen e) n (y .node)) (c .1 .same t))
       (shown-as t x fresh (e .map)) (mapShown n fresh) may refl
       (λ r. nothing (seen e) (seen e) refl)
 
@@ -57,11 +57,11 @@ module _ (e f : Engine) where
       → Simulated (seen e) (seen f)
   unfolding Called step onGrant seen
   on-grant n i sent lease may c =
-      let t = storesOf (e .lots n) in
+      let t = storesOf (e .lentStores n) in
       let x = e .nodes n in
       let z = grantWith (lentNode t x) (viewNode t x) i sent lease in
       called grantRefused e f n z (callGrant (viewNode t x) i sent lease) (λ a s. s)
-      (ap seen (c .2) ∙ seen-node e n (c .0 .node) ∙ ap (λ (y : Told _). setNode (seen e) n (y .node)) (c .1 t))
+      (ap seen (c .2) ∙ seen-node e n (c .0 .node) ∙ ap (λ (y : Answered _). setNode (seen e) n (y .node)) (c .1 t))
       (grant-as t x i sent lease) (leaseGranted n i sent lease) may refl
       (λ r. nothing (seen e) (seen e) refl)
 
@@ -98,13 +98,13 @@ module _ (e f : Engine) (i now timeout : ℕ) (may : allowed (seen e) (nodeWaits
   unfolding step onWait waitFor waited seen
   waits w found c =
       let n = w .node in
-      let t = storesOf (e .lots n) in
+      let t = storesOf (e .lentStores n) in
       let x = e .nodes n in
       let z = waitWith (lentNode t x) (viewNode t x) now timeout (w .key) (w .epoch) (w .offset) in
       let shrinks = take (c .0 .shrink .count) (c .0 .shrink .items) in
       called client.waitRefused e f n z (callWait (viewNode t x) now timeout (w .key) (w .epoch) (w .offset)) (λ a s. waited s w a)
       (given-node e f n (c .0 .node) (λ s. waitSaid s w (c .0 .answer) shrinks) (λ s. wait-beside s w (c .0 .answer) shrinks) (c .2)
-      ∙ ap (λ (y : WaitTold). waitSaid (setNode (seen e) n (y .node)) w (y .answer) (y .shrink)) (c .1 t)
+      ∙ ap (λ (y : WaitAnswered). waitSaid (setNode (seen e) n (y .node)) w (y .answer) (y .shrink)) (c .1 t)
       ∙ wait-said (setNode (seen e) n (z .after)) w (z .answer))
       (wait-as t x now timeout (w .key) (w .epoch) (w .offset)) (nodeWaits i now timeout) may (rw found)
       (λ r. nothing (seen e) (seen e) refl)
@@ -144,7 +144,7 @@ module _ (e f : Engine) (i : ℕ) (may : allowed (seen e) (replyArrives i) ≡ t
   unfolding step onReply onReplyLost replies acked seen setReplies setNode allowed
   acks q found c =
       let n = q .node in
-      let t = storesOf (e .lots n) in
+      let t = storesOf (e .lentStores n) in
       let x = e .nodes n in
       let made : ack.Sent → Result ack.AckAnswer held.Node =
       λ (y : ack.Sent). ackWith (lentNode t x) (viewNode t x) (q .key) (q .epoch) (q .peer) y (q .bytes) in
@@ -153,7 +153,7 @@ module _ (e f : Engine) (i : ℕ) (may : allowed (seen e) (replyArrives i) ≡ t
       called ack.ackRefused e f n (made (q .sent)) (callAck (viewNode t x) (q .key) (q .epoch) (q .peer) (q .sent) (q .bytes)) deed
       (given-node e f n (c .0 .node) (λ s. ackSaid (gone s) q (c .0 .answer))
       (λ s. let b = ack-beside (gone s) q (c .0 .answer) in record { map = b .map; nodes = b .nodes; clients = b .clients }) (c .2)
-      ∙ ap (λ (y : Told _). ackSaid (gone (setNode (seen e) n (y .node))) q (y .answer)) (c .1 t)
+      ∙ ap (λ (y : Answered _). ackSaid (gone (setNode (seen e) n (y .node))) q (y .answer)) (c .1 t)
       ∙ ack-said (gone (setNode (seen e) n (u .after))) q (u .answer)
       ∙ ap (λ (y : ack.Sent). deed (made y .answer) (setNode (seen e) n (made y .after))) (sent-word (q .sent)))
       (ack-as t x (q .key) (q .epoch) (q .peer) (q .sent) (q .bytes)) (replyArrives i) may (rw found)
@@ -181,13 +181,13 @@ module _ (e f : Engine) (i : ℕ) (may : allowed (seen e) (outcomeArrives i) ≡
   unfolding step onOutcome onOutcomeLost learnt seen setOutcomes setNode allowed
   settles o found c =
       let n = o .node in
-      let t = storesOf (e .lots n) in
+      let t = storesOf (e .lentStores n) in
       let x = e .nodes n in
       let made : ack.Proposal → Result ack.OutcomeAnswer held.Node =
       λ (y : ack.Proposal). outcomeWith (lentNode t x) (viewNode t x) (o .key) (o .epoch) (o .peer) y (o .applied) in
       called ack.outcomeRefused e f n (made (o .what)) (callOutcome (viewNode t x) (o .key) (o .epoch) (o .peer) (o .what) (o .applied)) (λ a s. heard s)
       (given-node e f n (c .0 .node) heard (λ s. record { map = refl; nodes = refl; clients = refl }) (c .2)
-      ∙ ap (λ (y : Told _). heard (setNode (seen e) n (y .node))) (c .1 t)
+      ∙ ap (λ (y : Answered _). heard (setNode (seen e) n (y .node))) (c .1 t)
       ∙ ap (λ (y : ack.Proposal). heard (setNode (seen e) n (made y .after))) (proposal-word (o .what)))
       (outcome-as t x (o .key) (o .epoch) (o .peer) (o .what) (o .applied)) (outcomeArrives i) may (rw found)
       (λ r. one (seen e) (heard (seen e)) (outcomeLost i) refl refl)

@@ -21,7 +21,7 @@ use Rattle.spec_run.specs.Event.{workerSteps}
 use Rattle.spec_run.specs.Rules.{allowed}
 use Rattle.spec_run.specs.Step.{posted, onWork, step}
 use Rattle.node_header.specs.View.{viewNode}
-use Rattle.node_header.proofs.OfLists.{by-case}
+use Rattle.node_header.proofs.Lists.{by-case}
 use Rattle.node_lent.specs.Lend.{lentFor, slotOf}
 use Rattle.node_send.specs.declared.Request as outgoing
 use Rattle.node_send.specs.declared.Request.the-variants as Q
@@ -29,7 +29,7 @@ use Rattle.node_send.specs.Requested.{answerOf, leftOf}
 use Rattle.thm_durable.specs.Engine.{Engine, storesOf, seen}
 use Rattle.thm_durable.specs.Calls.{requestSaid, Called}
 use Rattle.thm_durable.proofs.Simulated.{Simulated, nothing, one}
-use Rattle.thm_durable.proofs.Seen.{lots-lend, Beside, hosted}
+use Rattle.thm_durable.proofs.Seen.{stores-lend, Beside, hosted}
 use Rattle.thm_durable.proofs.Lent.{lent-well}
 
 -- what is written has room
@@ -77,7 +77,7 @@ module _ (e f : Engine) where
       let before = c .0 in
       let out = c .1 in
       let r = c .2 in
-      let l = e .lots n in
+      let l = e .lentStores n in
       let t = storesOf l in
       let x = e .nodes n in
       let v = viewNode t x in
@@ -87,8 +87,8 @@ module _ (e f : Engine) where
       let end : seen f ≡ posted (seen e) n k epoch peer z =
       ap seen (c .5)
       ∙ hosted e (λ u. requestSaid u n k epoch peer r out) (request-beside (seen e) n k epoch peer r out)
-      ∙ ap (λ (a : outgoing.Request). requestSaid (seen e) n k epoch peer a out) (c .4 .answer t (lots-lend l slot))
-      ∙ ap (requestSaid (seen e) n k epoch peer (answerOf z)) (c .4 .bytes t (lots-lend l slot))
+      ∙ ap (λ (a : outgoing.Request). requestSaid (seen e) n k epoch peer a out) (c .4 .answer t (stores-lend l slot))
+      ∙ ap (requestSaid (seen e) n k epoch peer (answerOf z)) (c .4 .bytes t (stores-lend l slot))
       ∙ request-said (seen e) n k epoch peer before z (fits (lentFor t x (l slot) k) (length before) o) in
       ⊎-elim
       (λ q.
@@ -96,4 +96,4 @@ module _ (e f : Engine) where
       (sym (end ∙ ap (posted (seen e) n k epoch peer) q
       ∙ ap (λ (i : ℕ). posted (seen e) n k epoch peer (callRequest v i k epoch peer metric)) (c .3))))
       (λ q. nothing (seen e) (seen f) (sym (end ∙ ap (posted (seen e) n k epoch peer) q)))
-      (request-as (lentFor t x (l slot) k) (wellFormedLent v k) (length before) o (lent-well t slot (l slot) x k (lots-lend l slot) refl))
+      (request-as (lentFor t x (l slot) k) (wellFormedLent v k) (length before) o (lent-well t slot (l slot) x k (stores-lend l slot) refl))

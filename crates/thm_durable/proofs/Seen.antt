@@ -10,8 +10,8 @@ use Rattle.map_tables.specs.View.{viewMap}
 use Rattle.map_tables.specs.declared.ShardMap.{ShardMap}
 use Rattle.node_header.specs.declared.Node.{Node}
 use Rattle.node_header.specs.View.{viewNode}
-use Rattle.node_header.proofs.OfLists.{by-case}
-use Rattle.node_lent.specs.Lend.{Lot, Lends, Changes}
+use Rattle.node_header.proofs.Lists.{by-case}
+use Rattle.node_lent.specs.Lend.{LentStore, Lends, Changes}
 use Rattle.thm_durable.specs.Engine.{Engine, storesOf, seen, withMap, withNode, withStore, host}
 
 -- ---- one place of a family changed
@@ -32,9 +32,9 @@ at-own f n x = rw (eq-eqb n n refl)
 -- ---- what a call gives back
 
 -- the lent columns are back in their slot
-pub put-back : (e : Engine) (n : ℕ) (x : Node) (slot : ℕ) (b : Lot) → withStore e n x slot b .lots n slot ≡ b
+pub put-back : (e : Engine) (n : ℕ) (x : Node) (slot : ℕ) (b : LentStore) → withStore e n x slot b .lentStores n slot ≡ b
 unfolding withStore
-put-back e n x slot b = ap (λ (l : ℕ → Lot). l slot) (at-own (e .lots) n (at (e .lots n) slot b)) ∙ at-own (e .lots n) slot b
+put-back e n x slot b = ap (λ (l : ℕ → LentStore). l slot) (at-own (e .lentStores) n (at (e .lentStores n) slot b)) ∙ at-own (e .lentStores n) slot b
 
 pub seen-map : (e : Engine) (m : ShardMap) → seen (withMap e m) ≡ setMap (seen e) (viewMap m)
 unfolding seen withMap setMap
@@ -54,19 +54,19 @@ nodesAs s f = record {
   acknowledged = s .acknowledged;
 }
 
-pub seen-store : (e : Engine) (n : ℕ) (x : Node) (slot : ℕ) (b : Lot)
-    → seen (withStore e n x slot b) ≡ setNode (seen e) n (viewNode (storesOf (at (e .lots n) slot b)) x)
+pub seen-store : (e : Engine) (n : ℕ) (x : Node) (slot : ℕ) (b : LentStore)
+    → seen (withStore e n x slot b) ≡ setNode (seen e) n (viewNode (storesOf (at (e .lentStores n) slot b)) x)
 unfolding seen withStore setNode
 seen-store e n x slot b =
-    ap (nodesAs (seen e)) (fun-ext (λ m. at-each (λ i l y. viewNode (storesOf l) y) (e .lots) (e .nodes) n (at (e .lots n) slot b) x m))
+    ap (nodesAs (seen e)) (fun-ext (λ m. at-each (λ i l y. viewNode (storesOf l) y) (e .lentStores) (e .nodes) n (at (e .lentStores n) slot b) x m))
 
-pub seen-node : (e : Engine) (n : ℕ) (x : Node) → seen (withNode e n x) ≡ setNode (seen e) n (viewNode (storesOf (e .lots n)) x)
+pub seen-node : (e : Engine) (n : ℕ) (x : Node) → seen (withNode e n x) ≡ setNode (seen e) n (viewNode (storesOf (e .lentStores n)) x)
 unfolding seen withNode setNode
 seen-node e n x =
     ap (nodesAs (seen e))
     (fun-ext (λ m.
-    ap (λ (l : ℕ → Lot). viewNode (storesOf l) (at (e .nodes) n x m)) (sym (at-same (e .lots) n m))
-    ∙ at-each (λ i l y. viewNode (storesOf l) y) (e .lots) (e .nodes) n (e .lots n) x m))
+    ap (λ (l : ℕ → LentStore). viewNode (storesOf l) (at (e .nodes) n x m)) (sym (at-same (e .lentStores) n m))
+    ∙ at-each (λ i l y. viewNode (storesOf l) y) (e .lentStores) (e .nodes) n (e .lentStores n) x m))
 
 -- nothing given back
 pub same-node : (s : State) (n : ℕ) → setNode s n (s .nodes n) ≡ s
@@ -75,13 +75,13 @@ same-node s n = ap (nodesAs s) (fun-ext (at-same (s .nodes) n))
 
 -- ---- the stores of a node as the contracts speak of them
 
-pub lots-lend : (l : ℕ → Lot) (slot : ℕ) → Lends (storesOf l) slot (l slot)
+pub stores-lend : (l : ℕ → LentStore) (slot : ℕ) → Lends (storesOf l) slot (l slot)
 unfolding storesOf
-lots-lend l slot = record { log = λ last. refl; vectors = λ last stored. refl }
+stores-lend l slot = record { log = λ last. refl; vectors = λ last stored. refl }
 
-pub lots-change : (l : ℕ → Lot) (slot : ℕ) (b : Lot) → Changes (storesOf l) (storesOf (at l slot b)) slot (l slot) b
+pub stores-change : (l : ℕ → LentStore) (slot : ℕ) (b : LentStore) → Changes (storesOf l) (storesOf (at l slot b)) slot (l slot) b
 unfolding storesOf at
-lots-change l slot b =
+stores-change l slot b =
     let q : eqb slot slot ≡ true = eq-eqb slot slot refl in
     record {
       before = record { log = λ last. refl; vectors = λ last stored. refl };
@@ -116,11 +116,11 @@ hosted e deed b = λ i.
 
 -- a header that was given back, and the host's deed after it
 pub given-node : (e f : Engine) (n : ℕ) (x : Node) (deed : State → State) → ((s : State) → Beside s (deed s)) → f ≡ host (withNode e n x) deed
-    → seen f ≡ deed (setNode (seen e) n (viewNode (storesOf (e .lots n)) x))
+    → seen f ≡ deed (setNode (seen e) n (viewNode (storesOf (e .lentStores n)) x))
 given-node e f n x deed b q = ap seen q ∙ hosted (withNode e n x) deed (b (seen (withNode e n x))) ∙ ap deed (seen-node e n x)
 
 -- a header and a store that were given back, and the host's deed after it
-pub given-store : (e f : Engine) (n : ℕ) (x : Node) (slot : ℕ) (b : Lot) (deed : State → State) → ((s : State) → Beside s (deed s))
-    → f ≡ host (withStore e n x slot b) deed → seen f ≡ deed (setNode (seen e) n (viewNode (storesOf (at (e .lots n) slot b)) x))
+pub given-store : (e f : Engine) (n : ℕ) (x : Node) (slot : ℕ) (b : LentStore) (deed : State → State) → ((s : State) → Beside s (deed s))
+    → f ≡ host (withStore e n x slot b) deed → seen f ≡ deed (setNode (seen e) n (viewNode (storesOf (at (e .lentStores n) slot b)) x))
 given-store e f n x slot b deed d q =
     ap seen q ∙ hosted (withStore e n x slot b) deed (d (seen (withStore e n x slot b))) ∙ ap deed (seen-store e n x slot b)

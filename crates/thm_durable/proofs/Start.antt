@@ -29,10 +29,10 @@ use Rattle.map_apply.specs.declared.Settled.{Settled}
 use Rattle.map_apply.specs.Calls.{applyLent, AppliesBytes}
 use Rattle.node_admit.specs.View.{viewExpiry}
 use Rattle.node_header.specs.declared.Node.{Node}
-use Rattle.node_header.specs.View.{Stores, viewKept, viewNode}
+use Rattle.node_header.specs.View.{Stores, viewHeldRow, viewNode}
 use Rattle.node_header.specs.Formed.{slotsFit, lentNode}
-use Rattle.node_header.proofs.OfLists.{by-case}
-use Rattle.node_show.specs.Shows.{ShownTold}
+use Rattle.node_header.proofs.Lists.{by-case}
+use Rattle.node_show.specs.Shows.{ShownAnswered}
 use Rattle.thm_durable.specs.Engine.{Engine, storesOf, seen}
 use Rattle.thm_durable.specs.Start.{New, Begun}
 use Rattle.thm_durable.proofs.Lent.{map-well}
@@ -61,7 +61,7 @@ module _ (x : Node) (me incarnation : ℕ) (new : New x me incarnation) (s : Sto
     incarnation = new .incarnation i;
     expiry = viewExpiry (new .expiry i);
     version = new .version i;
-    held = map (viewKept s) (take (new .count i) (x .held));
+    held = map (viewHeldRow s) (take (new .count i) (x .held));
   }
 
   new-lent : lentNode s x ≡ true
@@ -75,25 +75,25 @@ module _ (e : Engine) (b : Begun e) where
   abbrev own : (me : ℕ) (r : Replica) (place : ℕ) → nth (b .shard .replicas) place ≡ some r → r .node .0 ≡ me → b .incarnation me ≡ r .incarnation
   own me r place at same = subst (λ (k : ℕ). b .incarnation k ≡ r .incarnation) same (b .listed r place at)
 
-  holder : (n : ℕ) → holds n (b .shard .replicas) ≡ true → Shown m (b .shard) n (viewNode (storesOf (e .lots n)) (e .nodes n))
+  holder : (n : ℕ) → holds n (b .shard .replicas) ≡ true → Shown m (b .shard) n (viewNode (storesOf (e .lentStores n)) (e .nodes n))
   unfolding callShown _and_
   holder n h =
       let f = b .holders n h in
-      let s = storesOf (e .lots n) in
+      let s = storesOf (e .lentStores n) in
       let k = b .incarnation n in
       let empty = new-empty (f .new) n k (f .made) s in
       let z : held.Node → Result ShownAnswer held.Node = λ (v : held.Node). shownWith (lentNode s (f .new) and wellFormedLent (e .map)) v (f .fresh) m in
       let given : viewNode s (e .nodes n) ≡ z (held.emptyNode n k) .after =
-      ap (viewNode s) (f .node) ∙ ap (λ (t : ShownTold). t .node) (f .promised .same s) ∙ ap (λ (v : held.Node). z v .after) empty in
+      ap (viewNode s) (f .node) ∙ ap (λ (t : ShownAnswered). t .node) (f .promised .same s) ∙ ap (λ (v : held.Node). z v .after) empty in
       let tests : (lentNode s (f .new) and wellFormedLent (e .map)) ≡ (wellFormedHeader (held.emptyNode n k) and wellFormedMap m) =
       rw (new-lent (f .new) n k (f .made) s, b .tested, map-well (e .map) (b .tested)) (unfold wellFormedHeader in unfold rising in unfold every in unfold _and_ in refl) in
       subst (Shown m (b .shard) n) (sym (given ∙ ap (λ (t : Bool). shownWith t (held.emptyNode n k) (f .fresh) m .after) tests))
       (shown-holder m (b .shard) (b .created) n k (f .fresh) h (own n))
 
-  other : (n : ℕ) → holds n (b .shard .replicas) ≡ false → Shown m (b .shard) n (viewNode (storesOf (e .lots n)) (e .nodes n))
+  other : (n : ℕ) → holds n (b .shard .replicas) ≡ false → Shown m (b .shard) n (viewNode (storesOf (e .lentStores n)) (e .nodes n))
   other n h =
       let k = b .incarnation n in
-      subst (Shown m (b .shard) n) (sym (new-empty (e .nodes n) (b .id n) k (b .others n h) (storesOf (e .lots n))))
+      subst (Shown m (b .shard) n) (sym (new-empty (e .nodes n) (b .id n) k (b .others n h) (storesOf (e .lentStores n))))
       (shown-other m (b .shard) (b .created) n (held.emptyNode (b .id n) k) h (b .apart n h) refl)
 
   pub begun-fresh : Fresh (seen e)

@@ -55,7 +55,7 @@ use Rattle.map_check.specs.Lent as maps
 use Rattle.node_header.specs.declared.Node.{Node}
 use Rattle.node_header.specs.View.{Stores, viewNode}
 use Rattle.node_header.specs.Formed.{lentNode}
-use Rattle.node_header.proofs.OfLists.{by-case}
+use Rattle.node_header.proofs.Lists.{by-case}
 use Rattle.thm_durable.proofs.Ways.{As, same, unlent}
 use Rattle.thm_durable.proofs.Lent.{map-well, header-well}
 

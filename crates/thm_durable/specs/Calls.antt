@@ -58,15 +58,15 @@ use Rattle.node_header.specs.declared.NodeAcked.{NodeAcked}
 use Rattle.node_header.specs.declared.NodeSettled.{NodeSettled}
 use Rattle.node_header.specs.declared.Proposal.{Proposal}
 use Rattle.node_header.specs.declared.Proposal.the-variants as P
-use Rattle.node_header.specs.Answers.{GrantsNode, WaitsNode, SettlesNode}
+use Rattle.node_header.specs.Answers.{GrantsNode, WaitsNode, OutcomesNode}
 use Rattle.node_show.specs.declared.NodeShown.{NodeShown}
 use Rattle.node_hear.specs.Hears.{HearsMap, HearsReply}
-use Rattle.node_lent.specs.Lend.{Lot, slotOf}
+use Rattle.node_lent.specs.Lend.{LentStore, slotOf}
 use Rattle.node_replicate.specs.declared.PeerAnswer.{PeerAnswer}
 use Rattle.node_replicate.specs.declared.PeerReply.{PeerReply}
 use Rattle.node_replicate.specs.declared.PeerReply.the-variants as R
 use Rattle.node_replicate.specs.Peers.{ReplicateSlot, ReplicatesAt, CopySlot, CopiesAt}
-use Rattle.node_epoch.specs.Announces.{NewEpochSlot, AnnouncesAt}
+use Rattle.node_epoch.specs.NewEpochs.{NewEpochSlot, NewEpochsAt}
 use Rattle.node_write.specs.declared.WriteAnswer.{WriteAnswer}
 use Rattle.node_write.specs.declared.WriteReply.{WriteReply}
 use Rattle.node_write.specs.declared.WriteReply.the-variants as C
@@ -89,15 +89,15 @@ writeSaid s n m (C.Refused r) = s
 -- `node_write::write`, lent the columns of a slot, which is the named shard's, and any count of refused calls
 abbrev pub Writes : Engine → (node now least : ℕ) → List ℕ → Engine → Type 0
 Writes e n now least m f =
-    (slot : ℕ) × (b : Lot) × (count : ℕ) × (r : WriteAnswer) × WriteSlot (e .nodes n) m slot
-    × WritesAt (e .nodes n) (e .lots n slot) b now least m count r
+    (slot : ℕ) × (b : LentStore) × (count : ℕ) × (r : WriteAnswer) × WriteSlot (e .nodes n) m slot
+    × WritesAt (e .nodes n) (e .lentStores n slot) b now least m count r
     × (f ≡ host (withStore e n (r .node) slot b) (λ s. writeSaid s n (message.decodeWrite m) (r .answer)))
 
 -- `node_search::search`, with room for so many neighbours: header and store are lent for reading, and stay
 abbrev pub Searches : Engine → (node now space : ℕ) → List ℕ → Engine → Type 0
 Searches e n now space m f =
     (slot : ℕ) × (o p : Output) × (count : ℕ) × (r : NodeSearched) × SearchSlot (e .nodes n) m slot × (room o ≡ space)
-    × SearchesAt (e .nodes n) (e .lots n slot) m now o p count r × (f ≡ e)
+    × SearchesAt (e .nodes n) (e .lentStores n slot) m now o p count r × (f ≡ e)
 
 -- ---- waiting for acks
 
@@ -127,7 +127,7 @@ requestSaid s n k epoch peer (Q.Refused r) out = s
 abbrev pub Asks : Engine → (node : ℕ) → Key → (epoch peer : ℕ) → Metric → (space : ℕ) → Engine → Type 0
 Asks e n k epoch peer metric space f =
     (before after : List ℕ) × (r : outgoing.Request) × (length before ≡ space)
-    × Requests (e .nodes n) (e .lots n (slotOf (e .nodes n) k)) k epoch peer metric before after r
+    × Requests (e .nodes n) (e .lentStores n (slotOf (e .nodes n) k)) k epoch peer metric before after r
     × (f ≡ host e (λ s. requestSaid s n k epoch peer r after))
 
 -- a reply goes under way, and a refusal does not
@@ -140,8 +140,8 @@ peerSaid s from to q (R.Refused r) = s
 
 -- `node_epoch::new_epoch`, `node_replicate::replicate::replicate`, `node_replicate::copy::copy`: the call of the request's kind, lent the columns a
 -- of a slot, leaves b
-abbrev pub Hears : ack.Sent → Node → (slot : ℕ) → (a b : Lot) → List ℕ → PeerAnswer → Type 0
-Hears ack.sentAlign n slot a b m r = NewEpochSlot n m slot × AnnouncesAt n a b m r
+abbrev pub Hears : ack.Sent → Node → (slot : ℕ) → (a b : LentStore) → List ℕ → PeerAnswer → Type 0
+Hears ack.sentAlign n slot a b m r = NewEpochSlot n m slot × NewEpochsAt n a b m r
 Hears ack.sentReplicate n slot a b m r = ReplicateSlot n m slot × ReplicatesAt n a b m r
 Hears ack.sentCopy n slot a b m r = CopySlot n m slot × CopiesAt n a b m r
 
@@ -149,7 +149,7 @@ Hears ack.sentCopy n slot a b m r = CopySlot n m slot × CopiesAt n a b m r
 abbrev pub Arrives : Engine → (from to place : ℕ) → Option Request → Engine → Type 0
 Arrives e from to i none f = f ≡ e
 Arrives e from to i (some q) f =
-    (slot : ℕ) × (b : Lot) × (r : PeerAnswer) × Hears (q .sent) (e .nodes to) slot (e .lots to slot) b (q .bytes) r
+    (slot : ℕ) × (b : LentStore) × (r : PeerAnswer) × Hears (q .sent) (e .nodes to) slot (e .lentStores to slot) b (q .bytes) r
     × (f
     ≡ host (withStore e to (r .node) slot b)
     (λ s. peerSaid (setRequests s from to (removed (s .requests from to) i)) from to q (r .answer)))
@@ -193,7 +193,7 @@ proposalWord ack.grow = P.Grow
 abbrev pub Settles : Engine → (place : ℕ) → Option Outcome → Engine → Type 0
 Settles e i none f = f ≡ e
 Settles e i (some o) f =
-    (r : NodeSettled) × SettlesNode (e .nodes (o .node)) (o .key) (o .epoch) (o .peer) (proposalWord (o .what)) (o .applied) r
+    (r : NodeSettled) × OutcomesNode (e .nodes (o .node)) (o .key) (o .epoch) (o .peer) (proposalWord (o .what)) (o .applied) r
     × (f ≡ host (withNode e (o .node) (r .node)) (λ s. setOutcomes s (removed (s .outcomes) i)))
 
 -- ---- the run

@@ -11,14 +11,14 @@ use Rattle.log_store.specs.Table.{zipped, rowsOf, vectorsOf}
 use Rattle.log_store.proofs.Columns.{log-length}
 use Rattle.node_header.specs.declared.Node.{Node}
 use Rattle.node_header.specs.View.{Stores, viewNode}
-use Rattle.node_lent.specs.Lend.{Lot}
+use Rattle.node_lent.specs.Lend.{LentStore}
 
--- `lots` are the stores, by node and slot: the columns of a log, its floats and its table of vectors. Where all eight have a shard, the
+-- `lentStores` are the stores, by node and slot: the columns of a log, its floats and its table of vectors. Where all eight have a shard, the
 -- slot of one more is the ninth: a store that the host lends, and in which nothing is ever kept. The rest is as in `spec_run`
 pub record Engine : Type 0 where
   pub map : ShardMap
   pub nodes : ℕ → Node
-  pub lots : (node slot : ℕ) → Lot
+  pub lentStores : (node slot : ℕ) → LentStore
   pub clients : ℕ → ℕ
   pub requests : ℕ → ℕ → List Request
   pub replies : List Reply
@@ -30,12 +30,12 @@ pub record Engine : Type 0 where
 -- ---- how it is read
 
 -- what a node's stores hold, as the contracts speak of it: by slot, so many entries and rows of the columns there
-unfoldable pub storesOf : (ℕ → Lot) → Stores
+unfoldable pub storesOf : (ℕ → LentStore) → Stores
 unfolding zipped rowsOf vectorsOf
-storesOf lots = record {
-  log = λ slot last. logOf (lots slot .columns) last;
-  vectors = λ slot last stored. vectorsOf (logOf (lots slot .columns) last) (rowsOf (lots slot .keys) (lots slot .places) stored);
-  long = λ slot last. log-length (lots slot .columns) last;
+storesOf lentStores = record {
+  log = λ slot last. logOf (lentStores slot .columns) last;
+  vectors = λ slot last stored. vectorsOf (logOf (lentStores slot .columns) last) (rowsOf (lentStores slot .keys) (lentStores slot .places) stored);
+  long = λ slot last. log-length (lentStores slot .columns) last;
   bare = λ slot. refl;
 }
 
@@ -43,7 +43,7 @@ storesOf lots = record {
 unfoldable pub seen : Engine → State
 seen e = record {
   map = viewMap (e .map);
-  nodes = λ n. viewNode (storesOf (e .lots n)) (e .nodes n);
+  nodes = λ n. viewNode (storesOf (e .lentStores n)) (e .nodes n);
   clients = e .clients;
   requests = e .requests;
   replies = e .replies;
@@ -60,7 +60,7 @@ unfoldable pub withMap : Engine → ShardMap → Engine
 withMap e m = record {
   map = m;
   nodes = e .nodes;
-  lots = e .lots;
+  lentStores = e .lentStores;
   clients = e .clients;
   requests = e .requests;
   replies = e .replies;
@@ -75,7 +75,7 @@ unfoldable pub withNode : Engine → (node : ℕ) → Node → Engine
 withNode e n x = record {
   map = e .map;
   nodes = at (e .nodes) n x;
-  lots = e .lots;
+  lentStores = e .lentStores;
   clients = e .clients;
   requests = e .requests;
   replies = e .replies;
@@ -86,11 +86,11 @@ withNode e n x = record {
 }
 
 -- the engine with another header of one node, and other columns in the slot that was lent
-unfoldable pub withStore : Engine → (node : ℕ) → Node → (slot : ℕ) → Lot → Engine
+unfoldable pub withStore : Engine → (node : ℕ) → Node → (slot : ℕ) → LentStore → Engine
 withStore e n x slot a = record {
   map = e .map;
   nodes = at (e .nodes) n x;
-  lots = at (e .lots) n (at (e .lots n) slot a);
+  lentStores = at (e .lentStores) n (at (e .lentStores n) slot a);
   clients = e .clients;
   requests = e .requests;
   replies = e .replies;
@@ -105,7 +105,7 @@ unfoldable pub host : Engine → (State → State) → Engine
 host e deed = let s = deed (seen e) in record {
   map = e .map;
   nodes = e .nodes;
-  lots = e .lots;
+  lentStores = e .lentStores;
   clients = e .clients;
   requests = s .requests;
   replies = s .replies;

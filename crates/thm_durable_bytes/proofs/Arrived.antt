@@ -18,13 +18,13 @@ use Rattle.spec.specs.Node.Shards.{Result}
 use Rattle.spec.specs.Node.Backup.{BackupAnswer, replied, backupRefused}
 use Rattle.spec.specs.Node.WellFormed.{wellFormedLent}
 use Rattle.spec_laws.proofs.Lists.{none-some, some-same}
-use Rattle.spec_retained.proofs.OfLent.{Refuses}
+use Rattle.spec_retained.proofs.Lent.{Refuses}
 use Rattle.node_header.specs.declared.Node.{Node}
 use Rattle.node_header.specs.View.{viewNode}
-use Rattle.node_header.specs.Answers.{Told, told}
-use Rattle.node_header.proofs.OfLists.{by-case}
+use Rattle.node_header.specs.Answers.{Answered, answeredAs}
+use Rattle.node_header.proofs.Lists.{by-case}
 use Rattle.image_header.specs.Image.{nodeAt, headerWritten}
-use Rattle.node_lent.specs.Lend.{Lot, placeOf, slotOf, lentFor}
+use Rattle.node_lent.specs.Lend.{LentStore, placeOf, slotOf, lentFor}
 use Rattle.image_node.specs.Lent.{storesPut, lendsState}
 use Rattle.image_node.specs.State.{stateAt}
 use Rattle.node_replicate.specs.declared.PeerReply.{PeerReply}
@@ -98,9 +98,9 @@ pub data Way (h s h′ s′ q : List ℕ) (r : ℕ) (y : Result BackupAnswer hel
       → take 9 q ≡ encodeReply w → r ≡ 0 → Way h s h′ s′ q r y
 
 -- a message m that is read as `read` and names the shard `key`, whose call keeps the contract `Call`
-module _ {A : Type 0} (read : Option A) (fine : A → Bool) (key : A → Key) (Call : Node → (a b : Lot) → List ℕ → PeerAnswer → Type 0) (does : Deed) (m : List ℕ)
-    (At : Node → ℕ → Type 0) (names : Key → Type 0) (seated : Node → PeerReply → Node → Type 0)
-    (of : (n : Node) (a b : Lot) (r : PeerAnswer) → Call n a b m r → peers.Serves (does m) (At n) names (seated n) n a b r)
+module _ {A : Type 0} (read : Option A) (fine : A → Bool) (key : A → Key) (Call : Node → (a b : LentStore) → List ℕ → PeerAnswer → Type 0) (does : Deed) (m : List ℕ)
+    (At : Node → ℕ → Type 0) (names : Key → Type 0) (slotted : Node → PeerReply → Node → Type 0)
+    (of : (n : Node) (a b : LentStore) (r : PeerAnswer) → Call n a b m r → peers.Serves (does m) (At n) names (slotted n) n a b r)
     (slot : (n : Node) (v : A) → read ≡ some v → At n (slotOf n (key v)))
     (unlent : (v : held.Node) (t : Key → Bool) → ((z : A) → read ≡ some z → t (key z) ≡ false) → Refuses (does m t v))
     (y : held.Node → Result BackupAnswer held.Node)
@@ -133,16 +133,16 @@ module _ {A : Type 0} (read : Option A) (fine : A → Bool) (key : A → Key) (C
     abbrev x : Result BackupAnswer held.Node
     x = does m (test h s k) (stateAt h s)
 
-    abbrev promised : peers.Serves (does m) (At n) names (seated n) n (columns h s k) (d .columns) a
+    abbrev promised : peers.Serves (does m) (At n) names (slotted n) n (columns h s k) (d .columns) a
     promised = of n (columns h s k) (d .columns) a (d .called)
 
-    said : viewPeer (after h s k (d .columns)) a ≡ told word lent
+    said : viewPeer (after h s k (d .columns)) a ≡ answeredAs word lent
     said = promised .same (before h s k) (after h s k (d .columns)) (slotOf n k) (slot n v is) (changes h s k (d .columns))
 
     spoke : a .answer ≡ word (lent .answer)
-    spoke = ap (λ (t : Told PeerReply). t .answer) said
+    spoke = ap (λ (t : Answered PeerReply). t .answer) said
 
-    -- a reply was told: so the state was lent
+    -- a reply was answeredAs: so the state was lent
     passed : (w : Reply) → back (a .answer) ≡ some w → test h s k k ≡ true
     passed w e =
         by-case (test h s k k) (λ t. t)
@@ -186,8 +186,8 @@ module _ {A : Type 0} (read : Option A) (fine : A → Bool) (key : A → Key) (C
         let c = promised .kept down in
         sym (entry h s k lends bytes t)
         ∙ ap (viewNode (before h s k)) (sym (c .1))
-        ∙ ap (λ (b : Lot). viewNode (after h s k b) (a .node)) (sym (c .0))
-        ∙ ap (λ (z : Told PeerReply). z .node) said
+        ∙ ap (λ (b : LentStore). viewNode (after h s k b) (a .node)) (sym (c .0))
+        ∙ ap (λ (z : Answered PeerReply). z .node) said
         ∙ ap (λ (z : Result BackupAnswer held.Node). z .after) (at-state t)
 
     -- the images that the call would leave

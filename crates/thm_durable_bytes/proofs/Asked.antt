@@ -3,7 +3,7 @@ use Prim.Native.Nat.{ℕ}
 use mathlib.Core.Path.{_≡_}
 use mathlib.Core.Bool.{Bool}
 use Rattle.spec.specs.Refusals.{Refusal, undecodable, malformed, numberOf}
-use Rattle.node_header.proofs.OfLists.{by-case}
+use Rattle.node_header.proofs.Lists.{by-case}
 use Rattle.calls_header.specs.Asked.{Asked}
 
 pub asked : {P Same Called : Type 0} (unread lent : Bool) (r : ℕ) → Asked unread lent r Same Called

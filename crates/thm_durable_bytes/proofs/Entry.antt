@@ -14,22 +14,22 @@ use Rattle.spec.specs.Node.Held as held
 use Rattle.spec.specs.Node.WellFormed.{wellFormedLent}
 use Rattle.spec_laws.proofs.Lists.{and-right}
 use Rattle.log_store.specs.Store.{wellFormedStore}
-use Rattle.log_calls.proofs.OfFits.{fits-well}
-use Rattle.node_header.specs.declared.Kept.{Kept}
+use Rattle.log_calls.proofs.FitLaws.{fits-well}
+use Rattle.node_header.specs.declared.HeldRow.{HeldRow}
 use Rattle.node_header.specs.declared.Node.{Node}
-use Rattle.node_header.specs.View.{Stores, viewNode, noKept}
+use Rattle.node_header.specs.View.{Stores, viewNode, noHeldRow}
 use Rattle.node_header.specs.Formed.{lentNode}
-use Rattle.node_header.proofs.OfLists.{by-case}
-use Rattle.node_lent.specs.Lend.{Lot, storeOf, keptStore, placeOf, slotOf, lentAt, lentFor, Lends, Changes}
+use Rattle.node_header.proofs.Lists.{by-case}
+use Rattle.node_lent.specs.Lend.{LentStore, storeOf, heldRowStore, placeOf, slotOf, lentAt, lentFor, Lends, Changes}
 use Rattle.image_header.specs.Image.{nodeAt}
 use Rattle.image_store.specs.Read.{allReadable}
-use Rattle.image_node.specs.Lent.{beginOf, keptReadable, lotAt, lotIn, lendsState}
+use Rattle.image_node.specs.Lent.{beginOf, heldRowReadable, lentStoreAt, lentStoreIn, lendsState}
 use Rattle.image_node.specs.State.{storesIn, stateAt}
-use Rattle.image_node.proofs.OfFamily.{lentIn, lent-changes}
-use Rattle.image_node.proofs.OfExit.{entry-view}
-use Rattle.image_node.proofs.OfBegun.{entry-absent}
-use Rattle.image_node.proofs.OfAfter.{Lent, lent-any, is-formed}
-use Rattle.image_node.proofs.OfLent.{is-lent}
+use Rattle.image_node.proofs.Family.{lentIn, lent-changes}
+use Rattle.image_node.proofs.Exit.{entry-view}
+use Rattle.image_node.proofs.Begun.{entry-absent}
+use Rattle.image_node.proofs.After.{Lent, lent-any, is-formed}
+use Rattle.image_node.proofs.Lent.{is-lent}
 use Rattle.thm_durable.proofs.Lent.{lent-well}
 
 module _ (h s : List ℕ) (k : Key) where
@@ -37,8 +37,8 @@ module _ (h s : List ℕ) (k : Key) where
   n = nodeAt h
 
   -- the shard's columns at entry
-  abbrev pub columns : Lot
-  columns = lotIn s n k
+  abbrev pub columns : LentStore
+  columns = lentStoreIn s n k
 
   -- the test of the contract (24), by the shard that a message names
   abbrev pub test : Key → Bool
@@ -49,10 +49,10 @@ module _ (h s : List ℕ) (k : Key) where
   before = lentIn (storesIn s) (slotOf n k) columns
 
   -- .. and after a call that left others
-  abbrev pub after : Lot → Stores
+  abbrev pub after : LentStore → Stores
   after b = lentIn (storesIn s) (slotOf n k) b
 
-  pub changes : (b : Lot) → Changes before (after b) (slotOf n k) columns b
+  pub changes : (b : LentStore) → Changes before (after b) (slotOf n k) columns b
   changes b = lent-changes (storesIn s) (slotOf n k) columns b
 
   pub lends-before : Lends before (slotOf n k) columns
@@ -66,22 +66,22 @@ module _ (h s : List ℕ) (k : Key) where
     lent : Lent s n k
     lent = is-lent h s k lends (λ z. ap (λ (f : Key → Bool). f k) (lent-any z (storesIn s) n columns) ∙ passed) (λ e. bytes)
 
-    abbrev x : Kept
-    x = getD (n .held) (placeOf n k) noKept
+    abbrev x : HeldRow
+    x = getD (n .held) (placeOf n k) noHeldRow
 
     module _ (is : ltb (placeOf n k) (n .count) ≡ true) where
       fine : allReadable s (beginOf x) (x .held .last) ≡ true
-      unfolding keptReadable
+      unfolding heldRowReadable
       fine =
-          let r : keptReadable s x ≡ true = sym (ap (λ (c : Bool). cond c (keptReadable s x) true) is) ∙ lent .fine in
+          let r : heldRowReadable s x ≡ true = sym (ap (λ (c : Bool). cond c (heldRowReadable s x) true) is) ∙ lent .fine in
           and-right (leb (x .held .last) 1024) _ (and-right (ltb (x .slot) 8) _ r)
 
-      stored : wellFormedStore (storeOf (lotAt s x) x) ≡ true
-      unfolding lentFor lentAt keptStore
+      stored : wellFormedStore (storeOf (lentStoreAt s x) x) ≡ true
+      unfolding lentFor lentAt heldRowStore
       stored =
           let r : lentAt n columns (placeOf n k) ≡ true = and-right (lentNode (storesIn s) n) _ passed in
-          let q : keptStore (lotAt s x) x ≡ true = rw is at r in
-          fits-well (storeOf (lotAt s x) x) q
+          let q : heldRowStore (lentStoreAt s x) x ≡ true = rw is at r in
+          fits-well (storeOf (lentStoreAt s x) x) q
 
     pub entry : viewNode before n ≡ stateAt h s
     entry =

@@ -21,16 +21,16 @@ use Rattle.spec.specs.declared.DataNodeId.{DataNodeId}
 use Rattle.spec.specs.declared.Peer.{Peer}
 use Rattle.spec_laws.proofs.Lists.{by-test, none-some, some-same}
 use Rattle.spec_laws.proofs.Wire.Bytes.{number-below, number-bytes, length-bytes}
-use Rattle.node_header.specs.declared.Kept.{Kept}
-use Rattle.node_header.specs.View.{Stores, viewKept, viewNode}
+use Rattle.node_header.specs.declared.HeldRow.{HeldRow}
+use Rattle.node_header.specs.View.{Stores, viewHeldRow, viewNode}
 use Rattle.image_parts.specs.Shape.{inUse, items, rowsAt, value}
 use Rattle.image_parts.specs.Codes.{idOf}
 use Rattle.image_parts.specs.Canon.{padded}
 use Rattle.image_parts.proofs.Back.{length-rows, rows-back, drop-sets}
 use Rattle.image_parts.proofs.Images.{length-items}
 use Rattle.image_parts.proofs.Tidied.{take-within, all-take, all-padded, all-map}
-use Rattle.image_header_row.specs.Rows.{peerF, peerOf, noPeer, keptAt}
-use Rattle.image_header.specs.Image.{noKept, nodeAt}
+use Rattle.image_header_row.specs.Rows.{peerF, peerOf, noPeer, heldRowAt}
+use Rattle.image_header.specs.Image.{noHeldRow, nodeAt}
 use Rattle.calls_header.specs.Waits.{idBytes}
 use Rattle.calls_parts.specs.Answer.{numberPut}
 use Rattle.thm_durable_bytes.specs.Calls.{named}
@@ -63,7 +63,7 @@ Row p = IsU64 (p .node)
 abbrev Rows : List Peer → Type 0
 Rows l = All Row l × (length l ≤ 32)
 
-abbrev KeptRows : Kept → Type 0
+abbrev KeptRows : HeldRow → Type 0
 KeptRows x = Rows (x .held .peers)
 
 module _ (h : List ℕ) (bytes : Bytes h) where
@@ -73,20 +73,20 @@ module _ (h : List ℕ) (bytes : Bytes h) where
     omega (arith, length-map (items 32 (value peerF h) 32 from) peerOf, length-items 32 (value peerF h) 32 from),
   )
 
-  kept-rows : (at : ℕ) → KeptRows (keptAt h at)
-  unfolding keptAt
+  kept-rows : (at : ℕ) → KeptRows (heldRowAt h at)
+  unfolding heldRowAt
   kept-rows at = peers-rows _
 
-  no-rows : KeptRows noKept
-  unfolding noKept padded
+  no-rows : KeptRows noHeldRow
+  unfolding noHeldRow padded
   no-rows = (all-padded Row 32 noPeer (omega arith) [] tt, omega arith)
 
   header-rows : All KeptRows (nodeAt h .held)
   unfolding nodeAt rowsAt padded
   header-rows =
       let u = inUse 8 (numberAt 8 h 24) in
-      subst (λ (i : ℕ). All KeptRows (items u (keptAt h) 1280 48 ++ replicate (8 - i) noKept)) (length-items u (keptAt h) 1280 48)
-      (all-padded KeptRows 8 noKept no-rows (items u (keptAt h) 1280 48) (all-items KeptRows u (keptAt h) 1280 48 kept-rows))
+      subst (λ (i : ℕ). All KeptRows (items u (heldRowAt h) 1280 48 ++ replicate (8 - i) noHeldRow)) (length-items u (heldRowAt h) 1280 48)
+      (all-padded KeptRows 8 noHeldRow no-rows (items u (heldRowAt h) 1280 48) (all-items KeptRows u (heldRowAt h) 1280 48 kept-rows))
 
   -- .. and of the shards that it holds
   shard-rows : (st : Stores) (k : Key) (g : held.Held) → heldShard (viewNode st (nodeAt h)) k ≡ some g → Rows (g .peers)
@@ -94,11 +94,11 @@ module _ (h : List ℕ) (bytes : Bytes h) where
   shard-rows st k g e =
       let n = nodeAt h in
       all-find (λ (x : held.Held). Rows (x .peers)) (ofKey k) (viewNode st n .held) g
-      (all-map (λ (x : held.Held). Rows (x .peers)) (viewKept st) (take (n .count) (n .held))
+      (all-map (λ (x : held.Held). Rows (x .peers)) (viewHeldRow st) (take (n .count) (n .held))
       (all-within (take (n .count) (n .held)) (all-take KeptRows (n .count) (n .held) header-rows)))
       e
     where
-      all-within : (l : List Kept) → All KeptRows l → All (λ (x : Kept). Rows (viewKept st x .peers)) l
+      all-within : (l : List HeldRow) → All KeptRows l → All (λ (x : HeldRow). Rows (viewHeldRow st x .peers)) l
       all-within [] r = tt
       all-within (x ∷ xs) r = (
         (all-take Row (x .held .count) (x .held .peers) (r .0 .0), omega (arith, r .0 .1, take-within (x .held .count) (x .held .peers))),

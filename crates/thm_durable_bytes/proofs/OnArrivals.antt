@@ -27,17 +27,17 @@ use Rattle.spec.specs.Node.Ack.{Sent, sentAlign, sentReplicate, sentCopy}
 use Rattle.spec.specs.Node.Wire.{opInDomain, entryInDomain}
 use Rattle.spec.specs.Node.Calls.{callReplicate, callNewEpoch, callCopy}
 use Rattle.spec_laws.proofs.Lists.{some-same}
-use Rattle.spec_retained.proofs.OfLent.{replicate-unlent, new-epoch-unlent, copy-unlent}
+use Rattle.spec_retained.proofs.Lent.{replicate-unlent, new-epoch-unlent, copy-unlent}
 use Rattle.spec_run.specs.State.{State, Request, setNode, setRequests, setReplies}
 use Rattle.spec_run.specs.Event.{requestArrives, requestLost}
 use Rattle.spec_run.specs.Rules.{allowed}
 use Rattle.spec_run.specs.Step as run
 use Rattle.spec_run.specs.Step.{removed, heard, arrives, onArrival, onRequestLost, step}
-use Rattle.node_header.proofs.OfLists.{by-case}
+use Rattle.node_header.proofs.Lists.{by-case}
 use Rattle.node_lent.specs.Lend.{slotOf}
 use Rattle.image_node.specs.State.{stateAt}
-use Rattle.node_replicate.specs.Peers.{Seated, ReplicateNames, ReplicateSlot, ReplicatesAt, CopyNames, CopySlot, CopiesAt}
-use Rattle.node_epoch.specs.Announces.{NewEpochNames, NewEpochSlot, NewEpochSeats, AnnouncesAt}
+use Rattle.node_replicate.specs.Peers.{SlotsGiven, ReplicateNames, ReplicateSlot, ReplicatesAt, CopyNames, CopySlot, CopiesAt}
+use Rattle.node_epoch.specs.NewEpochs.{NewEpochNames, NewEpochSlot, NewEpochSlots, NewEpochsAt}
 use Rattle.calls_peer.specs.PeerCalls.{replicates, announces, copies}
 use Rattle.thm_durable.proofs.Simulated.{Simulated, nothing, one}
 use Rattle.thm_durable.proofs.Seen.{Beside}
@@ -54,15 +54,15 @@ module _ (h s h′ s′ p q m : List ℕ) (r : ℕ) (bytes : Bytes s) where
   hears-way : (kind : Sent) → Hears kind h s h′ s′ p q m r → Way h s h′ s′ q r (heard (stateAt h s) kind m)
   unfolding heard
   hears-way sentAlign c =
-      way (decodeNewEpoch m) (λ v. true) (λ v. v .key) AnnouncesAt announces m (λ n. NewEpochSlot n m) (NewEpochNames m) (λ n. NewEpochSeats n m)
+      way (decodeNewEpoch m) (λ v. true) (λ v. v .key) NewEpochsAt announces m (λ n. NewEpochSlot n m) (NewEpochNames m) (λ n. NewEpochSlots n m)
       (λ n a b z d. d) (λ n v e z g. ap (λ (w : NewEpoch). slotOf n (w .key)) (some-same (sym e ∙ g))) (λ v t f. new-epoch-unlent v t m f)
       (λ v. callNewEpoch v m) (λ v t f. new-epoch-as v t m f) h s h′ s′ p q r bytes c
   hears-way sentReplicate c =
-      way (decodeReplicate m) (λ v. opInDomain (v .op)) (λ v. v .key) ReplicatesAt replicates m (λ n. ReplicateSlot n m) (ReplicateNames m) Seated
+      way (decodeReplicate m) (λ v. opInDomain (v .op)) (λ v. v .key) ReplicatesAt replicates m (λ n. ReplicateSlot n m) (ReplicateNames m) SlotsGiven
       (λ n a b z d. d) (λ n v e z g. ap (λ (w : Replicated). slotOf n (w .key)) (some-same (sym e ∙ g))) (λ v t f. replicate-unlent v t m f)
       (λ v. callReplicate v m) (λ v t f. replicate-as v t m f) h s h′ s′ p q r bytes c
   hears-way sentCopy c =
-      way (decodeCopyShard m) (λ v. every entryInDomain (v .entries)) (λ v. v .key) CopiesAt copies m (λ n. CopySlot n m) (CopyNames m) Seated
+      way (decodeCopyShard m) (λ v. every entryInDomain (v .entries)) (λ v. v .key) CopiesAt copies m (λ n. CopySlot n m) (CopyNames m) SlotsGiven
       (λ n a b z d. d) (λ n v e z g. ap (λ (w : Copied). slotOf n (w .key)) (some-same (sym e ∙ g))) (λ v t f. copy-unlent v t m f)
       (λ v. callCopy v m) (λ v t f. copy-as v t m f) h s h′ s′ p q r bytes c
 

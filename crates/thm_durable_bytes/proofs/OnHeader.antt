@@ -26,8 +26,8 @@ use Rattle.node_show.specs.declared.ShownAnswer.the-variants as S
 use Rattle.node_show.specs.Shows.{viewStarts}
 use Rattle.node_header.specs.declared.Node.{Node}
 use Rattle.node_header.specs.Formed.{lentNode}
-use Rattle.node_header.specs.Answers.{Told, proposalOf}
-use Rattle.node_header.proofs.OfLists.{by-case}
+use Rattle.node_header.specs.Answers.{Answered, proposalOf}
+use Rattle.node_header.proofs.Lists.{by-case}
 use Rattle.image_header.specs.Image.{headerLent, nodeAt}
 use Rattle.image_map.specs.Image.{mapAt, mapLent}
 use Rattle.image_node.specs.State.{storesIn, stateAt}
@@ -35,7 +35,7 @@ use Rattle.calls_header.specs.Waits.{Left, rowsRoom}
 use Rattle.calls_header.specs.Grants.{isGranted, granted, GrantsImage}
 use Rattle.calls_header.specs.Shows.{workerBytes, showSaid, isShown, showWrites, shownCall, ShowsImage}
 use Rattle.calls_header.specs.Acks.{sentAt, unreadAck, ackNumber, isAcked, AcksImage}
-use Rattle.calls_header.specs.Settles.{proposalAt, unreadOutcome, isSettled, SettlesImage}
+use Rattle.calls_header.specs.Outcomes.{proposalAt, unreadOutcome, isSettled, OutcomesImage}
 use Rattle.thm_durable.proofs.Simulated.{Simulated, nothing, one}
 use Rattle.thm_durable.proofs.Seen.{Beside}
 use Rattle.thm_durable.proofs.Tested.{grant-as, outcome-as, ack-as, shown-as}
@@ -153,7 +153,7 @@ module _ (d f : Cluster) (i : ℕ) (may : allowed (seen d) (replyArrives i) ≡ 
       ∙ ap (λ (z : held.Node). ackSaid (gone (setNode (seen d) n z)) m (c .1))
       (by-case (isAcked (g .after .answer)) (λ e. g .leaves e .read st) (λ e. g .stays e .read st))
       ∙ ap (ackSaid (gone (setNode (seen d) n (x .after))) m)
-      (g .answer ∙ ap ackNumber (ap (λ (z : Told AckAnswer). z .answer) (g .call st)))
+      (g .answer ∙ ap ackNumber (ap (λ (z : Answered AckAnswer). z .answer) (g .call st)))
       ∙ ack-said (gone (setNode (seen d) n (x .after))) m (x .answer)
       ∙ ap (λ (z : ack.Sent). deed (made z .answer) (setNode (seen d) n (made z .after))) (sent-code (m .sent))))
 
@@ -199,7 +199,7 @@ module _ (d f : Cluster) (i : ℕ) (may : allowed (seen d) (outcomeArrives i) �
       turned-away ack.outcomeRefused (seen d) n y (λ a s. heard s) (outcomeArrives i) may (rw found)
       (λ r. one (seen d) (heard (seen d)) (outcomeLost i) refl refl)
       (seen f) why (to ∙ ap (λ (l : List ℕ). heard (setNode (seen d) n (stateAt l b))) e))
-      (λ (g : SettlesImage h (c .0) (o .key .collection) (o .key .shard) (o .epoch) (o .peer) code flag (c .1)).
+      (λ (g : OutcomesImage h (c .0) (o .key .collection) (o .key .shard) (o .epoch) (o .peer) code flag (c .1)).
       called ack.outcomeRefused (seen d) n y (λ a s. heard s) (outcomeArrives i) may (rw found)
       (λ r. one (seen d) (heard (seen d)) (outcomeLost i) refl refl)
       (seen f) (made (o .what) (o .applied)) (outcome-as st (nodeAt h) (o .key) (o .epoch) (o .peer) (o .what) (o .applied))

@@ -43,7 +43,7 @@ use Rattle.map_tables.specs.View.{viewMap}
 use Rattle.map_tables.specs.declared.ShardMap.{ShardMap}
 use Rattle.map_check.specs.Lent.{wellFormedLent}
 use Rattle.map_apply.specs.Calls.{applyLent}
-use Rattle.node_header.proofs.OfLists.{by-case}
+use Rattle.node_header.proofs.Lists.{by-case}
 use Rattle.image_map.specs.Image.{mapAt, mapLent}
 use Rattle.calls_map.specs.Calls.{AppliesTo, AppliesImage}
 use Rattle.thm_durable.proofs.Simulated.{Simulated, nothing, one}

@@ -24,8 +24,8 @@ use Rattle.node_shard.specs.declared.WaitAnswer.{WaitAnswer}
 use Rattle.node_shard.specs.Answers.{waitRefusal, waitWord, shrinkOf}
 use Rattle.node_header.specs.declared.Node.{Node}
 use Rattle.node_header.specs.Formed.{lentNode}
-use Rattle.node_header.specs.Answers.{WaitTold}
-use Rattle.node_header.proofs.OfLists.{by-case}
+use Rattle.node_header.specs.Answers.{WaitAnswered}
+use Rattle.node_header.proofs.Lists.{by-case}
 use Rattle.image_header.specs.Image.{headerLent, nodeAt, headerWritten}
 use Rattle.image_node.specs.State.{storesIn, stateAt}
 use Rattle.calls_header.specs.Waits as calls
@@ -136,8 +136,8 @@ module _ (d f : Cluster) (mem : InMemory d) (i now timeout : ℕ) (may : allowed
       (λ (g : WaitsImage h (c .0) (c .1) (c .2) (c .3) (c .4) (w .key .collection) (w .key .shard) (w .epoch) (w .offset) now timeout r).
       let t = g .after in
       let ps = take (t .shrink .count) (t .shrink .items) in
-      let word : t .answer ≡ waitWord (x .answer) = ap (λ (u : WaitTold). u .answer) (g .call st) in
-      let peers : ps ≡ shrinkOf (x .answer) = ap (λ (u : WaitTold). u .shrink) (g .call st) in
+      let word : t .answer ≡ waitWord (x .answer) = ap (λ (u : WaitAnswered). u .answer) (g .call st) in
+      let peers : ps ≡ shrinkOf (x .answer) = ap (λ (u : WaitAnswered). u .shrink) (g .call st) in
       let test : waitWrites (c .1) (c .3) t ≡ writes h (c .1) (c .3) (t .node) (x .answer) =
       ap (λ (u : WaitAnswer). isWaited u and rowsRoom idBytes 8 (c .1) (c .3) ps) word
       ∙ ap (λ (l : List DataNodeId). isWaited (waitWord (x .answer)) and rowsRoom idBytes 8 (c .1) (c .3) l) peers in

@@ -28,8 +28,8 @@ use Rattle.spec_run.specs.Step.{onWork, step}
 use Rattle.node_header.specs.declared.StepAnswer.{StepAnswer}
 use Rattle.node_header.specs.View.{viewNode}
 use Rattle.node_header.specs.Formed.{lentNode}
-use Rattle.node_header.specs.Answers.{stepTold}
-use Rattle.node_header.proofs.OfLists.{by-case}
+use Rattle.node_header.specs.Answers.{stepAnswered}
+use Rattle.node_header.proofs.Lists.{by-case}
 use Rattle.image_header.specs.Image.{nodeAt}
 use Rattle.node_lent.specs.Lend.{lentFor}
 use Rattle.image_node.specs.Lent.{lendsState}
@@ -49,7 +49,7 @@ use Rattle.thm_durable_bytes.proofs.Seen.{hosted}
 -- ---- the number of a step
 
 -- nothing is put under way where nothing is sent
-quiet : (z : calls.StepAnswer) → sentBy (quietNumber (stepTold z)) ≡ none
+quiet : (z : calls.StepAnswer) → sentBy (quietNumber (stepAnswered z)) ≡ none
 quiet (calls.stepped worker.stop) = refl
 quiet (calls.stepped worker.wait) = refl
 quiet (calls.stepped worker.align) = refl
@@ -96,7 +96,7 @@ module _ (s : State) (n : ℕ) (k : Key) (epoch peer : ℕ) where
 
   -- a told answer is posted as `spec_run` posts the definition's; q and a are the outputs before
   posted-as : (z : RequestAnswer) (w : calls.StepAnswer) (q a : List ℕ) → Fits (length q) z → length q < 256 ^ 8 → 8 ≤ length a
-      → posted s n k epoch peer (sentBy (stepNumber (stepTold w) (answerOf z) (leftOf z q))) (leftOf z q) (answerLeft (answerOf z) a)
+      → posted s n k epoch peer (sentBy (stepNumber (stepAnswered w) (answerOf z) (leftOf z q))) (leftOf z q) (answerLeft (answerOf z) a)
       ≡ run.posted s n k epoch peer z
   unfolding run.posted run.sentOf
   posted-as unsent w q a f long room = ap (λ (o : Option ack.Sent). posted s n k epoch peer o q (answerLeft (answerOf unsent) a)) (quiet w)
@@ -164,17 +164,17 @@ module _ (d f : Cluster) (mem : InMemory d) (n : ℕ) (k : Key) (epoch peer : �
       let x = calls.stepWith (λ _. lentNode (storesIn s) (nodeAt h)) v k epoch peer in
       let said : t .sent ≡ answerOf z = t .requests .answer (before h s k) (lends-before h s k) ∙ ap answerOf is in
       let left : c .1 ≡ leftOf z q = t .requests .bytes (before h s k) (lends-before h s k) ∙ ap (λ (y : RequestAnswer). leftOf y q) is in
-      let number : r ≡ stepNumber (stepTold x) (answerOf z) (leftOf z q) =
+      let number : r ≡ stepNumber (stepAnswered x) (answerOf z) (leftOf z q) =
       t .number
       ∙ ap (λ (y : StepAnswer). stepNumber y (t .sent) (c .1)) (t .steps (storesIn s))
-      ∙ ap (λ (y : outgoing.Request). stepNumber (stepTold x) y (c .1)) said
-      ∙ ap (stepNumber (stepTold x) (answerOf z)) left in
+      ∙ ap (λ (y : outgoing.Request). stepNumber (stepAnswered x) y (c .1)) said
+      ∙ ap (stepNumber (stepAnswered x) (answerOf z)) left in
       let told : c .3 ≡ answerLeft (answerOf z) (c .2) = t .answer ∙ ap (λ (y : outgoing.Request). answerLeft y (c .2)) said in
       let end : seen f ≡ run.posted (seen d) n k epoch peer z =
       to-end
       ∙ ap (λ (i : ℕ). posted (seen d) n k epoch peer (sentBy i) (c .1) (c .3)) number
-      ∙ ap (λ (l : List ℕ). posted (seen d) n k epoch peer (sentBy (stepNumber (stepTold x) (answerOf z) (leftOf z q))) l (c .3)) left
-      ∙ ap (posted (seen d) n k epoch peer (sentBy (stepNumber (stepTold x) (answerOf z) (leftOf z q))) (leftOf z q)) told
+      ∙ ap (λ (l : List ℕ). posted (seen d) n k epoch peer (sentBy (stepNumber (stepAnswered x) (answerOf z) (leftOf z q))) l (c .3)) left
+      ∙ ap (posted (seen d) n k epoch peer (sentBy (stepNumber (stepAnswered x) (answerOf z) (leftOf z q))) (leftOf z q)) told
       ∙ posted-as (seen d) n k epoch peer z x q (c .2) (fits (lentFor (before h s k) (nodeAt h) (columns h s k) k) (length q) o)
       (let size = c .5 in let most = c .6 in omega arith) room in
       by-case (test h s k k)

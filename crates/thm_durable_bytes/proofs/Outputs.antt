@@ -8,7 +8,7 @@ use lib.Seq.{sets, sets-eq, take-append-seam}
 use borrow.Author.Tests.{le-leb}
 use Rattle.image_store.proofs.Stored.{number-stored}
 use Rattle.calls_parts.specs.Answer.{numberPut}
-use Rattle.calls_parts.proofs.OfAnswer.{number-put}
+use Rattle.calls_parts.proofs.AnswerLaws.{number-put}
 use Rattle.thm_durable_bytes.specs.Calls.{beside}
 
 pub first-bytes : (bs out : List ℕ) → length bs ≤ length out → take (length bs) (sets out 0 bs) ≡ bs

@@ -6,7 +6,7 @@ use lib.Dec.{eqb}
 use borrow.Author.Tests.{eqb-true}
 use Rattle.spec_run.specs.State.{State, at, setMap, setNode}
 use Rattle.map_tables.specs.View.{viewMap}
-use Rattle.node_header.proofs.OfLists.{by-case}
+use Rattle.node_header.proofs.Lists.{by-case}
 use Rattle.image_map.specs.Image.{mapAt}
 use Rattle.image_node.specs.State.{stateAt}
 use Rattle.thm_durable.proofs.Seen.{Beside, nodesAs}

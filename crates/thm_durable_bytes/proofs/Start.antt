@@ -25,10 +25,10 @@ use Rattle.map_check.specs.Lent.{wellFormedLent}
 use Rattle.node_header.specs.declared.Node.{Node}
 use Rattle.node_header.specs.View.{Stores, viewNode}
 use Rattle.node_header.specs.Formed.{lentNode}
-use Rattle.node_header.proofs.OfLists.{by-case}
-use Rattle.node_header.proofs.OfFormed.{formed-lent}
+use Rattle.node_header.proofs.Lists.{by-case}
+use Rattle.node_header.proofs.Formed.{formed-lent}
 use Rattle.node_show.specs.declared.ShownAnswer.{ShownAnswer}
-use Rattle.node_show.specs.Shows.{ShownTold, shownWord, viewStarts}
+use Rattle.node_show.specs.Shows.{ShownAnswered, shownWord, viewStarts}
 use Rattle.image_map.specs.Image.{mapAt, mapLent}
 use Rattle.image_header.specs.Image.{headerLent, nodeAt}
 use Rattle.image_node.specs.State.{storesIn, stateAt}
@@ -69,7 +69,7 @@ module _ (h t m p q a b : List ℕ) (fresh : ℕ) (d : Shows h t m p q a b fresh
       let x = g .after in
       let z = shownCall h m fresh st .answer in
       let l = viewStarts (take (x .count) (x .starts)) in
-      let word : x .answer ≡ shownWord z = ap (λ (u : ShownTold). u .answer) (g .call .same st) in
+      let word : x .answer ≡ shownWord z = ap (λ (u : ShownAnswered). u .answer) (g .call .same st) in
       by-case (showWrites p a x) (λ e. e)
       (λ e.
       not-both (eqb 0 0) refl

@@ -22,7 +22,7 @@ use Rattle.spec_run.proofs.Created.{DistinctIds, asked, info, created}
 use Rattle.map_tables.specs.View.{viewMap}
 use Rattle.map_check.specs.Lent.{tableCounted, counted, wellFormedLent}
 use Rattle.map_apply.specs.Calls.{applyLent}
-use Rattle.node_header.proofs.OfLists.{by-case}
+use Rattle.node_header.proofs.Lists.{by-case}
 use Rattle.image_map.specs.Image.{mapAt, imageMap}
 use Rattle.calls_map.specs.Calls.{AppliesTo, Empties}
 use Rattle.thm_durable.proofs.Lent.{map-well}

@@ -24,11 +24,11 @@ use Rattle.spec.specs.Node.Client.{WriteAnswer, accepted, writeRefused, ackCoun
 use Rattle.spec.specs.Node.Calls.{lateTime, writeOf, writeWith, callWrite}
 use Rattle.spec.specs.Node.WellFormed.{wellFormedLent}
 use Rattle.spec_laws.proofs.Lists.{by-test, and-right, none-some, some-same}
-use Rattle.spec_retained.proofs.OfLent.{write-unlent}
+use Rattle.spec_retained.proofs.Lent.{write-unlent}
 use Rattle.node_header.specs.declared.Node.{Node}
 use Rattle.node_header.specs.View.{viewNode}
-use Rattle.node_header.specs.Answers.{Told, told}
-use Rattle.node_header.proofs.OfLists.{by-case}
+use Rattle.node_header.specs.Answers.{Answered, answeredAs}
+use Rattle.node_header.proofs.Lists.{by-case}
 use Rattle.image_header.specs.Image.{nodeAt, headerWritten}
 use Rattle.node_lent.specs.Lend.{placeOf, slotOf, lentFor}
 use Rattle.image_node.specs.Lent.{storesPut, lendsState}
@@ -92,7 +92,7 @@ back (R.Accepted o) = some (o .0)
 back (R.NotPrimary e) = none
 back (R.Refused x) = none
 
--- a refusal is told as one, by a number that is not 0
+-- a refusal is answeredAs as one, by a number that is not 0
 pub record Turned (w : WriteReply) : Type 0 where
   pub back : back w ≡ none
   pub number : eqb (numberIn w) 0 ≡ false
@@ -147,7 +147,7 @@ module _ (h s h′ s′ a b m : List ℕ) (now least r : ℕ) (bytes : Bytes s) 
     k = v .key
 
     abbrev w : answer.WriteAnswer
-    w = d .told
+    w = d .answeredAs
 
     -- the definition's call with the contract's test, on the stores with the columns lent, and on the state that the bytes are
     abbrev lent : Result WriteAnswer held.Node
@@ -158,7 +158,7 @@ module _ (h s h′ s′ a b m : List ℕ) (now least r : ℕ) (bytes : Bytes s) 
 
     spoke : w .answer ≡ writeWord (lent .answer)
     spoke =
-        ap (λ (t : Told WriteReply). t .answer)
+        ap (λ (t : Answered WriteReply). t .answer)
         (d .call .same (before h s k) (after h s k (d .left)) (slotOf n k) (λ z g. ap (λ (u : Write). slotOf n (u .key)) (some-same (sym is ∙ g)))
         (changes h s k (d .left)))
 
@@ -225,6 +225,6 @@ module _ (h s h′ s′ a b m : List ℕ) (now least r : ℕ) (bytes : Bytes s) 
           by-case (lendsCall c h s (v .key))
           (λ i.
           let g = w .lent f i in
-          told-as v e (and-right (countLent c) (lendsState h s (v .key)) i) g (g .told .answer) refl (g .is))
+          told-as v e (and-right (countLent c) (lendsState h s (v .key)) i) g (g .answeredAs .answer) refl (g .is))
           (λ i. stayed 24 refl a (w .unlent f i)))
           (λ f. stayed 22 refl a (w .outside f))

@@ -51,7 +51,7 @@ use Rattle.calls_header.specs.Shows.{Shows}
 use Rattle.calls_header.specs.Grants.{Grants}
 use Rattle.calls_header.specs.Waits as waits
 use Rattle.calls_header.specs.Acks as acks
-use Rattle.calls_header.specs.Settles as settles
+use Rattle.calls_header.specs.Outcomes as settles
 use Rattle.calls_client.specs.Written as write
 use Rattle.calls_client.specs.Written.{WritesImages}
 use Rattle.calls_client.specs.Searched.{SearchesImages}

@@ -32,7 +32,7 @@ use Rattle.image_map.specs.Image.{mapAt, mapLent, mapStored, imageMap, MapBecom
 use Rattle.image_map.proofs.Canon.{view-map}
 use Rattle.image_map.proofs.Back.{Fits, NodeFits, SessionFits, becomes}
 use Rattle.calls_map.specs.Calls.{noted, appliedTo, AppliesImage, AppliesTo, Empties}
-use Rattle.calls_map.proofs.OfEmpty.{empty-way}
+use Rattle.calls_map.proofs.Empty.{empty-way}
 use Rattle.thm_map_never_malformed.specs.Calls.{Intact, Answered, Calls, NotMalformed}
 use Rattle.thm_map_never_malformed.proofs.Intact.{empty-formed, never-malformed}
 

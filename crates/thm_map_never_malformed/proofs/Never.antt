@@ -15,7 +15,7 @@ use Rattle.spec.specs.Map.Apply.{Applied, apply, applyTo, settle, decide, sessi
 use Rattle.spec.specs.Map.Calls.{reasonNumber}
 use Rattle.spec.specs.Layout.Request.{Request}
 use Rattle.spec_laws.proofs.Lists.{by-test, not-both}
-use Rattle.map_apply.proofs.OfApply.{settle-answer}
+use Rattle.map_apply.proofs.Apply.{settle-answer}
 use Rattle.calls_map.proofs.Kept.{Now, decide-now}
 
 -- 1 to 16

@@ -32,7 +32,7 @@ use Rattle.spec_laws.proofs.Node.KeptMap.{map-kept}
 use Rattle.spec_laws.proofs.Node.Logs.{log-formed}
 use Rattle.log_store.specs.Table.{vectorOf, vectorsOf, playRows}
 use Rattle.log_store.proofs.PlayRows.{rows-vectors, rows-most}
-use Rattle.node_header.proofs.OfLists.{every-both}
+use Rattle.node_header.proofs.Lists.{every-both}
 use Rattle.image_header.specs.Becomes.{tableFits}
 
 -- ---- one shard

@@ -15,30 +15,30 @@ use Rattle.spec_laws.proofs.Lists.{and-true, and-left, and-right}
 use Rattle.spec_laws.proofs.Map.Rows.{every-tail, every-cons}
 use Rattle.spec_laws.proofs.Node.Formed.{FormedNode, node-formed}
 use Rattle.log_store.proofs.Bits.{every-at}
-use Rattle.node_header.specs.declared.Kept.{Kept}
+use Rattle.node_header.specs.declared.HeldRow.{HeldRow}
 use Rattle.node_header.specs.declared.Node.{Node}
-use Rattle.node_header.specs.View.{Stores, viewKept, viewNode, used, noKept}
+use Rattle.node_header.specs.View.{Stores, viewHeldRow, viewNode, used, noHeldRow}
 use Rattle.node_header.specs.Formed.{countsFit, slotsFit, lentNode, formedNode}
-use Rattle.node_header.specs.Seats.{slotsOf}
-use Rattle.node_header.proofs.OfLists.{by-case}
-use Rattle.node_header.proofs.OfFormed.{header-few, header-fit, formed-lent}
+use Rattle.node_header.specs.Slots.{slotsOf}
+use Rattle.node_header.proofs.Lists.{by-case}
+use Rattle.node_header.proofs.Formed.{header-few, header-fit, formed-lent}
 use Rattle.node_lent.specs.Lend.{placeOf, lentFor}
 use Rattle.image_header.specs.Image.{headerLent, nodeAt}
-use Rattle.image_node.specs.Lent.{storesSize, holdsKey, keptOf, lotIn, lendsState}
-use Rattle.image_node.specs.State.{storesIn, stateAt, keptImage}
-use Rattle.image_node.proofs.OfLent.{rows-eight}
-use Rattle.image_node.proofs.OfState.{imagesLent, images-test}
+use Rattle.image_node.specs.Lent.{storesSize, holdsKey, heldRowOf, lentStoreIn, lendsState}
+use Rattle.image_node.specs.State.{storesIn, stateAt, heldRowImage}
+use Rattle.image_node.proofs.Lent.{rows-eight}
+use Rattle.image_node.proofs.State.{imagesLent, images-test}
 use Rattle.thm_never_malformed.specs.Intact.{Intact}
 use Rattle.thm_never_malformed.proofs.Stores.{store-formed}
 use Rattle.thm_never_malformed.proofs.Pairs.{StoreFits, Pairs, to-pairs, of-pairs}
 
 -- the log of each shard
-logs-formed : (s : List ℕ) (l : List Kept) → every (keptImage s) l ≡ true → every logOf (map (viewKept (storesIn s)) l) ≡ true
+logs-formed : (s : List ℕ) (l : List HeldRow) → every (heldRowImage s) l ≡ true → every logOf (map (viewHeldRow (storesIn s)) l) ≡ true
 unfolding storesIn
 logs-formed s [] e = unfold every in refl
 logs-formed s (x ∷ xs) e =
-    let t = every-tail (keptImage s) x xs e in
-    every-cons logOf (viewKept (storesIn s) x) (map (viewKept (storesIn s)) xs)
+    let t = every-tail (heldRowImage s) x xs e in
+    every-cons logOf (viewHeldRow (storesIn s) x) (map (viewHeldRow (storesIn s)) xs)
     (store-formed s (x .slot * 174080) (x .held .last) (x .stored) (x .held .epoch .0) (x .held .metric) (t .0)) (logs-formed s xs (t .1))
 
 module _ (h s : List ℕ) (i : Intact h s) where
@@ -54,11 +54,11 @@ module _ (h s : List ℕ) (i : Intact h s) where
   pub rows-inside : n .count ≤ length (n .held)
   rows-inside = omega (arith, rows-eight h, header-few n (i .formed))
 
-  kept-passes : (k : Key) → holdsKey n k ≡ true → keptImage s (keptOf n k) ≡ true
+  kept-passes : (k : Key) → holdsKey n k ≡ true → heldRowImage s (heldRowOf n k) ≡ true
   kept-passes k e =
       let under = ltb-true (placeOf n k) (n .count) e in
-      subst (λ (x : Kept). keptImage s x ≡ true) (getD-take (n .count) (n .held) (placeOf n k) noKept under)
-      (every-at (keptImage s) (used n) (placeOf n k) noKept (i .stores) (omega (arith, length-take-le (n .count) (n .held) rows-inside)))
+      subst (λ (x : HeldRow). heldRowImage s x ≡ true) (getD-take (n .count) (n .held) (placeOf n k) noHeldRow under)
+      (every-at (heldRowImage s) (used n) (placeOf n k) noHeldRow (i .stores) (omega (arith, length-take-le (n .count) (n .held) rows-inside)))
 
   images-lent : (z : Stores) (k : Key) → imagesLent z h s k ≡ true
   images-lent z k =
@@ -66,18 +66,18 @@ module _ (h s : List ℕ) (i : Intact h s) where
       (and-true (leb storesSize (length s)) _ (le-leb storesSize (length s) (i .size))
       (and-true (lentNode z n) _ (lent-node z)
       (by-case (holdsKey n k)
-      (λ e. ap (λ (b : Bool). cond b (keptImage s (keptOf n k)) true) e ∙ kept-passes k e)
-      (λ e. ap (λ (b : Bool). cond b (keptImage s (keptOf n k)) true) e))))
+      (λ e. ap (λ (b : Bool). cond b (heldRowImage s (heldRowOf n k)) true) e ∙ kept-passes k e)
+      (λ e. ap (λ (b : Bool). cond b (heldRowImage s (heldRowOf n k)) true) e))))
 
   -- that of the bytes
   pub lends : (k : Key) → lendsState h s k ≡ true
   lends k =
       let z = storesIn s in
-      and-left (lendsState h s k) (lentFor z n (lotIn s n k) k) (images-test z h s k ∙ images-lent z k)
+      and-left (lendsState h s k) (lentFor z n (lentStoreIn s n k) k) (images-test z h s k ∙ images-lent z k)
 
   -- and that of what they are read as
-  pub lent-for : (z : Stores) (k : Key) → lentFor z n (lotIn s n k) k ≡ true
-  lent-for z k = and-right (lendsState h s k) (lentFor z n (lotIn s n k) k) (images-test z h s k ∙ images-lent z k)
+  pub lent-for : (z : Stores) (k : Key) → lentFor z n (lentStoreIn s n k) k ≡ true
+  lent-for z k = and-right (lendsState h s k) (lentFor z n (lentStoreIn s n k) k) (images-test z h s k ∙ images-lent z k)
 
   -- ---- the state
 

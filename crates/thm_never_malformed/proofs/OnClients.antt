@@ -19,20 +19,20 @@ use Rattle.spec_laws.proofs.Lists.{by-test, not-both, some-same, and-true}
 use Rattle.spec_laws.proofs.Node.KeptCalls.{write-with-kept}
 use Rattle.node_header.specs.declared.Node.{Node}
 use Rattle.node_header.specs.View.{viewNode}
-use Rattle.node_header.specs.Seats.{slotsOf}
-use Rattle.node_header.specs.Answers.{Told}
-use Rattle.node_header.proofs.OfLists.{by-case}
+use Rattle.node_header.specs.Slots.{slotsOf}
+use Rattle.node_header.specs.Answers.{Answered}
+use Rattle.node_header.proofs.Lists.{by-case}
 use Rattle.image_header.specs.Image.{nodeAt}
 use Rattle.node_lent.specs.Lend.{slotOf, lentFor}
-use Rattle.image_node.specs.Lent.{lotIn, lendsState}
+use Rattle.image_node.specs.Lent.{lentStoreIn, lendsState}
 use Rattle.image_node.specs.State.{storesIn, stateAt}
-use Rattle.image_node.proofs.OfFamily.{lentIn, lent-changes}
+use Rattle.image_node.proofs.Family.{lentIn, lent-changes}
 use Rattle.node_write.specs.declared.WriteReply.{WriteReply}
 use Rattle.node_write.specs.declared.WriteReply.the-variants as R
 use Rattle.node_write.specs.ClientWrites.{numberIn, turnedDown}
 use Rattle.node_search.specs.declared.SearchAnswer.{SearchAnswer}
 use Rattle.node_search.specs.declared.SearchAnswer.the-variants as S
-use Rattle.node_search.specs.Searches.{Output, SearchTold, room}
+use Rattle.node_search.specs.Searches.{Output, SearchAnswered, room}
 use Rattle.calls_parts.specs.Answer.{answerLent}
 use Rattle.calls_client_out.specs.Count.{countLent}
 use Rattle.calls_client_out.specs.Ends.{Buffers, buffers, WriteEnded, ended, endedAs}
@@ -100,19 +100,19 @@ module _ (h s : List ℕ) (i : Intact h s) (m : List ℕ) (clock : ℕ) (count :
         let named : (w : message.Write) → message.decodeWrite m ≡ some w → k ≡ w .key =
         λ w d. ap (λ (x : message.Write). x .key) (some-same (sym e ∙ d)) in
         let t = ends b c _ _ r (p .told .answer) (p .is) in
-        let z = lentIn (storesIn s) (slotOf n k) (lotIn s n k) in
+        let z = lentIn (storesIn s) (slotOf n k) (lentStoreIn s n k) in
         let fine : Fine (numberIn (p .told .answer)) =
-        ap (λ (x : Told WriteReply). eqb (numberIn (x .answer)) 24)
+        ap (λ (x : Answered WriteReply). eqb (numberIn (x .answer)) 24)
         (p .call .same z (lentIn (storesIn s) (slotOf n k) (p .left)) (slotOf n k) (λ w d. ap (slotOf n) (named w d))
-        (lent-changes (storesIn s) (slotOf n k) (lotIn s n k) (p .left)))
-        ∙ write-fine (viewNode z n) (lentFor z n (lotIn s n k)) clock least m
-        (λ w d. ap (lentFor z n (lotIn s n k)) (sym (named w d)) ∙ lent-for h s i z k) in
+        (lent-changes (storesIn s) (slotOf n k) (lentStoreIn s n k) (p .left)))
+        ∙ write-fine (viewNode z n) (lentFor z n (lentStoreIn s n k)) clock least m
+        (λ w d. ap (lentFor z n (lentStoreIn s n k)) (sym (named w d)) ∙ lent-for h s i z k) in
         record {
           intact =
               ⊎-elim (unwritten h s h′ s′ i)
               (λ d.
               same-after (λ lent x. writeWith lent x clock least m) h s h′ s′ k (slotsOf (p .told .node)) i (p .state (d .0) (d .1))
-              (write-with-kept (stateAt h s) (state-formed h s i) _ clock least m bytes) (p .call .seats) (write-changes (stateAt h s) _ k clock least m named))
+              (write-with-kept (stateAt h s) (state-formed h s i) _ clock least m bytes) (p .call .slotsAre) (write-changes (stateAt h s) _ k clock least m named))
               (t .left);
           fine = λ u x. eqb-false _ 24 fine (t .refused x);
         }
@@ -141,17 +141,17 @@ module _ (h s : List ℕ) (i : Intact h s) (m : List ℕ) (clock : ℕ) (count :
     said-fine p (S.NotPrimary e) f = refl
     said-fine p (S.Refused k) f = f
 
-    searched : (v : message.Query) → message.decodeSearch m ≡ some v → SearchServed n (lotIn s n (v .key)) m clock o a (found.ended r o′ a′) → r ≡ 24 → ⊥
+    searched : (v : message.Query) → message.decodeSearch m ≡ some v → SearchServed n (lentStoreIn s n (v .key)) m clock o a (found.ended r o′ a′) → r ≡ 24 → ⊥
     searched v e p z =
         let k = v .key in
         let named : (w : message.Query) → message.decodeSearch m ≡ some w → k ≡ w .key =
         λ w d. ap (λ (x : message.Query). x .key) (some-same (sym e ∙ d)) in
-        let t = lentIn (storesIn s) (slotOf n k) (lotIn s n k) in
+        let t = lentIn (storesIn s) (slotOf n k) (lentStoreIn s n k) in
         let fine : Fine (searchNumber (p .told .answer)) =
-        ap (λ (x : SearchTold). eqb (searchNumber (x .answer)) 24)
-        (p .call .same t (slotOf n k) (λ w d. ap (slotOf n) (named w d)) (lent-changes (storesIn s) (slotOf n k) (lotIn s n k) (lotIn s n k) .before))
-        ∙ search-fine (viewNode t n) (lentFor t n (lotIn s n k)) clock (room (freshHits (hitsLent o))) m
-        (λ w d. ap (lentFor t n (lotIn s n k)) (sym (named w d)) ∙ lent-for h s i t k) in
+        ap (λ (x : SearchAnswered). eqb (searchNumber (x .answer)) 24)
+        (p .call .same t (slotOf n k) (λ w d. ap (slotOf n) (named w d)) (lent-changes (storesIn s) (slotOf n k) (lentStoreIn s n k) (lentStoreIn s n k) .before))
+        ∙ search-fine (viewNode t n) (lentFor t n (lentStoreIn s n k)) clock (room (freshHits (hitsLent o))) m
+        (λ w d. ap (lentFor t n (lentStoreIn s n k)) (sym (named w d)) ∙ lent-for h s i t k) in
         eqb-false _ 24 (said-fine (p .left) (p .told .answer) fine) (sym (ap (λ (y : SearchEnded). y .number) (p .is)) ∙ z)
 
     -- it leaves both images

@@ -21,9 +21,9 @@ use Rattle.node_shard.specs.Acks.{sentOf}
 use Rattle.node_header.specs.declared.Node.{Node}
 use Rattle.node_header.specs.View.{Stores}
 use Rattle.node_header.specs.Formed.{lentNode}
-use Rattle.node_header.specs.Seats.{slotsOf}
-use Rattle.node_header.specs.Answers.{Told, WaitTold, proposalOf}
-use Rattle.node_header.proofs.OfLists.{by-case}
+use Rattle.node_header.specs.Slots.{slotsOf}
+use Rattle.node_header.specs.Answers.{Answered, WaitAnswered, proposalOf}
+use Rattle.node_header.proofs.Lists.{by-case}
 use Rattle.node_shard.specs.declared.AckAnswer.{AckAnswer}
 use Rattle.node_shard.specs.declared.OutcomeAnswer.{OutcomeAnswer}
 use Rattle.node_header.specs.declared.GrantAnswer.{GrantAnswer}
@@ -38,9 +38,9 @@ use Rattle.calls_header.specs.Fresh.{FreshImage, Freshens}
 use Rattle.calls_header.specs.Grants.{grantNumber, isGranted, granted, Grants, GrantsImage}
 use Rattle.calls_header.specs.Waits.{Left, rowsRoom, idBytes, waitSaid, waitWrites, waited, Waits, WaitsImage}
 use Rattle.calls_header.specs.Acks.{sentAt, ackNumber, isAcked, acked, Acks, AcksImage}
-use Rattle.calls_header.specs.Settles.{proposalAt, outcomeNumber, isSettled, settled, Settles, SettlesImage}
-use Rattle.image_header.proofs.OfImage.{lent-long}
-use Rattle.calls_header.proofs.OfKept.{wait-left}
+use Rattle.calls_header.specs.Outcomes.{proposalAt, outcomeNumber, isSettled, settled, Settles, OutcomesImage}
+use Rattle.image_header.proofs.Image.{lent-long}
+use Rattle.calls_header.proofs.Kept.{wait-left}
 use Rattle.thm_never_malformed.specs.Intact.{Intact}
 use Rattle.thm_never_malformed.proofs.Pairs.{StoreFits, Pairs}
 use Rattle.thm_never_malformed.proofs.Lent.{lent-node, state-formed, state-pairs, intact-of}
@@ -54,7 +54,7 @@ pub fresh-made : (before h s : List ℕ) (id incarnation r : ℕ) → FreshImage
 fresh-made before h s id incarnation r f size =
     let st = storesIn s in
     intact-of h s (f .leaves .lent) (f .formed) size
-    (subst (λ (is : List ℕ). Pairs (StoreFits s) is (stateAt h s .held)) (sym (f .leaves .seats st)) tt)
+    (subst (λ (is : List ℕ). Pairs (StoreFits s) is (stateAt h s .held)) (sym (f .leaves .slotsAre st)) tt)
 
 -- whatever the stores hold
 pub fresh-intact : (before h s : List ℕ) (id incarnation : ℕ) → Freshens before h id incarnation 0 → storesSize ≤ length s → Intact h s
@@ -80,7 +80,7 @@ module _ (h s : List ℕ) (i : Intact h s) where
       → Quiet (stateAt h s) (after st) → Intact h′ s
   left h′ after l f formed quiet =
       intact-of h′ s (l .lent) (f (i .formed) st (formed-header (after st) formed)) (i .size)
-      (subst (λ (is : List ℕ). Pairs (StoreFits s) is (stateAt h′ s .held)) (sym (l .seats st))
+      (subst (λ (is : List ℕ). Pairs (StoreFits s) is (stateAt h′ s .held)) (sym (l .slotsAre st))
       (subst (λ (v : held.Node). Pairs (StoreFits s) (slotsOf (nodeAt h)) (v .held)) (sym (l .read st)) (quiet s (slotsOf (nodeAt h)) (state-pairs h s i))))
 
   -- or as it was
@@ -107,7 +107,7 @@ module _ (h s : List ℕ) (i : Intact h s) where
             (λ e. stays h′ (g .stays e .bytes));
         fine = λ t z.
             eqb-false _ 24 (grant-fine (stateAt h s) test (lent-node h s i st) incarnation sent lease)
-            (sym (ap (λ (x : Told GrantAnswer). grantNumber (x .answer)) (g .call st)) ∙ sym (g .answer) ∙ z);
+            (sym (ap (λ (x : Answered GrantAnswer). grantNumber (x .answer)) (g .call st)) ∙ sym (g .answer) ∙ z);
       })
 
   pub on-ack : (h′ name reply : List ℕ) (shard epoch peer code r : ℕ) → Acks h h′ name reply shard epoch peer code r → Keeps true h′ s r
@@ -123,12 +123,12 @@ module _ (h s : List ℕ) (i : Intact h s) where
             (λ e. stays h′ (g .stays e .bytes));
         fine = λ t z.
             eqb-false _ 24 (ack-fine (stateAt h s) test (lent-node h s i st) (keyGiven name shard) epoch peer (sentOf (sentAt code)) reply)
-            (sym (ap (λ (x : Told AckAnswer). ackNumber (x .answer)) (g .call st)) ∙ sym (g .answer) ∙ z);
+            (sym (ap (λ (x : Answered AckAnswer). ackNumber (x .answer)) (g .call st)) ∙ sym (g .answer) ∙ z);
       })
 
   pub on-outcome : (h′ name : List ℕ) (shard epoch peer command applied r : ℕ) → Settles h h′ name shard epoch peer command applied r → Keeps true h′ s r
   on-outcome h′ name shard epoch peer command applied r a =
-      asked h′ _ r (h′ ≡ h) (SettlesImage h h′ name shard epoch peer command applied r) a (λ q. q)
+      asked h′ _ r (h′ ≡ h) (OutcomesImage h h′ name shard epoch peer command applied r) a (λ q. q)
       (λ g. record {
         intact =
             by-case (isSettled (g .after .answer))
@@ -139,7 +139,7 @@ module _ (h s : List ℕ) (i : Intact h s) where
             (λ e. stays h′ (g .stays e .bytes));
         fine = λ t z.
             eqb-false _ 24 (outcome-fine (stateAt h s) test (lent-node h s i st) (keyGiven name shard) epoch peer (proposalOf (proposalAt command)) (eqb applied 1))
-            (sym (ap (λ (x : Told OutcomeAnswer). outcomeNumber (x .answer)) (g .call st)) ∙ sym (g .answer) ∙ z);
+            (sym (ap (λ (x : Answered OutcomeAnswer). outcomeNumber (x .answer)) (g .call st)) ∙ sym (g .answer) ∙ z);
       })
 
   -- ---- a wait writes the header only where there is room for its peers
@@ -164,7 +164,7 @@ module _ (h s : List ℕ) (i : Intact h s) where
         fine = λ t z.
             eqb-false _ 24
             (said-fine (g .after .answer) h p a (take (g .after .shrink .count) (g .after .shrink .items)) (g .after .node)
-            (ap (λ (x : WaitTold). eqb (waitNumber (x .answer)) 24) (g .call st)
+            (ap (λ (x : WaitAnswered). eqb (waitNumber (x .answer)) 24) (g .call st)
             ∙ wait-fine (stateAt h s) test (lent-node h s i st) now timeout (keyGiven name shard) epoch offset))
             (sym (ap (λ (x : Left). x .number) (g .buffers)) ∙ z);
       })

@@ -23,31 +23,31 @@ use Rattle.spec_laws.proofs.Node.Formed.{FormedNode, formed-header}
 use Rattle.log_store.proofs.Bits.{every-at}
 use Rattle.map_tables.specs.View.{viewMap}
 use Rattle.map_check.specs.Lent as maps
-use Rattle.node_header.specs.declared.Kept.{Kept}
+use Rattle.node_header.specs.declared.HeldRow.{HeldRow}
 use Rattle.node_header.specs.declared.Node.{Node}
-use Rattle.node_header.specs.View.{Stores, viewKept, viewNode, used, noKept}
-use Rattle.node_header.specs.Formed.{keptFits, lentNode}
-use Rattle.node_header.specs.Seats.{slotsOf}
-use Rattle.node_header.proofs.OfLists.{by-case, map-rising}
-use Rattle.node_header.proofs.OfFormed.{header-fit, header-apart}
+use Rattle.node_header.specs.View.{Stores, viewHeldRow, viewNode, used, noHeldRow}
+use Rattle.node_header.specs.Formed.{heldRowFits, lentNode}
+use Rattle.node_header.specs.Slots.{slotsOf}
+use Rattle.node_header.proofs.Lists.{by-case, map-rising}
+use Rattle.node_header.proofs.Formed.{header-fit, header-apart}
 use Rattle.node_show.specs.declared.ShownAnswer.{ShownAnswer}
 use Rattle.node_show.specs.declared.ShownAnswer.the-variants as S
-use Rattle.node_show.specs.Shows.{ShownTold, viewStarts}
-use Rattle.node_show_slots.specs.Slots.{keysOf, slotBefore, seated, slotsAfter}
-use Rattle.node_show_slots.proofs.OfSeats.{seated-all, own-slots}
+use Rattle.node_show.specs.Shows.{ShownAnswered, viewStarts}
+use Rattle.node_show_slots.specs.Slots.{keysOf, slotBefore, slotted, slotsAfter}
+use Rattle.node_show_slots.proofs.SlotList.{slotted-all, own-slots}
 use Rattle.image_header.specs.Image.{headerLent, nodeAt}
 use Rattle.image_map.specs.Image.{mapLent, mapAt}
 use Rattle.image_store.specs.Image.{wellFormedImage}
 use Rattle.image_node.specs.State.{storesIn, stateAt}
-use Rattle.image_node.proofs.OfCounted.{counted, counted-all, counted-kept, stores-length}
-use Rattle.image_node.proofs.OfSlots.{nodes-agree}
+use Rattle.image_node.proofs.Counted.{counted, counted-all, counted-kept, stores-length}
+use Rattle.image_node.proofs.Slots.{nodes-agree}
 use Rattle.calls_header.specs.Waits.{Left, rowsRoom}
 use Rattle.calls_header.specs.Shows.{workerBytes, showSaid, showWrites, shownAfter, Shows, ShowsImage}
-use Rattle.calls_header.proofs.OfCalls.{lent-both}
-use Rattle.calls_header.proofs.OfKept.{show-left}
+use Rattle.calls_header.proofs.Calls.{lent-both}
+use Rattle.calls_header.proofs.Kept.{show-left}
 use Rattle.thm_never_malformed.specs.Intact.{Intact}
 use Rattle.thm_never_malformed.proofs.Stores.{begun-store}
-use Rattle.thm_never_malformed.proofs.Pairs.{StoreFits, Pairs, Seats, kept-few, pairs-found, slots-below, pairs-seated}
+use Rattle.thm_never_malformed.proofs.Pairs.{StoreFits, Pairs, AtSlots, kept-few, pairs-found, slots-below, pairs-slotted}
 use Rattle.thm_never_malformed.proofs.Lent.{lent-node, state-formed, state-pairs, intact-of}
 use Rattle.thm_never_malformed.proofs.AfterMap.{From, After, shown-after, shown-formed, tables-fit}
 use Rattle.thm_never_malformed.proofs.Refused.{Fine, shownNumber, shown-fine}
@@ -63,42 +63,42 @@ module _ (h s : List ℕ) (i : Intact h s) where
 
   -- ---- the slots after
 
-  from-seat : (g : Held) → From v g → Seats (StoreFits s) (slotBefore (keysOf v) (slotsOf n) (g .key)) g
-  from-seat g (inl (o, e, l)) u keeps =
+  from-slot : (g : Held) → From v g → AtSlots (StoreFits s) (slotBefore (keysOf v) (slotsOf n) (g .key)) g
+  from-slot g (inl (o, e, l)) u keeps =
       let t = slotBefore (keysOf v) (slotsOf n) (g .key) in
       let f = pairs-found (storesIn s) (StoreFits s) (g .key) o (used n) (header-apart n (i .formed)) (unfold heldShard in e) (state-pairs h s i) in
       ap (λ (j : ℕ). wellFormedImage s (j * 174080) (length (g .replica .log)) (length (g .replica .vectors))) (keeps (f .1))
       ∙ ap (λ (d : Log). wellFormedImage s (t * 174080) (length d) (length (g .replica .vectors))) (l .log)
       ∙ ap (λ (d : Vectors). wellFormedImage s (t * 174080) (length (o .replica .log)) (length d)) (l .vectors)
       ∙ f .0
-  from-seat g (inr (a, b)) u keeps =
+  from-slot g (inr (a, b)) u keeps =
       ap (λ (d : Log). wellFormedImage s (u * 174080) (length d) (length (g .replica .vectors))) a
       ∙ ap (λ (d : Vectors). wellFormedImage s (u * 174080) 0 (length d)) b
       ∙ begun-store s (u * 174080)
 
-  from-seats : (gs : List Held) → All (From v) gs
-      → Pairs (Seats (StoreFits s)) (map (slotBefore (keysOf v) (slotsOf n)) (map (λ (g : Held). g .key) gs)) gs
-  from-seats [] f = tt
-  from-seats (g ∷ gs) f = (from-seat g (f .0), from-seats gs (f .1))
+  from-slots : (gs : List Held) → All (From v) gs
+      → Pairs (AtSlots (StoreFits s)) (map (slotBefore (keysOf v) (slotsOf n)) (map (λ (g : Held). g .key) gs)) gs
+  from-slots [] f = tt
+  from-slots (g ∷ gs) f = (from-slot g (f .0), from-slots gs (f .1))
 
   -- the shards as they were have the slots that they had
   own : slotsAfter v (slotsOf n) v ≡ slotsOf n
   unfolding slotsAfter
   own =
-      let a = length-map (used n) (viewKept (storesIn s)) in
+      let a = length-map (used n) (viewHeldRow (storesIn s)) in
       let b = length-map (v .held) (λ (g : Held). g .key) in
-      let c = length-map (used n) (λ (x : Kept). x .slot) in
-      ap (seated [])
+      let c = length-map (used n) (λ (x : HeldRow). x .slot) in
+      ap (slotted [])
       (own-slots (keysOf v) (slotsOf n) (omega arith) (map-rising (λ (g : Held). g .key) keyBelow (v .held) ∙ state-formed h s i .rise))
-      ∙ seated-all [] (slotsOf n) (slots-below (used n) (header-apart n (i .formed)))
+      ∙ slotted-all [] (slotsOf n) (slots-below (used n) (header-apart n (i .formed)))
 
   pairs-after : (w : held.Node) → After v w → Pairs (StoreFits s) (slotsAfter v (slotsOf n) w) (w .held)
   unfolding slotsAfter
   pairs-after w (inl e) =
-      subst (λ (hs : List Held). Pairs (StoreFits s) (seated [] (map (slotBefore (keysOf v) (slotsOf n)) (map (λ (g : Held). g .key) hs))) hs) (sym e)
+      subst (λ (hs : List Held). Pairs (StoreFits s) (slotted [] (map (slotBefore (keysOf v) (slotsOf n)) (map (λ (g : Held). g .key) hs))) hs) (sym e)
       (subst (λ (is : List ℕ). Pairs (StoreFits s) is (v .held)) (sym own) (state-pairs h s i))
   pairs-after w (inr f) =
-      let p = pairs-seated (StoreFits s) (map (slotBefore (keysOf v) (slotsOf n)) (map (λ (g : Held). g .key) (w .held))) [] (w .held) (from-seats (w .held) f) in
+      let p = pairs-slotted (StoreFits s) (map (slotBefore (keysOf v) (slotsOf n)) (map (λ (g : Held). g .key) (w .held))) [] (w .held) (from-slots (w .held) f) in
       subst (λ (is : List ℕ). Pairs (StoreFits s) is (w .held)) (sym (p .1)) (p .2)
 
   -- ---- the header after
@@ -111,9 +111,9 @@ module _ (h s : List ℕ) (i : Intact h s) where
   counted-same =
       nodes-agree st (storesIn s) n
       (λ j q.
-      let u = getD (used n) j noKept in
+      let u = getD (used n) j noHeldRow in
       counted-kept (storesIn s) u
-      (stores-length s (u .slot) (u .held .last) (u .stored) (kept-few u (every-at keptFits (used n) j noKept (header-fit n (i .formed)) q))))
+      (stores-length s (u .slot) (u .held .last) (u .stored) (kept-few u (every-at heldRowFits (used n) j noHeldRow (header-fit n (i .formed)) q))))
 
   module _ (m : List ℕ) (fresh : ℕ) where
     map-fits : (z : Stores) → lentNode z n and maps.wellFormedLent (mapAt m) ≡ true → wellFormedMap (viewMap (mapAt m)) ≡ true
@@ -141,7 +141,7 @@ module _ (h s : List ℕ) (i : Intact h s) where
             let z = storesIn s in
             let w = after-formed st counted-same in
             intact-of h′ s (l .lent) (g .formed (i .formed) st (counted-all (storesIn s)) (formed-header (shownAfter h m fresh st) w) (tables-fit (shownAfter h m fresh st) w)) (i .size)
-            (subst (λ (is : List ℕ). Pairs (StoreFits s) is (stateAt h′ s .held)) (sym (l .seats z))
+            (subst (λ (is : List ℕ). Pairs (StoreFits s) is (stateAt h′ s .held)) (sym (l .slotsAre z))
             (subst (λ (x : held.Node). Pairs (StoreFits s) (slotsAfter v (slotsOf n) (shownAfter h m fresh z)) (x .held)) (sym (l .read z))
             (pairs-after (shownAfter h m fresh z) (shown-after v (lentNode z n and maps.wellFormedLent (mapAt m)) fresh (viewMap (mapAt m)))))))
             (λ e. stays h s i h′ (ap (λ (x : Left). x .header) (g .buffers) ∙ show-left (g .after .answer) h p a _ (g .after .node) e));
@@ -150,7 +150,7 @@ module _ (h s : List ℕ) (i : Intact h s) where
             let lent = and-true (lentNode x n) (maps.wellFormedLent (mapAt m)) (lent-node h s i x) (and-right (mapLent m) _ t) in
             eqb-false _ 24
             (said-fine (g .after .answer) h p a (viewStarts (take (g .after .count) (g .after .starts))) (g .after .node)
-            (ap (λ (y : ShownTold). eqb (shownNumber (y .answer)) 24) (g .call .same x)
+            (ap (λ (y : ShownAnswered). eqb (shownNumber (y .answer)) 24) (g .call .same x)
             ∙ shown-fine v (lentNode x n and maps.wellFormedLent (mapAt m)) lent fresh (viewMap (mapAt m))))
             (sym (ap (λ (y : Left). y .number) (g .buffers)) ∙ z);
       }

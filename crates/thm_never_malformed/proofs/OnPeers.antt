@@ -20,24 +20,24 @@ use Rattle.spec.specs.Node.Calls.{replicateWith, newEpochWith, copyWith}
 use Rattle.spec.specs.Node.Wire.{opInDomain, entryInDomain}
 use Rattle.spec_laws.proofs.Lists.{by-test, some-same}
 use Rattle.spec_laws.proofs.Node.KeptCalls.{replicate-with-kept, new-epoch-with-kept, copy-with-kept}
-use Rattle.spec_retained.proofs.OfBegin.{new-epoch-begins}
+use Rattle.spec_retained.proofs.Begin.{new-epoch-begins}
 use Rattle.node_header.specs.declared.Node.{Node}
 use Rattle.node_header.specs.View.{Stores, viewNode}
-use Rattle.node_header.specs.Seats.{slotsOf}
-use Rattle.node_header.specs.Answers.{Told}
-use Rattle.node_header.proofs.OfLists.{by-case}
-use Rattle.node_header.proofs.OfShards.{shard-none, shard-some}
+use Rattle.node_header.specs.Slots.{slotsOf}
+use Rattle.node_header.specs.Answers.{Answered}
+use Rattle.node_header.proofs.Lists.{by-case}
+use Rattle.node_header.proofs.Shards.{shard-none, shard-some}
 use Rattle.image_header.specs.Image.{nodeAt}
-use Rattle.node_lent.specs.Lend.{Lot, placeOf, slotOf, lentFor}
-use Rattle.image_node.specs.Lent.{holdsKey, lotIn}
+use Rattle.node_lent.specs.Lend.{LentStore, placeOf, slotOf, lentFor}
+use Rattle.image_node.specs.Lent.{holdsKey, lentStoreIn}
 use Rattle.image_node.specs.State.{storesIn, stateAt, StateAfter}
-use Rattle.image_node.proofs.OfFamily.{lentIn, lent-changes}
+use Rattle.image_node.proofs.Family.{lentIn, lent-changes}
 use Rattle.node_replicate.specs.declared.PeerReply.{PeerReply}
 use Rattle.node_replicate.specs.declared.PeerReply.the-variants as P
 use Rattle.node_replicate.specs.declared.PeerAnswer.{PeerAnswer}
 use Rattle.node_replicate.specs.Peers as peers
 use Rattle.node_replicate.specs.Peers.{word, turnedDown, ReplicatesAt, CopiesAt}
-use Rattle.node_epoch.specs.Announces.{slotsThen, slotsWith, AnnouncesAt}
+use Rattle.node_epoch.specs.NewEpochs.{slotsThen, slotsWith, NewEpochsAt}
 use Rattle.calls_peer_out.specs.Ends.{Buffers, buffers, Ended, ended, sends, endedAs}
 use Rattle.calls_peer.specs.PeerCalls.{Deed, Passed, Serves, replicates, announces, copies, ReplicatesImage, AnnouncesImage, CopiesImage}
 use Rattle.thm_never_malformed.specs.Intact.{Intact}
@@ -85,8 +85,8 @@ module _ (h s : List ℕ) (i : Intact h s) (h′ s′ m q q′ : List ℕ) (r : 
   before = stateAt h s
 
   -- past 24
-  passed : (Call : Node → (a b : Lot) → List ℕ → PeerAnswer → Type 0) (does : Deed) (k : Key)
-      → ((a : PeerAnswer) (l : Lot) → Call n (lotIn s n k) l m a
+  passed : (Call : Node → (a b : LentStore) → List ℕ → PeerAnswer → Type 0) (does : Deed) (k : Key)
+      → ((a : PeerAnswer) (l : LentStore) → Call n (lentStoreIn s n k) l m a
       → Fine (peerNumber (a .answer)) × (turnedDown (a .answer) ≡ false → StateAfter BackupAnswer (does m) h s h′ s′ k (slotsOf (a .node)) → Intact h′ s′))
       → Passed Call does k m (buffers h s q) (buffers h′ s′ q′) r → Keeps true h′ s′ r
   passed Call does k each p =
@@ -103,8 +103,8 @@ module _ (h s : List ℕ) (i : Intact h s) (h′ s′ m q q′ : List ℕ) (r : 
     fine = λ u z. eqb-false number 24 f (sym (e .0) ∙ z);
   }
 
-  served : (A : Type 0) (read : Option A) (fine : A → Bool) (key : A → Key) (Call : Node → (a b : Lot) → List ℕ → PeerAnswer → Type 0) (does : Deed)
-      → ((v : A) → read ≡ some v → (a : PeerAnswer) (l : Lot) → Call n (lotIn s n (key v)) l m a
+  served : (A : Type 0) (read : Option A) (fine : A → Bool) (key : A → Key) (Call : Node → (a b : LentStore) → List ℕ → PeerAnswer → Type 0) (does : Deed)
+      → ((v : A) → read ≡ some v → (a : PeerAnswer) (l : LentStore) → Call n (lentStoreIn s n (key v)) l m a
       → Fine (peerNumber (a .answer)) × (turnedDown (a .answer) ≡ false → StateAfter BackupAnswer (does m) h s h′ s′ (key v) (slotsOf (a .node)) → Intact h′ s′))
       → Serves A read fine key Call does m (buffers h s q) (buffers h′ s′ q′) r → Keeps true h′ s′ r
   served A read fine key Call does each c = go read refl
@@ -115,13 +115,13 @@ module _ (h s : List ℕ) (i : Intact h s) (h′ s′ m q q′ : List ℕ) (r : 
           by-case (fine v) (λ d. passed Call does (key v) (each v e) (c .inside v e d .lent (lends h s i (key v)))) (λ d. turned 22 refl (c .outside v e d))
 
   -- the answer of a call that was lent the shard's columns
-  told : (call : (Key → Bool) → held.Node → Result BackupAnswer held.Node) (on : ℕ → Type 0) (names : Key → Type 0) (seated : PeerReply → Node → Type 0)
-      (k : Key) (l : Lot) (a : PeerAnswer) → peers.Serves call on names seated n (lotIn s n k) l a → on (slotOf n k)
-      → ((z : Stores) → Fine (peerNumber (word (call (lentFor z n (lotIn s n k)) (viewNode z n) .answer)))) → Fine (peerNumber (a .answer))
-  told call on names seated k l a c slot f =
-      let z = lentIn (storesIn s) (slotOf n k) (lotIn s n k) in
-      ap (λ (x : Told PeerReply). eqb (peerNumber (x .answer)) 24)
-      (c .same z (lentIn (storesIn s) (slotOf n k) l) (slotOf n k) slot (lent-changes (storesIn s) (slotOf n k) (lotIn s n k) l))
+  told : (call : (Key → Bool) → held.Node → Result BackupAnswer held.Node) (on : ℕ → Type 0) (names : Key → Type 0) (slotted : PeerReply → Node → Type 0)
+      (k : Key) (l : LentStore) (a : PeerAnswer) → peers.Serves call on names slotted n (lentStoreIn s n k) l a → on (slotOf n k)
+      → ((z : Stores) → Fine (peerNumber (word (call (lentFor z n (lentStoreIn s n k)) (viewNode z n) .answer)))) → Fine (peerNumber (a .answer))
+  told call on names slotted k l a c slot f =
+      let z = lentIn (storesIn s) (slotOf n k) (lentStoreIn s n k) in
+      ap (λ (x : Answered PeerReply). eqb (peerNumber (x .answer)) 24)
+      (c .same z (lentIn (storesIn s) (slotOf n k) l) (slotOf n k) slot (lent-changes (storesIn s) (slotOf n k) (lentStoreIn s n k) l))
       ∙ f z
 
   module _ (bytes : Bytes m) where
@@ -133,10 +133,10 @@ module _ (h s : List ℕ) (i : Intact h s) (h′ s′ m q q′ : List ℕ) (r : 
         let named : (w : message.Replicated) → message.decodeReplicate m ≡ some w → k ≡ w .key =
         λ w d. ap (λ (x : message.Replicated). x .key) (some-same (sym e ∙ d)) in (
           told (λ lent x. replicateWith lent x m) _ _ _ k l a c (λ w d. ap (slotOf n) (named w d))
-              (λ z. replicate-fine (viewNode z n) (lentFor z n (lotIn s n k)) m (λ w d. ap (lentFor z n (lotIn s n k)) (sym (named w d)) ∙ lent-for h s i z k)),
+              (λ z. replicate-fine (viewNode z n) (lentFor z n (lentStoreIn s n k)) m (λ w d. ap (lentFor z n (lentStoreIn s n k)) (sym (named w d)) ∙ lent-for h s i z k)),
           λ d x.
               same-after (replicates m) h s h′ s′ k (slotsOf (a .node)) i x
-              (replicate-with-kept before (state-formed h s i) _ m bytes) (c .seats) (replicate-changes before _ k m named),
+              (replicate-with-kept before (state-formed h s i) _ m bytes) (c .slotsAre) (replicate-changes before _ k m named),
         ))
 
     pub on-copy : CopiesImage m (buffers h s q) (buffers h′ s′ q′) r → Keeps true h′ s′ r
@@ -147,36 +147,36 @@ module _ (h s : List ℕ) (i : Intact h s) (h′ s′ m q q′ : List ℕ) (r : 
         let named : (w : message.Copied) → message.decodeCopyShard m ≡ some w → k ≡ w .key =
         λ w d. ap (λ (x : message.Copied). x .key) (some-same (sym e ∙ d)) in (
           told (λ lent x. copyWith lent x m) _ _ _ k l a c (λ w d. ap (slotOf n) (named w d))
-              (λ z. copy-fine (viewNode z n) (lentFor z n (lotIn s n k)) m (λ w d. ap (lentFor z n (lotIn s n k)) (sym (named w d)) ∙ lent-for h s i z k)),
+              (λ z. copy-fine (viewNode z n) (lentFor z n (lentStoreIn s n k)) m (λ w d. ap (lentFor z n (lentStoreIn s n k)) (sym (named w d)) ∙ lent-for h s i z k)),
           λ d x.
               same-after (copies m) h s h′ s′ k (slotsOf (a .node)) i x
-              (copy-with-kept before (state-formed h s i) _ m bytes) (c .seats) (copy-changes before _ k m named),
+              (copy-with-kept before (state-formed h s i) _ m bytes) (c .slotsAre) (copy-changes before _ k m named),
         ))
 
     -- the shard is held, or it begins
     pub on-new-epoch : AnnouncesImage m (buffers h s q) (buffers h′ s′ q′) r → Keeps true h′ s′ r
     unfolding slotsThen
     on-new-epoch =
-        served message.NewEpoch (message.decodeNewEpoch m) (λ v. true) (λ v. v .key) AnnouncesAt announces
+        served message.NewEpoch (message.decodeNewEpoch m) (λ v. true) (λ v. v .key) NewEpochsAt announces
         (λ v e a l c.
         let k = v .key in
         let named : (w : message.NewEpoch) → message.decodeNewEpoch m ≡ some w → k ≡ w .key =
         λ w d. ap (λ (x : message.NewEpoch). x .key) (some-same (sym e ∙ d)) in (
           told (λ lent x. newEpochWith lent x m) _ _ _ k l a c (λ w d. ap (slotOf n) (named w d))
-              (λ z. new-epoch-fine (viewNode z n) (lentFor z n (lotIn s n k)) m (λ w d. ap (lentFor z n (lotIn s n k)) (sym (named w d)) ∙ lent-for h s i z k)),
+              (λ z. new-epoch-fine (viewNode z n) (lentFor z n (lentStoreIn s n k)) m (λ w d. ap (lentFor z n (lentStoreIn s n k)) (sym (named w d)) ∙ lent-for h s i z k)),
           λ d x.
-              let formed = new-epoch-with-kept before (state-formed h s i) (lentFor (storesIn s) n (lotIn s n k)) m bytes in
-              let seats : slotsOf (a .node) ≡ cond (holdsKey n k) (slotsOf n) (slotsWith n k) =
-              c .seats k named ∙ ap (λ (b : Bool). cond b (slotsOf n) (cond (holdsKey n k) (slotsOf n) (slotsWith n k))) d in
+              let formed = new-epoch-with-kept before (state-formed h s i) (lentFor (storesIn s) n (lentStoreIn s n k)) m bytes in
+              let slotsAre : slotsOf (a .node) ≡ cond (holdsKey n k) (slotsOf n) (slotsWith n k) =
+              c .slotsAre k named ∙ ap (λ (b : Bool). cond b (slotsOf n) (cond (holdsKey n k) (slotsOf n) (slotsWith n k))) d in
               by-case (holdsKey n k)
               (λ p.
               same-after (announces m) h s h′ s′ k (slotsOf (a .node)) i x formed
-              (seats ∙ ap (λ (b : Bool). cond b (slotsOf n) (slotsWith n k)) p)
+              (slotsAre ∙ ap (λ (b : Bool). cond b (slotsOf n) (slotsWith n k)) p)
               (new-epoch-changes before _ k _
               (shard-some (storesIn s) n k (rows-inside h s i) (placeOf n k) refl (ltb-true (placeOf n k) (n .count) p)) m named))
               (λ p.
               begun-after (announces m) h s h′ s′ k (slotsOf (a .node)) i x formed p
-              (seats ∙ ap (λ (b : Bool). cond b (slotsOf n) (slotsWith n k)) p)
+              (slotsAre ∙ ap (λ (b : Bool). cond b (slotsOf n) (slotsWith n k)) p)
               (new-epoch-begins before _ k m named
               (shard-none (storesIn s) n k (rows-inside h s i) (placeOf n k) refl (ltb-false (placeOf n k) (n .count) p)))),
         ))

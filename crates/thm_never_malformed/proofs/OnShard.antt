@@ -19,25 +19,25 @@ use Rattle.spec.specs.Node.WellFormed.{wellFormedHeader}
 use Rattle.spec_laws.proofs.Map.Rows.{find-true, find-update}
 use Rattle.spec_laws.proofs.Node.Shards.{update-none}
 use Rattle.spec_laws.proofs.Node.Formed.{FormedNode, formed-header}
-use Rattle.spec_retained.proofs.OfBegin.{PutIn}
+use Rattle.spec_retained.proofs.Begin.{PutIn}
 use Rattle.node_shard.specs.View.{insertAt}
 use Rattle.node_shard.proofs.Loops.{lead-most}
-use Rattle.node_header.specs.declared.Kept.{Kept}
+use Rattle.node_header.specs.declared.HeldRow.{HeldRow}
 use Rattle.node_header.specs.declared.Node.{Node}
-use Rattle.node_header.specs.View.{viewKept, used, noKept}
+use Rattle.node_header.specs.View.{viewHeldRow, used, noHeldRow}
 use Rattle.node_header.specs.Formed.{formedNode}
-use Rattle.node_header.specs.Seats.{slotsOf}
+use Rattle.node_header.specs.Slots.{slotsOf}
 use Rattle.node_header.specs.Grow.{lowestFree, belowKey}
-use Rattle.node_header.proofs.OfLists.{by-case}
-use Rattle.node_header.proofs.OfFormed.{header-apart}
-use Rattle.node_header.proofs.OfShards.{shard-none, shard-some}
+use Rattle.node_header.proofs.Lists.{by-case}
+use Rattle.node_header.proofs.Formed.{header-apart}
+use Rattle.node_header.proofs.Shards.{shard-none, shard-some}
 use Rattle.node_lent.specs.Lend.{placeOf, lentFor}
 use Rattle.image_header.specs.Image.{nodeAt}
 use Rattle.image_store.specs.Image.{wellFormedImage}
 use Rattle.image_store.specs.Write.{rowsPut}
-use Rattle.image_node.specs.Lent.{storesSize, beginOf, holdsKey, keptOf, lotIn}
+use Rattle.image_node.specs.Lent.{storesSize, beginOf, holdsKey, heldRowOf, lentStoreIn}
 use Rattle.image_node.specs.State.{storesIn, stateAt, storeWith, StoreAfter, StateAfter}
-use Rattle.image_node.proofs.OfBack.{entries-length}
+use Rattle.image_node.proofs.Back.{entries-length}
 use Rattle.thm_never_malformed.specs.Intact.{Intact}
 use Rattle.thm_never_malformed.proofs.Stores.{begun-store, same-store}
 use Rattle.thm_never_malformed.proofs.Pairs.{StoreFits, Pairs, pairs-at, pairs-put}
@@ -45,14 +45,14 @@ use Rattle.thm_never_malformed.proofs.Lent.{rows-inside, state-pairs, i
 use Rattle.thm_never_malformed.proofs.Changes.{ChangesAt}
 
 -- a store that is written has the size that it had
-length-with : (s : List ℕ) (x : Kept) (l : Log) → length (storeWith s x l) ≡ length s
+length-with : (s : List ℕ) (x : HeldRow) (l : Log) → length (storeWith s x l) ≡ length s
 unfolding storeWith rowsPut
 length-with s x l =
     let from = min (x .held .last) (length l) in
     rw (length-sets, length-sets) (entries-length (drop from l) s (beginOf x) from)
 
-module _ {A : Type 0} (does : (Key → Bool) → held.Node → Result A held.Node) (h s h′ s′ : List ℕ) (k : Key) (seats : List ℕ) (i : Intact h s)
-    (a : StateAfter A does h s h′ s′ k seats) where
+module _ {A : Type 0} (does : (Key → Bool) → held.Node → Result A held.Node) (h s h′ s′ : List ℕ) (k : Key) (slotsAre : List ℕ) (i : Intact h s)
+    (a : StateAfter A does h s h′ s′ k slotsAre) where
   abbrev n : Node
   n = nodeAt h
 
@@ -61,17 +61,17 @@ module _ {A : Type 0} (does : (Key → Bool) → held.Node → Result A held.Nod
 
   -- the node that the call's definition leaves
   abbrev pub after : held.Node
-  after = does (lentFor (storesIn s) n (lotIn s n k)) before .after
+  after = does (lentFor (storesIn s) n (lentStoreIn s n k)) before .after
 
   module _ (formed : FormedNode after) where
     header-formed : formedNode (nodeAt h′) ≡ true
     header-formed = a .formed (ap wellFormedHeader (a .state) ∙ formed-header after formed)
 
-    pairs-after : storesSize ≤ length s′ → Pairs (StoreFits s′) seats (after .held) → Intact h′ s′
+    pairs-after : storesSize ≤ length s′ → Pairs (StoreFits s′) slotsAre (after .held) → Intact h′ s′
     pairs-after size p =
         intact-of h′ s′ (a .lent) header-formed size
-        (subst (λ (is : List ℕ). Pairs (StoreFits s′) is (stateAt h′ s′ .held)) (sym (a .seats))
-        (subst (λ (v : held.Node). Pairs (StoreFits s′) seats (v .held)) (sym (a .state)) p))
+        (subst (λ (is : List ℕ). Pairs (StoreFits s′) is (stateAt h′ s′ .held)) (sym (a .slotsAre))
+        (subst (λ (v : held.Node). Pairs (StoreFits s′) slotsAre (v .held)) (sym (a .state)) p))
 
     -- ---- the shard is held
 
@@ -79,30 +79,30 @@ module _ {A : Type 0} (does : (Key → Bool) → held.Node → Result A held.Nod
       under : placeOf n k < n .count
       under = ltb-true (placeOf n k) (n .count) e
 
-      abbrev x : Kept
-      x = getD (used n) (placeOf n k) noKept
+      abbrev x : HeldRow
+      x = getD (used n) (placeOf n k) noHeldRow
 
-      row : x ≡ keptOf n k
-      row = getD-take (n .count) (n .held) (placeOf n k) noKept under
+      row : x ≡ heldRowOf n k
+      row = getD-take (n .count) (n .held) (placeOf n k) noHeldRow under
 
-      found : heldShard (stateAt h′ s′) k ≡ some (c .change (viewKept (storesIn s) x))
+      found : heldShard (stateAt h′ s′) k ≡ some (c .change (viewHeldRow (storesIn s) x))
       unfolding heldShard
       found =
-          let g = viewKept (storesIn s) x in
+          let g = viewHeldRow (storesIn s) x in
           let at : find (ofKey k) (before .held) ≡ some g =
-          shard-some (storesIn s) n k (rows-inside h s i) (placeOf n k) refl under ∙ ap (λ (y : Kept). some (viewKept (storesIn s) y)) (sym row) in
+          shard-some (storesIn s) n k (rows-inside h s i) (placeOf n k) refl under ∙ ap (λ (y : HeldRow). some (viewHeldRow (storesIn s) y)) (sym row) in
           ap (λ (v : held.Node). find (ofKey k) (v .held)) (a .state)
           ∙ ap (find (ofKey k)) (c .held)
           ∙ find-update (ofKey k) (c .change) (before .held) g
           (ap (λ (j : Key). sameKey j k) (c .key g) ∙ find-true (ofKey k) (before .held) g at) at
 
-      stored : StoreAfter s s′ x (c .change (viewKept (storesIn s) x))
-      stored = subst (λ (y : Kept). StoreAfter s s′ y (c .change (viewKept (storesIn s) x))) (sym row) (a .store e (c .change (viewKept (storesIn s) x)) found)
+      stored : StoreAfter s s′ x (c .change (viewHeldRow (storesIn s) x))
+      stored = subst (λ (y : HeldRow). StoreAfter s s′ y (c .change (viewHeldRow (storesIn s) x))) (sym row) (a .store e (c .change (viewHeldRow (storesIn s) x)) found)
 
-      held-after : seats ≡ slotsOf n → Intact h′ s′
+      held-after : slotsAre ≡ slotsOf n → Intact h′ s′
       held-after same =
           pairs-after
-          (let z = i .size in omega (arith, ap length (stored .bytes) ∙ length-with s x (c .change (viewKept (storesIn s) x) .replica .log)))
+          (let z = i .size in omega (arith, ap length (stored .bytes) ∙ length-with s x (c .change (viewHeldRow (storesIn s) x) .replica .log)))
           (subst (λ (is : List ℕ). Pairs (StoreFits s′) is (after .held)) (sym same)
           (subst (Pairs (StoreFits s′) (slotsOf n)) (sym (c .held))
           (pairs-at (storesIn s) (StoreFits s) (StoreFits s′) k (c .change) (used n) (header-apart n (i .formed))
@@ -119,12 +119,12 @@ module _ {A : Type 0} (does : (Key → Bool) → held.Node → Result A held.Nod
       absent : heldShard before k ≡ none
       absent = shard-none (storesIn s) n k (rows-inside h s i) (placeOf n k) refl gone
 
-      unwritten-after : Pairs (StoreFits s) seats (after .held) → Intact h′ s′
+      unwritten-after : Pairs (StoreFits s) slotsAre (after .held) → Intact h′ s′
       unwritten-after p =
           pairs-after (subst (λ (t : List ℕ). storesSize ≤ length t) (sym (a .none e)) (i .size))
-          (subst (λ (t : List ℕ). Pairs (StoreFits t) seats (after .held)) (sym (a .none e)) p)
+          (subst (λ (t : List ℕ). Pairs (StoreFits t) slotsAre (after .held)) (sym (a .none e)) p)
 
-      absent-after : seats ≡ slotsOf n → ChangesAt before k after → Intact h′ s′
+      absent-after : slotsAre ≡ slotsOf n → ChangesAt before k after → Intact h′ s′
       unfolding heldShard
       absent-after same c =
           unwritten-after
@@ -132,7 +132,7 @@ module _ {A : Type 0} (does : (Key → Bool) → held.Node → Result A held.Nod
           (subst (Pairs (StoreFits s) (slotsOf n)) (sym (c .held ∙ update-none (ofKey k) (c .change) (before .held) absent)) (state-pairs h s i)))
 
     -- a call that begins no shard
-    pub same-after : seats ≡ slotsOf n → ChangesAt before k after → Intact h′ s′
+    pub same-after : slotsAre ≡ slotsOf n → ChangesAt before k after → Intact h′ s′
     same-after same c = by-case (holdsKey n k) (λ e. held-after e c same) (λ e. absent-after e same c)
 
     -- ---- a shard begins, in a slot of its own
@@ -140,27 +140,27 @@ module _ {A : Type 0} (does : (Key → Bool) → held.Node → Result A held.Nod
     slots-more : length (insertAt (slotsOf n) (lead (belowKey k) (used n)) (lowestFree (used n))) ≡ suc (length (used n))
     slots-more =
         let j = lead (belowKey k) (used n) in
-        let m = length-map (used n) (λ (q : Kept). q .slot) in
+        let m = length-map (used n) (λ (q : HeldRow). q .slot) in
         let low : j ≤ length (slotsOf n) = omega (arith, lead-most (belowKey k) (used n)) in
         omega (arith, length-append (take j (slotsOf n)) (lowestFree (used n) ∷ drop j (slotsOf n)), length-take-le j (slotsOf n) low, length-drop j (slotsOf n))
 
     -- as many shards as slots
-    held-more : seats ≡ insertAt (slotsOf n) (lead (belowKey k) (used n)) (lowestFree (used n)) → length (after .held) ≡ suc (length (used n))
+    held-more : slotsAre ≡ insertAt (slotsOf n) (lead (belowKey k) (used n)) (lowestFree (used n)) → length (after .held) ≡ suc (length (used n))
     held-more begins =
         ap (λ (v : held.Node). length (v .held)) (sym (a .state))
-        ∙ length-map (used (nodeAt h′)) (viewKept (storesIn s′))
-        ∙ sym (length-map (used (nodeAt h′)) (λ (q : Kept). q .slot))
-        ∙ ap length (a .seats ∙ begins)
+        ∙ length-map (used (nodeAt h′)) (viewHeldRow (storesIn s′))
+        ∙ sym (length-map (used (nodeAt h′)) (λ (q : HeldRow). q .slot))
+        ∙ ap length (a .slotsAre ∙ begins)
         ∙ slots-more
 
-    pub begun-after : holdsKey n k ≡ false → seats ≡ insertAt (slotsOf n) (lead (belowKey k) (used n)) (lowestFree (used n)) → PutIn before k after
+    pub begun-after : holdsKey n k ≡ false → slotsAre ≡ insertAt (slotsOf n) (lead (belowKey k) (used n)) (lowestFree (used n)) → PutIn before k after
         → Intact h′ s′
     begun-after e begins c =
         let l = used n in
         let slot = lowestFree l in
         let more = held-more begins in
         ⊎-elim
-        (λ q. absurd (omega (arith, more, ap (λ (v : held.Node). length (v .held)) q, length-map l (viewKept (storesIn s)))))
+        (λ q. absurd (omega (arith, more, ap (λ (v : held.Node). length (v .held)) q, length-map l (viewHeldRow (storesIn s)))))
         (λ q.
         let g = q .0 in
         let f = q .1 in

@@ -14,14 +14,14 @@ use Rattle.node_header.specs.declared.StepAnswer.{StepAnswer}
 use Rattle.node_header.specs.declared.StepAnswer.the-variants as T
 use Rattle.node_header.specs.View.{viewNode}
 use Rattle.node_header.specs.Formed.{lentNode}
-use Rattle.node_header.proofs.OfLists.{by-case}
+use Rattle.node_header.proofs.Lists.{by-case}
 use Rattle.node_send.specs.declared.Request.{Request}
 use Rattle.node_send.specs.declared.Request.the-variants as R
 use Rattle.image_header.specs.Image.{nodeAt}
 use Rattle.node_lent.specs.Lend.{slotOf, lentFor}
-use Rattle.image_node.specs.Lent.{lotIn}
+use Rattle.image_node.specs.Lent.{lentStoreIn}
 use Rattle.image_node.specs.State.{storesIn, stateAt}
-use Rattle.image_node.proofs.OfFamily.{lentIn, lent-changes}
+use Rattle.image_node.proofs.Family.{lentIn, lent-changes}
 use Rattle.calls_worker.specs.Steps as steps
 use Rattle.calls_worker.specs.Steps.{Asking, decodes, keyOf, metricOf, sentNumber, quietNumber, Outputs, StepsImage}
 use Rattle.thm_never_malformed.specs.Intact.{Intact}
@@ -58,13 +58,13 @@ module _ (h s : List ℕ) (i : Intact h s) (w : Asking) (o p : Outputs) (r : ℕ
       by-case (leb 8 (length (o .answer)))
       (λ d.
       let t = a .told d in
-      let x = lentIn (storesIn s) (slotOf n k) (lotIn s n k) in
+      let x = lentIn (storesIn s) (slotOf n k) (lentStoreIn s n k) in
       let f : Fine (stepNumber (t .step)) =
       ap (λ (y : StepAnswer). eqb (stepNumber y) 24) (t .steps (storesIn s))
       ∙ step-fine (stateAt h s) (λ y. lentNode (storesIn s) n) k (lent-node h s i (storesIn s)) (w .epoch) (w .peer) in
       let g : Fine (requestNumber (t .sent)) =
-      ap (λ (y : Request). eqb (requestNumber y) 24) (t .requests .answer x (lent-changes (storesIn s) (slotOf n k) (lotIn s n k) (lotIn s n k) .before))
-      ∙ request-fine (viewNode x n) (lentFor x n (lotIn s n k)) k (lent-for h s i x k) (w .epoch) (w .peer) (length (o .request)) (metricOf (w .metric)) in
+      ap (λ (y : Request). eqb (requestNumber y) 24) (t .requests .answer x (lent-changes (storesIn s) (slotOf n k) (lentStoreIn s n k) (lentStoreIn s n k) .before))
+      ∙ request-fine (viewNode x n) (lentFor x n (lentStoreIn s n k)) k (lent-for h s i x k) (w .epoch) (w .peer) (length (o .request)) (metricOf (w .metric)) in
       eqb-false _ 24 (told-fine (t .step) (t .sent) (p .request) f g) (sym (t .number) ∙ z))
       (λ d.
       let t = a .short d .answer (storesIn s) ∙ ap (λ (b : Bool). cond b 23 24) (lent-for h s i (storesIn s) k) in

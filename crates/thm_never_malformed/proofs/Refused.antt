@@ -75,7 +75,7 @@ use Rattle.node_shard.specs.Answers.{waitWord, outcomeWord}
 use Rattle.node_shard.specs.Acks.{ackWord}
 use Rattle.node_header.specs.declared.StepAnswer as H
 use Rattle.node_header.specs.declared.StepAnswer.the-variants as T
-use Rattle.node_header.specs.Answers.{grantWord, stepTold}
+use Rattle.node_header.specs.Answers.{grantWord, stepAnswered}
 use Rattle.node_show.specs.declared.ShownAnswer as M
 use Rattle.node_show.specs.declared.ShownAnswer.the-variants as S
 use Rattle.node_show.specs.Shows.{shownWord}
@@ -91,7 +91,7 @@ use Rattle.node_search.specs.declared.SearchAnswer.the-variants as F
 use Rattle.node_search.specs.Searches as searches
 use Rattle.calls_header.specs.Grants.{grantNumber}
 use Rattle.calls_header.specs.Acks.{ackNumber}
-use Rattle.calls_header.specs.Settles.{outcomeNumber}
+use Rattle.calls_header.specs.Outcomes.{outcomeNumber}
 
 -- a number other than 24
 abbrev pub Fine : ℕ → Type 0
@@ -336,9 +336,9 @@ module _ (v : Node) (lent : Key → Bool) where
   -- ---- the worker's step, and its request
 
   module _ (k : Key) (e : lent k ≡ true) (epoch peer : ℕ) where
-    pub step-fine : Fine (stepNumber (stepTold (stepWith lent v k epoch peer)))
+    pub step-fine : Fine (stepNumber (stepAnswered (stepWith lent v k epoch peer)))
     unfolding stepWith
-    step-fine = tested (λ a. stepNumber (stepTold a)) (lent k) e _ _ refl
+    step-fine = tested (λ a. stepNumber (stepAnswered a)) (lent k) e _ _ refl
 
     written-fine : (room : ℕ) (o : Option Message) → Fine (requestNumber (answerOf (writtenIn room o)))
     written-fine room none = refl

@@ -22,8 +22,8 @@ use Rattle.log_store.proofs.Facts.{below-fact, fact-below, same-rows}
 use Rattle.log_store.proofs.PlayRows.{rows-vectors}
 use Rattle.image_store.specs.Image.{logAt, rowsAt, codeFitsAt, wellFormedImage}
 use Rattle.image_store.proofs.Stored.{Same}
-use Rattle.image_store.proofs.OfWrite.{Short}
-use Rattle.image_store.proofs.OfImage.{log-same, table-same}
+use Rattle.image_store.proofs.WriteLaws.{Short}
+use Rattle.image_store.proofs.Image.{log-same, table-same}
 
 -- no entries and no rows
 pub begun-store : (s : List ℕ) (base : ℕ) → wellFormedImage s base 0 0 ≡ true

@@ -13,7 +13,7 @@ use Rattle.calls_header.specs.Shows.{Shows}
 use Rattle.calls_header.specs.Grants.{Grants}
 use Rattle.calls_header.specs.Waits.{Waits}
 use Rattle.calls_header.specs.Acks.{Acks}
-use Rattle.calls_header.specs.Settles.{Settles}
+use Rattle.calls_header.specs.Outcomes.{Settles}
 use Rattle.calls_peer.specs.PeerCalls as peer
 use Rattle.calls_peer.specs.PeerCalls.{ReplicatesImage, AnnouncesImage, CopiesImage}
 use Rattle.calls_client_out.specs.Count.{countLent}

@@ -9,7 +9,7 @@ use Rattle.node_header.specs.View.{used}
 use Rattle.node_header.specs.Formed.{formedNode}
 use Rattle.image_header.specs.Image.{headerLent, nodeAt}
 use Rattle.image_node.specs.Lent.{storesSize}
-use Rattle.image_node.specs.State.{keptImage}
+use Rattle.image_node.specs.State.{heldRowImage}
 
 -- 'Who is turned down', 24, of the header h and of all eight stores s: the header is one and passes its test, the stores have their size, and
 -- that of every held shard passes its own test, with as many entries and rows as the header counts
@@ -17,4 +17,4 @@ pub record Intact (h s : List ℕ) : Type 0 where
   pub lent : headerLent h ≡ true
   pub formed : formedNode (nodeAt h) ≡ true
   pub size : storesSize ≤ length s
-  pub stores : every (keptImage s) (used (nodeAt h)) ≡ true
+  pub stores : every (heldRowImage s) (used (nodeAt h)) ≡ true

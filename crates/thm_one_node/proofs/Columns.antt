@@ -20,8 +20,8 @@ use Rattle.node_admit.specs.declared.Expiry.the-variants.{At}
 use Rattle.image_store.specs.Image.{words, logAt}
 use Rattle.image_store.specs.Read as read
 use Rattle.image_store.specs.Write as write
-use Rattle.node_lent.specs.Lend.{Lot, lot}
-use Rattle.image_node.specs.Lent.{noLot, lotAt, lotIn, keptReadable, lendsState, storePut, StorePuts}
+use Rattle.node_lent.specs.Lend.{LentStore, lentStore}
+use Rattle.image_node.specs.Lent.{noLentStore, lentStoreAt, lentStoreIn, heldRowReadable, lendsState, storePut, StorePuts}
 use Rattle.thm_one_node.specs.Images.{stores, leased}
 use Rattle.thm_one_node.proofs.Zeros.{zeros-long, zeros-bytes, dropped, taken, words-zero, set-bytes, sets-bytes}
 use Rattle.thm_one_node.proofs.Map.{key}
@@ -52,19 +52,19 @@ nothing = refl
 abbrev zeros : List ℕ
 zeros = replicate 1024 0
 
-abbrev pub before : Lot
-before = lot zeros zeros zeros zeros zeros (replicate 32768 (floatOf 0)) zeros zeros
+abbrev pub before : LentStore
+before = lentStore zeros zeros zeros zeros zeros (replicate 32768 (floatOf 0)) zeros zeros
 
-pub kept-read : lotAt stores (kept 0 0) ≡ before
-unfolding lotAt read.columnsAt read.floatsRead noLot
+pub kept-read : lentStoreAt stores (kept 0 0) ≡ before
+unfolding lentStoreAt read.columnsAt read.floatsRead noLentStore
 kept-read = rw (words-read 0, words-read 8192, words-read 16384, bytes-read 24576 (omega arith), bytes-read 25600 (omega arith), words-read 157696, words-read 165888) refl
 
-pub lot-read : lotIn stores (leads (At 100) 0 0) key ≡ before
+pub store-read : lentStoreIn stores (leads (At 100) 0 0) key ≡ before
 unfolding opened
-lot-read = kept-read
+store-read = kept-read
 
 pub lends : lendsState leased stores key ≡ true
-unfolding opened lendsState keptReadable read.allReadable store.everyBelow
+unfolding opened lendsState heldRowReadable read.allReadable store.everyBelow
 lends = rw (lent-leased, read-leased, stores-long, le-leb 1392640 1392640 (omega arith)) refl
 
 -- ---- after the Write of one Upsert: the id 41 at 1.0
@@ -75,9 +75,9 @@ one = floatOf 0x3f800000
 abbrev pub entry : Entry
 entry = record { epoch = 1; offset = 1; op = upsert 41 (one ∷ []) }
 
-abbrev pub after : Lot
+abbrev pub after : LentStore
 after =
-    lot (set zeros 0 1) (set zeros 0 1) (set zeros 0 41) (set zeros 0 1) (set zeros 0 1) (set (replicate 32768 (floatOf 0)) 0 one)
+    lentStore (set zeros 0 1) (set zeros 0 1) (set zeros 0 41) (set zeros 0 1) (set zeros 0 1) (set (replicate 32768 (floatOf 0)) 0 one)
     (set zeros 0 41) (set zeros 0 1)
 
 abbrev pub row : table.Row

@@ -7,14 +7,14 @@ use Rattle.spec.specs.Layout.Format.{All}
 use Rattle.node_admit.specs.declared.Expiry.{Expiry}
 use Rattle.image_header_row.specs.Rows.{expiryTime}
 use Rattle.image_header.proofs.Back.{Fits}
-use Rattle.image_header.proofs.OfTidy.{KeptFits}
+use Rattle.image_header.proofs.Tidy.{HeldRowFits}
 use Rattle.thm_one_node.proofs.Headers.{kept, leads}
 
 pub all-same : {A : Type 0} (P : A → Type 0) (n : ℕ) (x : A) → P x → All P (replicate n x)
 all-same P zero x p = tt
 all-same P (suc n) x p = (p, all-same P n x p)
 
-kept-fits : (stored last : ℕ) → stored < 256 ^ 8 → last < 256 ^ 8 → KeptFits (kept stored last)
+kept-fits : (stored last : ℕ) → stored < 256 ^ 8 → last < 256 ^ 8 → HeldRowFits (kept stored last)
 kept-fits stored last a b = (
   (
     (

@@ -9,18 +9,18 @@ use Rattle.node_header.specs.declared.GrantAnswer.the-variants as G
 use Rattle.node_header.specs.Answers.{GrantsNode}
 use Rattle.node_header.specs.Arrays.{arraysFit}
 use Rattle.node_header.specs.Formed.{lentNode, slotsFit, countsFit}
-use Rattle.node_header.specs.Seats.{Keeps}
+use Rattle.node_header.specs.Slots.{Keeps}
 use Rattle.image_parts.specs.Canon as canon
 use Rattle.image_header_row.specs.Rows as rows
 use Rattle.image_header_row.specs.Tidy as tidy
 use Rattle.image_header.specs.declared.Lent.{Lent}
 use Rattle.image_header.specs.Image.{headerPut, lentHeader}
 use Rattle.image_header.specs.Becomes.{HeaderWrites}
-use Rattle.image_header.proofs.OfBecomes.{writes-long}
+use Rattle.image_header.proofs.Becomes.{writes-long}
 use Rattle.calls_header.specs.Grants.{Grants}
-use Rattle.calls_header.proofs.OfAsked.{asked-called}
-use Rattle.image_header.proofs.OfImage.{lent-long}
-use Rattle.calls_header.proofs.OfCalls.{grants-image}
+use Rattle.calls_header.proofs.Asked.{asked-called}
+use Rattle.image_header.proofs.Image.{lent-long}
+use Rattle.calls_header.proofs.Calls.{grants-image}
 use Rattle.thm_one_node.specs.Images.{header, shown, leased}
 use Rattle.thm_one_node.proofs.Headers.{leads, read-shown, lent-shown}
 use Rattle.thm_one_node.proofs.Fits.{node-fits}
@@ -36,7 +36,7 @@ grants-node = λ s. rw (s .long 0 0) refl
 
 keeps : Keeps (leads Never 0 0) (leads (At 100) 0 0)
 unfolding opened arraysFit slotsFit countsFit
-keeps = record { fits = λ e. refl; seats = refl }
+keeps = record { fits = λ e. refl; slotsAre = refl }
 
 -- ---- the buffers
 
@@ -47,7 +47,7 @@ is-read : read ≡ lentHeader shown
 is-read = rw (lent-shown, read-shown)
 
 put-leased : leased ≡ headerPut shown (leads (At 100) 0 0)
-unfolding header headerPut rows.keptBytes tidy.tidyKept tidy.tidyHeld canon.padded
+unfolding header headerPut rows.heldRowBytes tidy.tidyHeldRow tidy.tidyHeld canon.padded
 put-leased = refl
 
 header-leased : HeaderWrites shown leased (leads (At 100) 0 0)

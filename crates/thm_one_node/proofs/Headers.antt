@@ -17,7 +17,7 @@ use Rattle.map_tables.specs.declared.ShardKey.{ShardKey}
 use Rattle.node_shard.specs.declared.Held.{Held}
 use Rattle.node_admit.specs.declared.Expiry.{Expiry}
 use Rattle.node_admit.specs.declared.Expiry.the-variants.{Never, At}
-use Rattle.node_header.specs.declared.Kept.{Kept}
+use Rattle.node_header.specs.declared.HeldRow.{HeldRow}
 use Rattle.node_header.specs.declared.Node.{Node}
 use Rattle.image_parts.specs.Shape as shape
 use Rattle.image_parts.specs.Parts as parts
@@ -53,7 +53,7 @@ solo last = record {
   count = 0;
 }
 
-abbrev pub kept : (stored last : ℕ) → Kept
+abbrev pub kept : (stored last : ℕ) → HeldRow
 kept stored last = record { key = key; slot = 0; stored = stored; held = solo last }
 
 abbrev pub leads : Expiry → (stored last : ℕ) → Node
@@ -62,7 +62,7 @@ leads e stored last = record {
   incarnation = 4;
   expiry = e;
   version = 1;
-  held = kept stored last ∷ replicate 7 image.noKept;
+  held = kept stored last ∷ replicate 7 image.noHeldRow;
   count = 1;
 }
 
@@ -71,15 +71,15 @@ unfolding new nodeAt image.noNode shape.rowsAt
 read-new = refl
 
 pub read-shown : nodeAt shown ≡ leads Never 0 0
-unfolding header nodeAt shape.rowsAt rows.keptAt
+unfolding header nodeAt shape.rowsAt rows.heldRowAt
 read-shown = refl
 
 pub read-leased : nodeAt leased ≡ leads (At 100) 0 0
-unfolding header nodeAt shape.rowsAt rows.keptAt
+unfolding header nodeAt shape.rowsAt rows.heldRowAt
 read-leased = refl
 
 pub read-written : nodeAt written ≡ leads (At 100) 1 1
-unfolding header nodeAt shape.rowsAt rows.keptAt
+unfolding header nodeAt shape.rowsAt rows.heldRowAt
 read-written = refl
 
 -- ---- each lends a header

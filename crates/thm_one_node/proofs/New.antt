@@ -5,9 +5,9 @@ use mathlib.Core.Path.{_≡_, refl}
 use mathlib.Core.List.{List}
 use lib.ListN.{length}
 use Rattle.image_header.specs.Image as image
-use Rattle.image_header.proofs.OfBecomes.{writes-long}
+use Rattle.image_header.proofs.Becomes.{writes-long}
 use Rattle.calls_header.specs.Fresh.{freshNode, Freshens}
-use Rattle.calls_header.proofs.OfFresh.{fresh-made}
+use Rattle.calls_header.proofs.Fresh.{fresh-made}
 use Rattle.thm_one_node.specs.Images.{unused, new}
 use Rattle.thm_one_node.proofs.Zeros.{zeros-long}
 

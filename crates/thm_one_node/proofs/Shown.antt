@@ -21,8 +21,8 @@ use Rattle.node_header.specs.Grow.{freeFrom}
 use Rattle.node_show.specs.declared.Start.{Start}
 use Rattle.node_show.specs.declared.NodeShown.{NodeShown}
 use Rattle.node_show.specs.declared.ShownAnswer.the-variants as S
-use Rattle.node_show.specs.Slots.{seated, slotsAfter}
-use Rattle.node_show.specs.Shows.{viewStarts, shownTold, viewShown}
+use Rattle.node_show.specs.Slots.{slotted, slotsAfter}
+use Rattle.node_show.specs.Shows.{viewStarts, shownAnswered, viewShown}
 use Rattle.node_hear.specs.Hears.{HearsMap}
 use Rattle.image_parts.specs.Canon as canon
 use Rattle.image_map.specs.declared.Lent as maps
@@ -33,15 +33,15 @@ use Rattle.image_header.specs.declared.Lent as header
 use Rattle.image_header.specs.Image as image
 use Rattle.image_header.specs.Image.{headerLent, headerPut, lentHeader}
 use Rattle.image_header.specs.Becomes.{HeaderWrites}
-use Rattle.image_header.proofs.OfBecomes.{writes-long}
+use Rattle.image_header.proofs.Becomes.{writes-long}
 use Rattle.calls_parts.specs.Answer.{numberPut}
 use Rattle.calls_header.specs.Fresh.{freshNode}
 use Rattle.calls_header.specs.Waits.{RowsPut}
 use Rattle.calls_header.specs.Shows.{workerBytes, ShowPut, Shows}
-use Rattle.calls_header.proofs.OfAsked.{asked-called}
-use Rattle.image_header.proofs.OfImage.{lent-long}
-use Rattle.calls_header.proofs.OfCalls.{shows-image}
-use Rattle.calls_header.proofs.OfWaits.{all-put, shown-as}
+use Rattle.calls_header.proofs.Asked.{asked-called}
+use Rattle.image_header.proofs.Image.{lent-long}
+use Rattle.calls_header.proofs.Calls.{shows-image}
+use Rattle.calls_header.proofs.Waits.{all-put, shown-as}
 use Rattle.thm_one_node.specs.Images as images
 use Rattle.thm_one_node.specs.Images.{mapBytes, new, shown, room}
 use Rattle.thm_one_node.proofs.Map.{map, map-read, map-lent, tested}
@@ -57,24 +57,24 @@ abbrev answered : NodeShown
 answered = record { answer = S.Shown; starts = replicate 8 starting; count = 0; node = leads Never 0 0 }
 
 -- computed of the plain map, and carried over to the one that the bytes are read as
-same-plain : (s : Stores) → viewShown s answered ≡ shownTold (calls.shownWith (lentNode s (freshNode 1 4) and true) (viewNode s (freshNode 1 4)) 0 map)
+same-plain : (s : Stores) → viewShown s answered ≡ shownAnswered (calls.shownWith (lentNode s (freshNode 1 4) and true) (viewNode s (freshNode 1 4)) 0 map)
 unfolding opened image.noNode lentNode slotsFit viewStarts
 same-plain s = rw (nil (s .log 0 0) (s .long 0 0), s .bare 0) refl
 
 same : (s : Stores)
     → viewShown s answered
-    ≡ shownTold (calls.shownWith (lentNode s (freshNode 1 4) and wellFormedLent (mapAt mapBytes)) (viewNode s (freshNode 1 4)) 0 (viewMap (mapAt mapBytes)))
+    ≡ shownAnswered (calls.shownWith (lentNode s (freshNode 1 4) and wellFormedLent (mapAt mapBytes)) (viewNode s (freshNode 1 4)) 0 (viewMap (mapAt mapBytes)))
 same s =
     let n = freshNode 1 4 in
-    subst (λ (m : tables.Map). viewShown s answered ≡ shownTold (calls.shownWith (lentNode s n and wellFormedLent (mapAt mapBytes)) (viewNode s n) 0 m)) (sym map-read)
-    (subst (λ (b : Bool). viewShown s answered ≡ shownTold (calls.shownWith (lentNode s n and b) (viewNode s n) 0 map)) (sym tested) (same-plain s))
+    subst (λ (m : tables.Map). viewShown s answered ≡ shownAnswered (calls.shownWith (lentNode s n and wellFormedLent (mapAt mapBytes)) (viewNode s n) 0 m)) (sym map-read)
+    (subst (λ (b : Bool). viewShown s answered ≡ shownAnswered (calls.shownWith (lentNode s n and b) (viewNode s n) 0 map)) (sym tested) (same-plain s))
 
 hears : HearsMap (freshNode 1 4) (mapAt mapBytes) 0 answered
-unfolding opened image.noNode formedNode slotsFit seated slotsAfter freeFrom
+unfolding opened image.noNode formedNode slotsFit slotted slotsAfter freeFrom
 hears = record {
   same = same;
   slots = λ e. refl;
-  seats = λ e s. refl;
+  slotsAre = λ e s. refl;
   stays = λ e. not-both true refl e;
 }
 
@@ -93,7 +93,7 @@ is-known : known ≡ lentMap mapBytes
 is-known = rw map-lent
 
 put-shown : shown ≡ headerPut new (leads Never 0 0)
-unfolding new images.header headerPut rows.keptBytes tidy.tidyKept tidy.tidyHeld canon.padded
+unfolding new images.header headerPut rows.heldRowBytes tidy.tidyHeldRow tidy.tidyHeld canon.padded
 put-shown = refl
 
 header-shown : HeaderWrites new shown (leads Never 0 0)

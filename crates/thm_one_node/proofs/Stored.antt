@@ -22,15 +22,15 @@ use Rattle.image_header.specs.Image.{nodeAt, headerLent}
 use Rattle.image_store.specs.Image.{logAt, rowsAt, wellFormedImage}
 use Rattle.image_store.specs.Read as read
 use Rattle.image_store.specs.Write as write
-use Rattle.image_store.proofs.OfRead.{image-log}
-use Rattle.image_store.proofs.OfTest.{image-test}
-use Rattle.node_lent.specs.Lend.{Lot, storeOf, lentFor, Lends}
-use Rattle.image_node.specs.Lent.{noLot, holdsKey, keptOf, lotAt, lotIn, lendsState, Writable}
-use Rattle.image_node.specs.State.{keptImage}
-use Rattle.image_node.proofs.OfPick.{floats-whole}
-use Rattle.image_node.proofs.OfBack.{put-log, put-rows}
-use Rattle.image_node.proofs.OfAgain.{put-again}
-use Rattle.image_node.proofs.OfState.{imagesLent, images-test}
+use Rattle.image_store.proofs.Read.{image-log}
+use Rattle.image_store.proofs.Test.{image-test}
+use Rattle.node_lent.specs.Lend.{LentStore, storeOf, lentFor, Lends}
+use Rattle.image_node.specs.Lent.{noLentStore, holdsKey, heldRowOf, lentStoreAt, lentStoreIn, lendsState, Writable}
+use Rattle.image_node.specs.State.{heldRowImage}
+use Rattle.image_node.proofs.Pick.{floats-whole}
+use Rattle.image_node.proofs.Back.{put-log, put-rows}
+use Rattle.image_node.proofs.Again.{put-again}
+use Rattle.image_node.proofs.State.{imagesLent, images-test}
 use Rattle.thm_one_node.proofs.Map.{key}
 use Rattle.thm_one_node.proofs.Headers.{kept}
 use Rattle.thm_one_node.specs.Images.{stores}
@@ -64,28 +64,28 @@ image-stored =
     ap (λ (s : List ℕ). wellFormedImage s 0 1 1) is-put
     ∙ put-again stores (kept 0 0) (kept 1 1) after stores-room writable (puts .fits) nothing (λ k h. absurd (omega arith))
 
-abbrev pub columns : Lot
-columns = lotAt stored (kept 1 1)
+abbrev pub columns : LentStore
+columns = lentStoreAt stored (kept 1 1)
 
 both : (read.allReadable stored 0 1 and wellFormedStore (storeOf columns (kept 1 1))) ≡ true
-unfolding lotAt
-both = image-test stored 0 1 1 (noLot .columns .floats) floats-whole ∙ image-stored
+unfolding lentStoreAt
+both = image-test stored 0 1 1 (noLentStore .columns .floats) floats-whole ∙ image-stored
 
 -- the log and the rows of the columns that they are read into
 pub columns-log : view.logOf (columns .columns) 1 ≡ entry ∷ []
-unfolding lotAt
+unfolding lentStoreAt
 columns-log =
-    image-log stored 0 1 1 (noLot .columns .floats) (columns .keys) (columns .places) floats-whole
+    image-log stored 0 1 1 (noLentStore .columns .floats) (columns .keys) (columns .places) floats-whole
     (and-left (read.allReadable stored 0 1) _ both) (and-right (read.allReadable stored 0 1) _ both)
     ∙ log-stored
 
 pub columns-rows : table.rowsOf (columns .keys) (columns .places) 1 ≡ row ∷ []
-unfolding lotAt
+unfolding lentStoreAt
 columns-rows = rows-stored
 
 -- ---- what stores hold that have such columns in the slot 0
 
-module _ (a : Lot) (log : view.logOf (a .columns) 1 ≡ entry ∷ []) (rows : table.rowsOf (a .keys) (a .places) 1 ≡ row ∷ []) where
+module _ (a : LentStore) (log : view.logOf (a .columns) 1 ≡ entry ∷ []) (rows : table.rowsOf (a .keys) (a .places) 1 ≡ row ∷ []) where
   vectors-of : table.vectorsOf (view.logOf (a .columns) 1) (table.rowsOf (a .keys) (a .places) 1) ≡ vectors
   unfolding opened table.vectorsOf table.vectorOf
   vectors-of = rw (log, rows) refl
@@ -100,20 +100,20 @@ module _ (a : Lot) (log : view.logOf (a .columns) 1 ≡ entry ∷ []) (rows : ta
 -- ---- they are lent beside a header that counts them
 
 module _ (h : List ℕ) (n : Node) (lent : headerLent h ≡ true) (is : nodeAt h ≡ n) (node : (z : Stores) → lentNode z n ≡ true)
-    (image : cond (holdsKey n key) (keptImage stored (keptOf n key)) true ≡ true) where
+    (image : cond (holdsKey n key) (heldRowImage stored (heldRowOf n key)) true ≡ true) where
   images : (z : Stores) → imagesLent z h stored key ≡ true
   images z =
       and-true (headerLent h) _ lent
       (and-true _ _ (le-leb 1392640 (length stored) (omega (arith, stored-long)))
-      (subst (λ (v : Node). (lentNode z v and cond (holdsKey v key) (keptImage stored (keptOf v key)) true) ≡ true) (sym is)
+      (subst (λ (v : Node). (lentNode z v and cond (holdsKey v key) (heldRowImage stored (heldRowOf v key)) true) ≡ true) (sym is)
       (and-true (lentNode z n) _ (node z) image)))
 
-  tests : (z : Stores) → (lendsState h stored key and lentFor z (nodeAt h) (lotIn stored (nodeAt h) key) key) ≡ true
+  tests : (z : Stores) → (lendsState h stored key and lentFor z (nodeAt h) (lentStoreIn stored (nodeAt h) key) key) ≡ true
   tests z = images-test z h stored key ∙ images z
 
   pub lends-stored : Stores → lendsState h stored key ≡ true
   lends-stored z = and-left (lendsState h stored key) _ (tests z)
 
-  pub passes-stored : (z : Stores) → lentFor z n (lotIn stored n key) key ≡ true
+  pub passes-stored : (z : Stores) → lentFor z n (lentStoreIn stored n key) key ≡ true
   passes-stored z =
-      subst (λ (v : Node). lentFor z v (lotIn stored v key) key ≡ true) is (and-right (lendsState h stored key) _ (tests z))
+      subst (λ (v : Node). lentFor z v (lentStoreIn stored v key) key ≡ true) is (and-right (lendsState h stored key) _ (tests z))

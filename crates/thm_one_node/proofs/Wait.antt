@@ -12,21 +12,21 @@ use Rattle.node_admit.specs.declared.Expiry.the-variants.{At}
 use Rattle.node_header.specs.declared.NodeWaited.{NodeWaited}
 use Rattle.node_header.specs.Answers.{WaitsNode}
 use Rattle.node_header.specs.Formed.{lentNode, slotsFit, countsFit}
-use Rattle.node_header.specs.Seats.{Keeps}
+use Rattle.node_header.specs.Slots.{Keeps}
 use Rattle.image_header_row.specs.Rows as rows
 use Rattle.image_header_row.specs.Tidy as tidy
 use Rattle.image_parts.specs.Canon as canon
 use Rattle.image_header.specs.declared.Lent.{Lent}
 use Rattle.image_header.specs.Image.{lentHeader, headerPut}
 use Rattle.image_header.specs.Becomes.{HeaderWrites}
-use Rattle.image_header.proofs.OfBecomes.{writes-long}
+use Rattle.image_header.proofs.Becomes.{writes-long}
 use Rattle.wire_write.specs.Written.{textFits}
 use Rattle.calls_parts.specs.Answer.{numberPut}
 use Rattle.calls_header.specs.Waits.{idBytes, RowsPut, WaitPut, Waits}
-use Rattle.calls_header.proofs.OfAsked.{asked-called}
-use Rattle.image_header.proofs.OfImage.{lent-long}
-use Rattle.calls_header.proofs.OfCalls.{waits-image}
-use Rattle.calls_header.proofs.OfWaits.{all-put, waited-as}
+use Rattle.calls_header.proofs.Asked.{asked-called}
+use Rattle.image_header.proofs.Image.{lent-long}
+use Rattle.calls_header.proofs.Calls.{waits-image}
+use Rattle.calls_header.proofs.Waits.{all-put, waited-as}
 use Rattle.thm_one_node.specs.Images.{header, written, room}
 use Rattle.thm_one_node.proofs.Map.{key}
 use Rattle.thm_one_node.proofs.Headers.{node, leads, read-written, lent-written}
@@ -35,7 +35,7 @@ use Rattle.thm_one_node.proofs.Fits.{node-fits}
 -- ---- the header stays as it was, written over itself
 
 put-waited : written ≡ headerPut written (leads (At 100) 1 1)
-unfolding header headerPut rows.keptBytes tidy.tidyKept tidy.tidyHeld canon.padded
+unfolding header headerPut rows.heldRowBytes tidy.tidyHeldRow tidy.tidyHeld canon.padded
 put-waited = refl
 
 header-waited : HeaderWrites written written (leads (At 100) 1 1)
@@ -53,7 +53,7 @@ unfolding opened lentNode slotsFit countsFit
 done = λ s. rw (s .long 0 1) refl
 
 keeps : Keeps (leads (At 100) 1 1) (leads (At 100) 1 1)
-keeps = record { fits = λ e. e; seats = refl }
+keeps = record { fits = λ e. e; slotsAre = refl }
 
 -- ---- the buffers: no peer, and that there is none
 

@@ -21,13 +21,13 @@ use Rattle.log_store.specs.View as view
 use Rattle.log_store.specs.Table as table
 use Rattle.log_store.specs.Store.{wellFormedStore, everyBelow, sameRows}
 use Rattle.log_calls.specs.Fits.{sized, lentFits}
-use Rattle.log_calls.proofs.OfFits.{fits-sized, fits-well}
+use Rattle.log_calls.proofs.FitLaws.{fits-sized, fits-well}
 use Rattle.node_admit.specs.declared.Expiry.the-variants.{At}
 use Rattle.node_header.specs.declared.Node.{Node}
 use Rattle.node_header.specs.View.{Stores, viewNode, used}
 use Rattle.node_header.specs.Formed.{lentNode, slotsFit, countsFit}
-use Rattle.node_header.specs.Answers.{told}
-use Rattle.node_lent.specs.Lend.{storeOf, keptStore, placeOf, lentAt, lentFor, slotOf, Whole}
+use Rattle.node_header.specs.Answers.{answeredAs}
+use Rattle.node_lent.specs.Lend.{storeOf, heldRowStore, placeOf, lentAt, lentFor, slotOf, Whole}
 use Rattle.node_write.specs.declared.WriteAnswer.{WriteAnswer}
 use Rattle.node_write.specs.declared.WriteReply.the-variants as C
 use Rattle.node_write.specs.ClientWrites.{writeWord, WriteNames, WriteSlot, SameWrite, WritesAt}
@@ -82,7 +82,7 @@ unfolding opened lentNode slotsFit countsFit
 header-lent s = rw (s .long 0 0) refl
 
 store-lent : lentAt (leads (At 100) 0 0) before (placeOf (leads (At 100) 0 0) key) ≡ true
-unfolding opened lentAt keptStore lentFits sized wellFormedStore everyBelow sameRows view.logOf view.firsts table.rowsOf table.zipped table.playRows table.playRowsFrom
+unfolding opened lentAt heldRowStore lentFits sized wellFormedStore everyBelow sameRows view.logOf view.firsts table.rowsOf table.zipped table.playRows table.playRowsFrom
 store-lent = refl
 
 lent : (s : Stores) → lentFor s (leads (At 100) 0 0) before key ≡ true
@@ -97,13 +97,13 @@ abbrev pub vectors : Vectors
 vectors = record { id = 41; components = one ∷ [] } ∷ []
 
 taken : (s : Stores)
-    → record { answer = accepted; node = read (entry ∷ []) vectors } ≡ told writeWord (calls.writeWith (lentFor s (leads (At 100) 0 0) before) (read [] []) 5 1 bytes)
+    → record { answer = accepted; node = read (entry ∷ []) vectors } ≡ answeredAs writeWord (calls.writeWith (lentFor s (leads (At 100) 0 0) before) (read [] []) 5 1 bytes)
 unfolding opened bytes fits
 taken s = rw (lent s) refl
 
 taken-of : (s : Stores)
     → record { answer = accepted; node = read (entry ∷ []) vectors }
-    ≡ told writeWord (calls.writeWith (lentFor s (leads (At 100) 0 0) before) (viewNode s (leads (At 100) 0 0)) 5 1 bytes)
+    ≡ answeredAs writeWord (calls.writeWith (lentFor s (leads (At 100) 0 0) before) (viewNode s (leads (At 100) 0 0)) 5 1 bytes)
 taken-of s = rw (read-before s) (taken s)
 
 vectors-after : table.vectorsOf (view.logOf (after .columns) 1) (table.rowsOf (after .keys) (after .places) 1) ≡ vectors
@@ -142,7 +142,7 @@ unfolding refused.counted
 writes = record {
   same = same;
   kept = λ e. not-both false e refl;
-  seats = refl;
+  slotsAre = refl;
   slots = λ e. slots-after;
   whole = λ e. whole;
   count = refl;

@@ -17,29 +17,29 @@ use Rattle.image_header_row.specs.Tidy as tidy
 use Rattle.image_parts.specs.Canon as canon
 use Rattle.image_header.specs.Image.{nodeAt, headerPut}
 use Rattle.image_header.specs.Becomes.{HeaderWrites}
-use Rattle.image_header.proofs.OfBecomes.{writes-long}
-use Rattle.image_header.proofs.OfImage.{lent-long}
+use Rattle.image_header.proofs.Becomes.{writes-long}
+use Rattle.image_header.proofs.Image.{lent-long}
 use Rattle.log_store.specs.Table as table
 use Rattle.node_lent.specs.Lend.{placeOf}
 use Rattle.image_node.specs.declared.Picked.{Picked}
-use Rattle.image_node.specs.Lent.{lotIn, lendsState, Picks, Puts}
+use Rattle.image_node.specs.Lent.{lentStoreIn, lendsState, Picks, Puts}
 use Rattle.image_node.specs.State.{storesIn, stateAt}
-use Rattle.image_node.proofs.OfPut.{puts-kept}
+use Rattle.image_node.proofs.Put.{puts-kept}
 use Rattle.calls_parts.specs.Answer.{numberPut}
 use Rattle.node_write.specs.declared.WriteAnswer.{WriteAnswer}
 use Rattle.node_write.specs.ClientWrites.{WritesAt}
 use Rattle.calls_client_out.specs.Count.{countPut}
 use Rattle.calls_client_out.specs.Ends.{ended, WriteEnded, WriteFinished}
-use Rattle.calls_client_out.proofs.OfEnds.{told-accepted}
+use Rattle.calls_client_out.proofs.Ends.{told-accepted}
 use Rattle.calls_client.specs.Searched.{lendsCall}
 use Rattle.calls_client.specs.Written.{buffers, WritesShard, WritesRead, WritesImages}
-use Rattle.calls_client.proofs.OfSearched.{lends-long}
-use Rattle.calls_client.proofs.OfWritten.{shard-lent}
+use Rattle.calls_client.proofs.Searched.{lends-long}
+use Rattle.calls_client.proofs.Written.{shard-lent}
 use Rattle.thm_one_node.specs.Images.{header, stores, leased, written, room, offset, count}
 use Rattle.thm_one_node.proofs.Map.{key}
 use Rattle.thm_one_node.proofs.Headers.{leads, read-leased, read-written, lent-leased}
 use Rattle.thm_one_node.proofs.Fits.{node-fits}
-use Rattle.thm_one_node.proofs.Columns.{stores-bytes, entry, before, after, stored, puts, lot-read, lends}
+use Rattle.thm_one_node.proofs.Columns.{stores-bytes, entry, before, after, stored, puts, store-read, lends}
 use Rattle.thm_one_node.proofs.Write.{asked, bytes, decoded, names, accepted, read, vectors, wrote, writes}
 use Rattle.thm_one_node.proofs.Stored.{log-stored, rows-stored}
 
@@ -53,7 +53,7 @@ inside = refl
 
 -- ---- a header h of the node n, which the Write leaves as h′ of p
 
-module _ (h h′ : List ℕ) (n p : Node) (is-read : nodeAt h ≡ n) (lends-it : lendsState h stores key ≡ true) (lot : lotIn stores n key ≡ before)
+module _ (h h′ : List ℕ) (n p : Node) (is-read : nodeAt h ≡ n) (lends-it : lendsState h stores key ≡ true) (lentStore : lentStoreIn stores n key ≡ before)
     (at-zero : placeOf n key ≡ 0) (images : Puts h h′ stores stored n p after 0) where
   abbrev told : WriteAnswer
   told = record { answer = accepted; node = p; refused = 0 }
@@ -66,7 +66,7 @@ module _ (h h′ : List ℕ) (n p : Node) (is-read : nodeAt h ≡ n) (lends-it :
     found = sym lends-it;
     read = λ e. sym is-read;
     at = λ e. sym at-zero ∙ ap (λ (m : Node). placeOf m key) (sym is-read);
-    lot = λ e. sym lot ∙ ap (λ (m : Node). lotIn stores m key) (sym is-read);
+    lentStore = λ e. sym lentStore ∙ ap (λ (m : Node). lentStoreIn stores m key) (sym is-read);
     bytes = λ e f. stores-bytes;
   }
 
@@ -108,7 +108,7 @@ module _ (h h′ : List ℕ) (n p : Node) (is-read : nodeAt h ≡ n) (lends-it :
 -- ---- those of node 1 alone
 
 put-written : written ≡ headerPut leased (leads (At 100) 1 1)
-unfolding header headerPut rows.keptBytes tidy.tidyKept tidy.tidyHeld canon.padded
+unfolding header headerPut rows.heldRowBytes tidy.tidyHeldRow tidy.tidyHeld canon.padded
 put-written = refl
 
 pub header-written : HeaderWrites leased written (leads (At 100) 1 1)
@@ -122,7 +122,7 @@ first-place = refl
 
 pub writes-images : WritesImages (buffers leased stores room) (buffers written stored offset) count count 5 1 bytes 0
 writes-images =
-    images-written leased written (leads (At 100) 0 0) (leads (At 100) 1 1) read-leased lends lot-read first-place
+    images-written leased written (leads (At 100) 0 0) (leads (At 100) 1 1) read-leased lends store-read first-place
     (puts-kept leased written stores stored (leads (At 100) 0 0) (leads (At 100) 1 1) after 0 header-written (omega arith) puts) writes
 
 -- ---- what the images are then read as

@@ -21,38 +21,38 @@ use Rattle.spec_run.proofs.Cases.Opened.{opened}
 use Rattle.log_store.specs.View.{logOf}
 use Rattle.log_store.specs.Table.{vectorsOf}
 use Rattle.log_store.specs.Store.{wellFormedStore}
-use Rattle.log_calls.proofs.OfFits.{fits-sized, fits-well}
+use Rattle.log_calls.proofs.FitLaws.{fits-sized, fits-well}
 use Rattle.node_admit.specs.declared.Expiry.the-variants.{At}
 use Rattle.node_header.specs.declared.Node.{Node}
 use Rattle.node_header.specs.View.{Stores}
 use Rattle.node_header.specs.Formed.{lentNode}
-use Rattle.node_header.specs.Answers.{told}
+use Rattle.node_header.specs.Answers.{answeredAs}
 use Rattle.image_header.specs.Image.{nodeAt, headerLent}
 use Rattle.image_header.specs.Becomes.{HeaderWrites}
 use Rattle.image_store.specs.Image.{logAt, rowsAt, wellFormedImage}
 use Rattle.image_store.specs.Read.{allReadable}
-use Rattle.image_store.proofs.OfRead.{image-log}
-use Rattle.image_store.proofs.OfTest.{image-test}
-use Rattle.node_lent.specs.Lend.{Lot, storeOf, keptStore, placeOf, lentAt, lentFor}
+use Rattle.image_store.proofs.Read.{image-log}
+use Rattle.image_store.proofs.Test.{image-test}
+use Rattle.node_lent.specs.Lend.{LentStore, storeOf, heldRowStore, placeOf, lentAt, lentFor}
 use Rattle.image_node.specs.declared.Picked.{Picked}
-use Rattle.image_node.specs.Lent.{noLot, lotAt, lotIn, lendsState, storePut, Writable, StoreFits, Picks, Puts}
+use Rattle.image_node.specs.Lent.{noLentStore, lentStoreAt, lentStoreIn, lendsState, storePut, Writable, StoreFits, Picks, Puts}
 use Rattle.image_node.specs.State.{storesIn}
-use Rattle.image_node.proofs.OfPick.{floats-whole}
-use Rattle.image_node.proofs.OfPut.{puts-kept}
-use Rattle.image_node.proofs.OfBack.{put-log, put-rows}
-use Rattle.image_node.proofs.OfAgain.{read-listed, put-again}
-use Rattle.image_node.proofs.OfState.{imagesLent, images-test}
+use Rattle.image_node.proofs.Pick.{floats-whole}
+use Rattle.image_node.proofs.Put.{puts-kept}
+use Rattle.image_node.proofs.Back.{put-log, put-rows}
+use Rattle.image_node.proofs.Again.{read-listed, put-again}
+use Rattle.image_node.proofs.State.{imagesLent, images-test}
 use Rattle.calls_parts.specs.Answer.{numberPut}
 use Rattle.node_write.specs.declared.WriteAnswer.{WriteAnswer}
 use Rattle.node_write.specs.declared.WriteReply.the-variants as C
 use Rattle.node_write.specs.ClientWrites.{writeWord, WriteNames, WritesAt}
 use Rattle.calls_client_out.specs.Count.{countPut}
 use Rattle.calls_client_out.specs.Ends.{ended, WriteEnded, WriteFinished}
-use Rattle.calls_client_out.proofs.OfEnds.{told-accepted}
+use Rattle.calls_client_out.proofs.Ends.{told-accepted}
 use Rattle.calls_client.specs.Searched.{lendsCall}
 use Rattle.calls_client.specs.Written.{buffers, WritesShard, WritesRead, WritesImages}
-use Rattle.calls_client.proofs.OfSearched.{lends-long}
-use Rattle.calls_client.proofs.OfWritten.{shard-lent}
+use Rattle.calls_client.proofs.Searched.{lends-long}
+use Rattle.calls_client.proofs.Written.{shard-lent}
 use Rattle.thm_one_node.specs.Images.{room, count}
 use Rattle.thm_one_node.proofs.Map.{key}
 use Rattle.thm_one_node.proofs.Headers.{kept, leads}
@@ -85,19 +85,19 @@ module _ (h s : List ℕ) (stored last : ℕ) (l : Log) (v : Vectors) (n : Heads
   there : 1392640 ≤ length s
   there = omega (arith, d .long)
 
-  abbrev a : Lot
-  a = lotAt s (kept stored last)
+  abbrev a : LentStore
+  a = lentStoreAt s (kept stored last)
 
   both : (allReadable s 0 last and wellFormedStore (storeOf a (kept stored last))) ≡ true
-  unfolding lotAt
-  both = image-test s 0 last stored (noLot .columns .floats) floats-whole ∙ d .image
+  unfolding lentStoreAt
+  both = image-test s 0 last stored (noLentStore .columns .floats) floats-whole ∙ d .image
 
   well : wellFormedStore (storeOf a (kept stored last)) ≡ true
   well = and-right (allReadable s 0 last) _ both
 
-  pub lot-in : lotIn s (node stored last) key ≡ a
+  pub lent-store-in : lentStoreIn s (node stored last) key ≡ a
   unfolding opened
-  lot-in = refl
+  lent-store-in = refl
 
   shard-image : (z : Stores) → imagesLent z h s key ≡ true
   unfolding opened
@@ -106,25 +106,25 @@ module _ (h s : List ℕ) (stored last : ℕ) (l : Log) (v : Vectors) (n : Heads
       (and-true _ _ (le-leb 1392640 (length s) there)
       (rw (n .read) (and-true (lentNode z (node stored last)) _ (n .formed z) (d .image))))
 
-  tests : (z : Stores) → (lendsState h s key and lentFor z (nodeAt h) (lotIn s (nodeAt h) key) key) ≡ true
+  tests : (z : Stores) → (lendsState h s key and lentFor z (nodeAt h) (lentStoreIn s (nodeAt h) key) key) ≡ true
   tests z = images-test z h s key ∙ shard-image z
 
   pub lends : lendsState h s key ≡ true
   lends = and-left (lendsState h s key) _ (tests (storesIn s))
 
-  fits : keptStore a (kept stored last) ≡ true
+  fits : heldRowStore a (kept stored last) ≡ true
   unfolding opened lentFor lentAt
   fits =
-      let t : lentFor (storesIn s) (node stored last) (lotIn s (node stored last) key) key ≡ true =
-      subst (λ (p : Node). lentFor (storesIn s) p (lotIn s p key) key ≡ true) (n .read) (and-right (lendsState h s key) _ (tests (storesIn s))) in
+      let t : lentFor (storesIn s) (node stored last) (lentStoreIn s (node stored last) key) key ≡ true =
+      subst (λ (p : Node). lentFor (storesIn s) p (lentStoreIn s p key) key ≡ true) (n .read) (and-right (lendsState h s key) _ (tests (storesIn s))) in
       and-right (lentNode (storesIn s) (node stored last)) _ t
 
   log-read : logOf (a .columns) last ≡ logAt s 0 last
-  unfolding lotAt
-  log-read = image-log s 0 last stored (noLot .columns .floats) (a .keys) (a .places) floats-whole (and-left (allReadable s 0 last) _ both) well
+  unfolding lentStoreAt
+  log-read = image-log s 0 last stored (noLentStore .columns .floats) (a .keys) (a .places) floats-whole (and-left (allReadable s 0 last) _ both) well
 
   pub reads : Reads a stored last l v
-  unfolding keptStore lotAt
+  unfolding heldRowStore lentStoreAt
   reads = record {
     log = log-read ∙ d .log;
     vectors = ap (λ (z : Log). vectorsOf z (rowsAt s 0 stored)) log-read ∙ d .vectors;
@@ -134,10 +134,10 @@ module _ (h s : List ℕ) (stored last : ℕ) (l : Log) (v : Vectors) (n : Heads
   -- ---- a Write of an edit on them, which leaves the columns b
 
   module _ (m : List ℕ) (op : WireOp) (decoded : message.decodeWrite m ≡ some (asks op)) (inside : opInDomain op ≡ true) (h′ : List ℕ) (stored′ last′ : ℕ)
-      (b : Lot) (l′ : Log) (v′ : Vectors) (after : Reads b stored′ last′ l′ v′) (fit : StoreFits (kept stored′ last′) b)
+      (b : LentStore) (l′ : Log) (v′ : Vectors) (after : Reads b stored′ last′ l′ v′) (fit : StoreFits (kept stored′ last′) b)
       (heads : HeaderWrites h h′ (node stored′ last′)) (answer : List ℕ) (put : answer ≡ numberPut room last′)
       (taken : (t : Key → Bool) → t key ≡ true
-      → record { answer = C.Accepted (record { 0 = last′ }); node = read l′ v′ } ≡ told writeWord (writeWith t (read l v) 5 1 m)) where
+      → record { answer = C.Accepted (record { 0 = last′ }); node = read l′ v′ } ≡ answeredAs writeWord (writeWith t (read l v) 5 1 m)) where
     abbrev said : WriteAnswer
     said = record { answer = C.Accepted (record { 0 = last′ }); node = node stored′ last′; refused = 0 }
 
@@ -162,7 +162,7 @@ module _ (h s : List ℕ) (stored last : ℕ) (l : Log) (v : Vectors) (n : Heads
       found = sym lends;
       read = λ e. sym (n .read);
       at = λ e. first-place ∙ ap (λ (p : Node). placeOf p key) (sym (n .read));
-      lot = λ e. sym lot-in ∙ ap (λ (p : Node). lotIn s p key) (sym (n .read));
+      lentStore = λ e. sym lent-store-in ∙ ap (λ (p : Node). lentStoreIn s p key) (sym (n .read));
       bytes = λ e f. d .bytes;
     }
 

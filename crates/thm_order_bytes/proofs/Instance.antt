@@ -28,8 +28,8 @@ use Rattle.image_header_row.specs.Rows as rows
 use Rattle.image_header_row.specs.Tidy as tidy
 use Rattle.image_header.specs.Image.{headerPut}
 use Rattle.image_header.specs.Becomes.{HeaderWrites}
-use Rattle.image_header.proofs.OfBecomes.{writes-long}
-use Rattle.image_header.proofs.OfImage.{lent-long}
+use Rattle.image_header.proofs.Becomes.{writes-long}
+use Rattle.image_header.proofs.Image.{lent-long}
 use Rattle.image_store.specs.Image as store
 use Rattle.image_store.specs.Write.{Fits, RowFits}
 use Rattle.image_node.specs.Lent.{storePut, StoreFits}
@@ -103,15 +103,15 @@ abbrev pub head : (stored last : ℕ) → List ℕ
 head stored last = header 1 100 stored last
 
 put-two : head 2 2 ≡ headerPut written (node 2 2)
-unfolding header headerPut rows.keptBytes tidy.tidyKept tidy.tidyHeld canon.padded
+unfolding header headerPut rows.heldRowBytes tidy.tidyHeldRow tidy.tidyHeld canon.padded
 put-two = refl
 
 put-deleted : head 0 2 ≡ headerPut written (node 0 2)
-unfolding header headerPut rows.keptBytes tidy.tidyKept tidy.tidyHeld canon.padded
+unfolding header headerPut rows.heldRowBytes tidy.tidyHeldRow tidy.tidyHeld canon.padded
 put-deleted = refl
 
 put-none : head 0 1 ≡ headerPut leased (node 0 1)
-unfolding header headerPut rows.keptBytes tidy.tidyKept tidy.tidyHeld canon.padded
+unfolding header headerPut rows.heldRowBytes tidy.tidyHeldRow tidy.tidyHeld canon.padded
 put-none = refl
 
 writes-two : HeaderWrites written (head 2 2) (node 2 2)

@@ -1,5 +1,5 @@
-pub mod OfWrites
-pub mod OfSearches
+pub mod Writes
+pub mod Searches
 pub mod Order
 pub mod Written
 pub mod Calls

@@ -13,13 +13,13 @@ use Rattle.spec_laws.proofs.Log.Edits.{opId}
 use Rattle.calls_client_out.specs.Count.{countLent}
 use Rattle.thm_never_malformed.specs.Intact.{Intact}
 use Rattle.thm_order_writes.specs.Editors.{logIn, Edit, Moment}
-use Rattle.thm_order_writes.proofs.OfNode.{on-admitted}
-use Rattle.thm_order_writes.proofs.OfSearch.{Alike}
+use Rattle.thm_order_writes.proofs.Node.{on-admitted}
+use Rattle.thm_order_writes.proofs.Search.{Alike}
 use Rattle.thm_order_writes.proofs.Turns as turns
 use Rattle.thm_order_writes.proofs.Turns.{Both, alike-vectors, swapped, later, differ, next}
 use Rattle.thm_order_bytes.specs.Images.{Images, nodeIn, vectorsAt, logAt, SpaceForTwo, Writes, Accepts, InTurn, SearchedAlike}
-use Rattle.thm_order_bytes.proofs.OfWrites.{TakenIn, left-intact, took, zero}
-use Rattle.thm_order_bytes.proofs.OfSearches.{alike-searches}
+use Rattle.thm_order_bytes.proofs.Writes.{TakenIn, left-intact, took, zero}
+use Rattle.thm_order_bytes.proofs.Searches.{alike-searches}
 
 -- ---- all calls are answered 0: neither 23 nor 24
 

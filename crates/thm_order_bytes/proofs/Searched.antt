@@ -17,25 +17,25 @@ use Rattle.image_parts.specs.Shape as shape
 use Rattle.image_header_row.specs.Rows as rows
 use Rattle.image_header.specs.Image as image
 use Rattle.image_header.specs.Image.{nodeAt, headerLent}
-use Rattle.node_lent.specs.Lend.{Lot}
-use Rattle.image_node.specs.Lent.{lotIn}
+use Rattle.node_lent.specs.Lend.{LentStore}
+use Rattle.image_node.specs.Lent.{lentStoreIn}
 use Rattle.calls_parts.specs.Answer.{numberPut}
 use Rattle.node_search.specs.Searches.{SearchesAt}
 use Rattle.calls_client_out.specs.Count.{countPut}
 use Rattle.calls_client_out.specs.Hits.{hitsBytes}
 use Rattle.calls_client_out.specs.Found.{SearchEnded, ended, freshHits, SearchServed}
 use Rattle.calls_client.specs.Searched.{lendsCall, SearchesQuery, SearchesImages}
-use Rattle.calls_client.proofs.OfSearched.{lends-long}
+use Rattle.calls_client.proofs.Searched.{lends-long}
 use Rattle.thm_one_node.specs.Images.{header, room, offset, count}
 use Rattle.thm_one_node.proofs.Map.{key}
 use Rattle.thm_order_writes.proofs.Instance.{entry, sets}
 use Rattle.thm_order_writes.proofs.Searched as value
 use Rattle.thm_order_writes.proofs.Searched.{asked, bytes, decoded, filled, said, vectors}
-use Rattle.thm_order_bytes.proofs.Calls.{node, Heads, Stored, lends, reads, lot-in}
+use Rattle.thm_order_bytes.proofs.Calls.{node, Heads, Stored, lends, reads, lent-store-in}
 use Rattle.thm_order_bytes.proofs.Instance.{head, stores-x-y, stores-y-x, stored-x-y, stored-y-x, searches-met}
 
 read-two : nodeAt (head 2 2) ≡ node 2 2
-unfolding header nodeAt shape.rowsAt rows.keptAt
+unfolding header nodeAt shape.rowsAt rows.heldRowAt
 read-two = refl
 
 lent-two : headerLent (head 2 2) ≡ true
@@ -63,14 +63,14 @@ module _ (s : List ℕ) (l : Log) (d : Stored s 2 2 l vectors) where
   abbrev h : List ℕ
   h = head 2 2
 
-  call : SearchesAt (nodeAt h) (lotIn s (nodeAt h) key) bytes 5 (freshHits 1) filled 0 said
+  call : SearchesAt (nodeAt h) (lentStoreIn s (nodeAt h) key) bytes 5 (freshHits 1) filled 0 said
   unfolding freshHits
   call =
-      subst (λ (n : Node). SearchesAt n (lotIn s n key) bytes 5 value.room filled 0 said) (sym read-two)
-      (subst (λ (a : Lot). SearchesAt (node 2 2) a bytes 5 value.room filled 0 said) (sym (lot-in h s 2 2 l vectors heads-two d))
+      subst (λ (n : Node). SearchesAt n (lentStoreIn s n key) bytes 5 value.room filled 0 said) (sym read-two)
+      (subst (λ (a : LentStore). SearchesAt (node 2 2) a bytes 5 value.room filled 0 said) (sym (lent-store-in h s 2 2 l vectors heads-two d))
       (value.search _ l (reads h s 2 2 l vectors heads-two d)))
 
-  served : SearchServed (nodeAt h) (lotIn s (nodeAt h) key) bytes 5 hits room found
+  served : SearchServed (nodeAt h) (lentStoreIn s (nodeAt h) key) bytes 5 hits room found
   unfolding opened numberPut hitsBytes view.firsts
   served = record { left = filled; told = said; call = call; is = refl }
 

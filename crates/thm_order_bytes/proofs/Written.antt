@@ -8,13 +8,13 @@ use lib.Seq.{sets, length-sets}
 use Rattle.spec.specs.Log.{Op, upsert, delete, Entry, Log, components}
 use Rattle.spec.specs.Layout.Format.{Bytes, All, bytesOf, concatMap}
 use Rattle.spec.specs.Node.Wire.{bitsOf}
-use Rattle.node_header.specs.declared.Kept.{Kept}
-use Rattle.node_lent.specs.Lend.{Lot}
+use Rattle.node_header.specs.declared.HeldRow.{HeldRow}
+use Rattle.node_lent.specs.Lend.{LentStore}
 use Rattle.log_store.specs.View.{logOf}
 use Rattle.log_store.specs.Table.{Row, rowsOf}
 use Rattle.image_store.specs.Write.{codeOf, idOf, numbersPut, vectorPut, entryPut, entriesPut, rowsPut}
 use Rattle.image_node.specs.Lent.{beginOf, storePut}
-use Rattle.image_node.proofs.OfBack.{entries-length}
+use Rattle.image_node.proofs.Back.{entries-length}
 use Rattle.thm_one_node.proofs.Zeros.{set-bytes, sets-bytes}
 
 abbrev Small : List ℕ → Type 0
@@ -56,7 +56,7 @@ unfolding entriesPut
 entries-bytes [] s base i b few = b
 entries-bytes (e ∷ es) s base i b few = entries-bytes es (entryPut s base i e) base (i + 1) (entry-bytes s base i e b (few .0)) (few .1)
 
-module _ (s : List ℕ) (x y : Kept) (l : Lot) where
+module _ (s : List ℕ) (x y : HeldRow) (l : LentStore) where
   abbrev from : ℕ
   from = min (x .held .last) (y .held .last)
 

@@ -27,7 +27,7 @@ use Rattle.log_calls.specs.Calls.{Calls, appendLent}
 use Rattle.log_calls.specs.declared.Answer.the-variants as A
 use Rattle.log_calls.specs.declared.Done.{Done}
 use Rattle.thm_order_edits.specs.Edits.{Edit, Appends, InTurn, readVectors, SearchedAlike}
-use Rattle.thm_order_edits.proofs.OfAppends.{there}
+use Rattle.thm_order_edits.proofs.Appends.{there}
 use Rattle.thm_order_edits.proofs.Order.{same-vectors, same-searches, later-vectors, later-searches}
 
 -- ---- The messages: Upsert 3 (2.0), Delete 5, Upsert 5 (2.0)

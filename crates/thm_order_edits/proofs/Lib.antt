@@ -1,4 +1,4 @@
-pub mod OfAppends
-pub mod OfSearches
+pub mod Appends
+pub mod Searches
 pub mod Order
 pub mod Instance

@@ -15,10 +15,10 @@ use Rattle.log_store.proofs.Facts.{facts, store-in-step}
 use Rattle.log_calls.specs.Fits.{lentFits}
 use Rattle.log_calls.specs.declared.Answer.the-variants as A
 use Rattle.log_calls.specs.declared.Done.{Done}
-use Rattle.log_calls.proofs.OfFits.{fits-well}
+use Rattle.log_calls.proofs.FitLaws.{fits-well}
 use Rattle.thm_order_edits.specs.Edits.{Edit, Appends, InTurn, readVectors, SearchedAlike}
-use Rattle.thm_order_edits.proofs.OfAppends.{Appended, appended}
-use Rattle.thm_order_edits.proofs.OfSearches.{searched-alike}
+use Rattle.thm_order_edits.proofs.Appends.{Appended, appended}
+use Rattle.thm_order_edits.proofs.Searches.{searched-alike}
 
 -- both calls of a turn were accepted, at the next two offsets, and the store is the definition's
 pub record BothAppended (own : ℕ) (s u : Store) (a b : Op) (first second : Done) : Type 0 where

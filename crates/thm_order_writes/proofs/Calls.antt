@@ -15,13 +15,13 @@ use Rattle.spec_run.proofs.Cases.Opened.{opened}
 use Rattle.log_store.specs.View.{logOf}
 use Rattle.log_store.specs.Table.{rowsOf, vectorsOf}
 use Rattle.log_calls.specs.Fits.{lentFits}
-use Rattle.log_calls.proofs.OfFits.{fits-sized, fits-well}
+use Rattle.log_calls.proofs.FitLaws.{fits-sized, fits-well}
 use Rattle.node_admit.specs.declared.Expiry.the-variants.{At}
 use Rattle.node_header.specs.declared.Node.{Node}
 use Rattle.node_header.specs.View.{Stores, viewNode, used}
 use Rattle.node_header.specs.Formed.{lentNode, slotsFit}
-use Rattle.node_header.specs.Answers.{told}
-use Rattle.node_lent.specs.Lend.{Lot, storeOf, keptStore, placeOf, lentAt, lentFor, slotOf, Lends, Whole}
+use Rattle.node_header.specs.Answers.{answeredAs}
+use Rattle.node_lent.specs.Lend.{LentStore, storeOf, heldRowStore, placeOf, lentAt, lentFor, slotOf, Lends, Whole}
 use Rattle.node_write.specs.declared.WriteReply.the-variants as C
 use Rattle.node_write.specs.ClientWrites.{writeWord, WriteNames, WriteSlot, SameWrite, WritesAt}
 use Rattle.thm_one_node.proofs.Map.{key}
@@ -36,19 +36,19 @@ abbrev pub header : (stored last : ℕ) → Node
 header stored last = leads (At 100) stored last
 
 -- what columns are read as
-pub record Reads (a : Lot) (stored last : ℕ) (l : Log) (v : Vectors) : Type 0 where
+pub record Reads (a : LentStore) (stored last : ℕ) (l : Log) (v : Vectors) : Type 0 where
   pub log : logOf (a .columns) last ≡ l
   pub vectors : vectorsOf (logOf (a .columns) last) (rowsOf (a .keys) (a .places) stored) ≡ v
   pub fits : lentFits (storeOf a (kept stored last)) ≡ true
 
 -- a header over stores with the columns in slot 0
-pub view-of : (s : Stores) (a : Lot) (stored last : ℕ) (l : Log) (v : Vectors) → Reads a stored last l v → Lends s 0 a → viewNode s (header stored last) ≡ read l v
+pub view-of : (s : Stores) (a : LentStore) (stored last : ℕ) (l : Log) (v : Vectors) → Reads a stored last l v → Lends s 0 a → viewNode s (header stored last) ≡ read l v
 view-of s a stored last l v r d = rw (d .log last ∙ r .log, d .vectors last stored ∙ r .vectors) refl
 
 -- it passes the test of a lent state (24)
-module _ (stored last : ℕ) (a : Lot) (well : lentFits (storeOf a (kept stored last)) ≡ true) where
+module _ (stored last : ℕ) (a : LentStore) (well : lentFits (storeOf a (kept stored last)) ≡ true) where
   store-lent : lentAt (header stored last) a (placeOf (header stored last) key) ≡ true
-  unfolding opened lentAt keptStore
+  unfolding opened lentAt heldRowStore
   store-lent = well
 
   pub lent : (s : Stores) → lentNode s (header stored last) ≡ true → lentFor s (header stored last) a key ≡ true
@@ -56,10 +56,10 @@ module _ (stored last : ℕ) (a : Lot) (well : lentFits (storeOf a (kept stored 
   lent s formed =
       let n = header stored last in and-true (lentNode s n) (lentAt n a (placeOf n key)) formed store-lent
 
-module _ (m : List ℕ) (op : WireOp) (decoded : message.decodeWrite m ≡ some (asks op)) (s₁ n₁ s₂ n₂ : ℕ) (a b : Lot) (l₁ l₂ : Log) (v₁ v₂ : Vectors)
+module _ (m : List ℕ) (op : WireOp) (decoded : message.decodeWrite m ≡ some (asks op)) (s₁ n₁ s₂ n₂ : ℕ) (a b : LentStore) (l₁ l₂ : Log) (v₁ v₂ : Vectors)
     (before : Reads a s₁ n₁ l₁ v₁) (after : Reads b s₂ n₂ l₂ v₂) (formed : (s : Stores) → lentNode s (header s₁ n₁) ≡ true)
     (taken : (t : Key → Bool) → t key ≡ true
-    → record { answer = C.Accepted (record { 0 = n₂ }); node = read l₂ v₂ } ≡ told writeWord (writeWith t (read l₁ v₁) 5 1 m)) where
+    → record { answer = C.Accepted (record { 0 = n₂ }); node = read l₂ v₂ } ≡ answeredAs writeWord (writeWith t (read l₁ v₁) 5 1 m)) where
   abbrev accepted : C.the-data
   accepted = C.Accepted (record { 0 = n₂ })
 
@@ -91,7 +91,7 @@ module _ (m : List ℕ) (op : WireOp) (decoded : message.decodeWrite m ≡ some 
   call = record {
     same = same;
     kept = λ e. not-both false e refl;
-    seats = refl;
+    slotsAre = refl;
     slots = λ e. slots-after;
     whole = λ e. whole;
     count = refl;

@@ -26,8 +26,8 @@ use Rattle.log_store.specs.Store.{wellFormedStore, everyBelow, sameRows}
 use Rattle.log_calls.specs.Fits.{sized, lentFits}
 use Rattle.node_header.specs.View.{Stores}
 use Rattle.node_header.specs.Formed.{lentNode, slotsFit, countsFit}
-use Rattle.node_header.specs.Answers.{told}
-use Rattle.node_lent.specs.Lend.{Lot, lot, slotOf}
+use Rattle.node_header.specs.Answers.{answeredAs}
+use Rattle.node_lent.specs.Lend.{LentStore, lentStore, slotOf}
 use Rattle.node_write.specs.declared.WriteAnswer.{WriteAnswer}
 use Rattle.node_write.specs.declared.WriteReply.{WriteReply}
 use Rattle.node_write.specs.declared.WriteReply.the-variants as C
@@ -91,23 +91,23 @@ pair v w = set (first v) 1 w
 abbrev floats : List Float
 floats = set (replicate 32768 (floatOf 0)) 0 one
 
-unfoldable pub after-x : Lot
-after-x = lot (first 1) (first 1) (first 41) (first 1) (first 1) floats (first 41) (first 1)
+unfoldable pub after-x : LentStore
+after-x = lentStore (first 1) (first 1) (first 41) (first 1) (first 1) floats (first 41) (first 1)
 
-unfoldable pub after-y : Lot
-after-y = lot (first 1) (first 1) (first 7) (first 1) (first 1) floats (first 7) (first 1)
+unfoldable pub after-y : LentStore
+after-y = lentStore (first 1) (first 1) (first 7) (first 1) (first 1) floats (first 7) (first 1)
 
-unfoldable pub after-z : Lot
-after-z = lot (first 1) (first 1) (first 41) (first 2) (first 0) (replicate 32768 (floatOf 0)) (first 0) (first 0)
+unfoldable pub after-z : LentStore
+after-z = lentStore (first 1) (first 1) (first 41) (first 2) (first 0) (replicate 32768 (floatOf 0)) (first 0) (first 0)
 
-unfoldable pub after-x-y : Lot
-after-x-y = lot (pair 1 1) (pair 1 2) (pair 41 7) (pair 1 1) (pair 1 1) (set floats 32 one) (pair 7 41) (pair 2 1)
+unfoldable pub after-x-y : LentStore
+after-x-y = lentStore (pair 1 1) (pair 1 2) (pair 41 7) (pair 1 1) (pair 1 1) (set floats 32 one) (pair 7 41) (pair 2 1)
 
-unfoldable pub after-y-x : Lot
-after-y-x = lot (pair 1 1) (pair 1 2) (pair 7 41) (pair 1 1) (pair 1 1) (set floats 32 one) (pair 7 41) (pair 1 2)
+unfoldable pub after-y-x : LentStore
+after-y-x = lentStore (pair 1 1) (pair 1 2) (pair 7 41) (pair 1 1) (pair 1 1) (set floats 32 one) (pair 7 41) (pair 1 2)
 
-unfoldable pub after-x-z : Lot
-after-x-z = lot (pair 1 1) (pair 1 2) (pair 41 41) (pair 1 2) (pair 1 0) floats (first 41) (first 1)
+unfoldable pub after-x-z : LentStore
+after-x-z = lentStore (pair 1 1) (pair 1 2) (pair 41 41) (pair 1 2) (pair 1 0) floats (first 41) (first 1)
 
 -- ---- what they are read as
 
@@ -166,7 +166,7 @@ answers stored last = record { answer = accepted last; node = header stored last
 -- what the definition does of the message m
 abbrev pub Does : (m : List ℕ) (l₁ l₂ : Log) (v₁ v₂ : Vectors) (last : ℕ) → Type 0
 Does m l₁ l₂ v₁ v₂ last =
-    (t : Key → Bool) → t key ≡ true → record { answer = accepted last; node = read l₂ v₂ } ≡ told writeWord (writeWith t (read l₁ v₁) 5 1 m)
+    (t : Key → Bool) → t key ≡ true → record { answer = accepted last; node = read l₂ v₂ } ≡ answeredAs writeWord (writeWith t (read l₁ v₁) 5 1 m)
 
 pub does-x : Does x [] (entry 1 (sets 41) ∷ []) [] (row 41 ∷ []) 1
 unfolding opened x fits
@@ -218,10 +218,10 @@ call-x-z =
 
 -- ---- what the host owns: the columns of slot 0 are the shard's
 
-abbrev node : (stored last : ℕ) → (ℕ → Lot) → Owned
-node stored last lots = record { header = header stored last; lots = lots }
+abbrev node : (stored last : ℕ) → (ℕ → LentStore) → Owned
+node stored last lentStores = record { header = header stored last; lentStores = lentStores }
 
-abbrev empty : ℕ → Lot
+abbrev empty : ℕ → LentStore
 empty slot = before
 
 unfoldable pub now : Moment
@@ -238,8 +238,8 @@ named stored last m op decoded v d =
 abbrev start : Owned
 start = node 0 0 empty
 
-abbrev then : Owned → (stored last : ℕ) → Lot → Owned
-then u stored last left = node stored last (at (u .lots) 0 left)
+abbrev then : Owned → (stored last : ℕ) → LentStore → Owned
+then u stored last left = node stored last (at (u .lentStores) 0 left)
 
 abbrev pub node-x : Owned
 node-x = then start 1 1 after-x
@@ -250,7 +250,7 @@ write-x = record {
   slot = 0;
   left = after-x;
   count = 0;
-  told = answers 1 1;
+  answeredAs = answers 1 1;
   named = named 0 0 x (wireUpsert 41 ones) read-x;
   call = call-x;
   reply = refl;
@@ -266,7 +266,7 @@ write-y = record {
   slot = 0;
   left = after-y;
   count = 0;
-  told = answers 1 1;
+  answeredAs = answers 1 1;
   named = named 0 0 y (wireUpsert 7 ones) read-y;
   call = call-y;
   reply = refl;
@@ -282,7 +282,7 @@ write-z = record {
   slot = 0;
   left = after-z;
   count = 0;
-  told = answers 0 1;
+  answeredAs = answers 0 1;
   named = named 0 0 z (wireDelete 41) read-z;
   call = call-z;
   reply = refl;
@@ -298,7 +298,7 @@ write-x-y = record {
   slot = 0;
   left = after-x-y;
   count = 0;
-  told = answers 2 2;
+  answeredAs = answers 2 2;
   named = named 1 1 y (wireUpsert 7 ones) read-y;
   call = call-x-y;
   reply = refl;
@@ -317,7 +317,7 @@ write-y-x = record {
   slot = 0;
   left = after-y-x;
   count = 0;
-  told = answers 2 2;
+  answeredAs = answers 2 2;
   named = named 1 1 x (wireUpsert 41 ones) read-x;
   call = call-y-x;
   reply = refl;
@@ -336,7 +336,7 @@ write-x-z = record {
   slot = 0;
   left = after-x-z;
   count = 0;
-  told = answers 0 2;
+  answeredAs = answers 0 2;
   named = named 1 1 z (wireDelete 41) read-z;
   call = call-x-z;
   reply = refl;

@@ -1,7 +1,7 @@
-pub mod OfNode
-pub mod OfSearch
+pub mod Node
+pub mod Search
 pub mod Turns
-pub mod OfWrites
+pub mod Writes
 pub mod Order
 pub mod Calls
 pub mod Instance

@@ -14,18 +14,18 @@ use Rattle.spec.specs.Node.Wire.{storedOp}
 use Rattle.spec.specs.Node.Refused.{countSearch}
 use Rattle.spec.specs.Node.Client as client
 use Rattle.spec_laws.proofs.Log.Edits.{opId}
-use Rattle.node_header.proofs.OfLists.{by-case}
+use Rattle.node_header.proofs.Lists.{by-case}
 use Rattle.node_write.specs.declared.WriteReply.{WriteReply}
 use Rattle.node_write.specs.declared.WriteReply.the-variants as R
 use Rattle.node_write.specs.ClientWrites.{writeWord, numberIn}
-use Rattle.node_search.specs.Searches.{SearchTold, word, filled}
+use Rattle.node_search.specs.Searches.{SearchAnswered, word, filled}
 use Rattle.thm_durable.specs.Engine.{storesOf}
-use Rattle.thm_durable.proofs.Seen.{lots-lend}
+use Rattle.thm_durable.proofs.Seen.{stores-lend}
 use Rattle.thm_order_writes.specs.Editors.{Owned, nodeOf, vectorsAt, logAt, Edit, Moment, Writes, InTurn, SearchedAlike}
-use Rattle.thm_order_writes.proofs.OfNode.{with-lent, with-unlent}
-use Rattle.thm_order_writes.proofs.OfSearch.{Alike, with-alike}
-use Rattle.thm_order_writes.proofs.OfWrites as writes
-use Rattle.thm_order_writes.proofs.OfWrites.{taken, checked}
+use Rattle.thm_order_writes.proofs.Node.{with-lent, with-unlent}
+use Rattle.thm_order_writes.proofs.Search.{Alike, with-alike}
+use Rattle.thm_order_writes.proofs.Writes as writes
+use Rattle.thm_order_writes.proofs.Writes.{taken, checked}
 use Rattle.thm_order_writes.proofs.Turns as turns
 use Rattle.thm_order_writes.proofs.Turns.{Both, alike-vectors, swapped, later, differ, next}
 
@@ -35,14 +35,14 @@ accepted o = R.Accepted (record { 0 = o })
 -- nodes that are the same but for logs, by the contract of Search
 alike-searches : (u v : Owned) → Alike (nodeOf u) (nodeOf v) → SearchedAlike u v
 alike-searches u v a clock m o p₁ p₂ count slot₁ slot₂ r₁ r₂ at₁ at₂ c₁ c₂ f₁ f₂ =
-    let e₁ = c₁ .same (storesOf (u .lots)) slot₁ at₁ (lots-lend (u .lots) slot₁) in
-    let e₂ = c₂ .same (storesOf (v .lots)) slot₂ at₂ (lots-lend (v .lots) slot₂) in
-    ⊎-elim (λ q. absurd (f₁ (ap (λ (z : SearchTold). z .answer) e₁ ∙ ap word q)))
-    (⊎-elim (λ q. absurd (f₂ (ap (λ (z : SearchTold). z .answer) e₂ ∙ ap word q)))
+    let e₁ = c₁ .same (storesOf (u .lentStores)) slot₁ at₁ (stores-lend (u .lentStores) slot₁) in
+    let e₂ = c₂ .same (storesOf (v .lentStores)) slot₂ at₂ (stores-lend (v .lentStores) slot₂) in
+    ⊎-elim (λ q. absurd (f₁ (ap (λ (z : SearchAnswered). z .answer) e₁ ∙ ap word q)))
+    (⊎-elim (λ q. absurd (f₂ (ap (λ (z : SearchAnswered). z .answer) e₂ ∙ ap word q)))
     (λ q. (
-      ap (λ (z : SearchTold). z .answer) e₁ ∙ ap word q ∙ sym (ap (λ (z : SearchTold). z .answer) e₂),
-      ap (λ (z : SearchTold). z .output) e₁ ∙ ap (filled o) q ∙ sym (ap (λ (z : SearchTold). z .output) e₂),
-      ap (λ (z : SearchTold). z .refused) e₁ ∙ ap (countSearch count) q ∙ sym (ap (λ (z : SearchTold). z .refused) e₂),
+      ap (λ (z : SearchAnswered). z .answer) e₁ ∙ ap word q ∙ sym (ap (λ (z : SearchAnswered). z .answer) e₂),
+      ap (λ (z : SearchAnswered). z .output) e₁ ∙ ap (filled o) q ∙ sym (ap (λ (z : SearchAnswered). z .output) e₂),
+      ap (λ (z : SearchAnswered). z .refused) e₁ ∙ ap (countSearch count) q ∙ sym (ap (λ (z : SearchAnswered). z .refused) e₂),
     )))
     (with-alike _ _ (nodeOf u) (nodeOf v) a clock _ m)
 

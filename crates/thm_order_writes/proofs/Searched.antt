@@ -17,10 +17,10 @@ use Rattle.spec_run.specs.State.{at}
 use Rattle.spec_run.proofs.Cases.Opened.{opened}
 use Rattle.node_header.specs.View.{Stores}
 use Rattle.node_header.specs.Formed.{lentNode, slotsFit, countsFit}
-use Rattle.node_lent.specs.Lend.{Lot, slotOf, lentFor, Lends}
+use Rattle.node_lent.specs.Lend.{LentStore, slotOf, lentFor, Lends}
 use Rattle.node_search.specs.declared.SearchAnswer.the-variants as S
 use Rattle.node_search.specs.declared.NodeSearched.{NodeSearched}
-use Rattle.node_search.specs.Searches.{Output, output, turnedDown, searchTold, SearchSlot, SearchesAt}
+use Rattle.node_search.specs.Searches.{Output, output, turnedDown, searchAnswered, SearchSlot, SearchesAt}
 use Rattle.thm_one_node.proofs.Map.{key}
 use Rattle.thm_one_node.proofs.Write.{read}
 use Rattle.thm_order_writes.proofs.Calls.{header, Reads, view-of, lent}
@@ -56,11 +56,11 @@ abbrev pub vectors : Vectors
 vectors = row 7 ∷ row 41 ∷ []
 
 does : (t : Key → Bool) (l : Log) → t key ≡ true
-    → record { answer = S.Found 1; output = filled; refused = 0; node = read l vectors } ≡ searchTold room 0 (searchWith t (read l vectors) 5 1 bytes)
+    → record { answer = S.Found 1; output = filled; refused = 0; node = read l vectors } ≡ searchAnswered room 0 (searchWith t (read l vectors) 5 1 bytes)
 unfolding opened bytes fits
 does t l e = rw e refl
 
-pub search : (a : Lot) (l : Log) → Reads a 2 2 l vectors → SearchesAt (header 2 2) a bytes 5 room filled 0 said
+pub search : (a : LentStore) (l : Log) → Reads a 2 2 l vectors → SearchesAt (header 2 2) a bytes 5 room filled 0 said
 unfolding refused.counted
 search a l r = record {
   same = λ s slot w d.

@@ -16,10 +16,10 @@ use Rattle.spec_laws.proofs.Lists.{some-same}
 use Rattle.spec_laws.proofs.Log.Play.{InStep}
 use Rattle.spec_laws.proofs.Log.Edits.{opId, swap-appends, later-append, appends-differ}
 use Rattle.spec_laws.proofs.Map.Orders.{same-key}
-use Rattle.node_header.proofs.OfLists.{by-case}
+use Rattle.node_header.proofs.Lists.{by-case}
 use Rattle.thm_order_writes.specs.Editors.{vectorsIn, logIn}
-use Rattle.thm_order_writes.proofs.OfNode.{Appended, Admits, longer, admits-after, on-admitted}
-use Rattle.thm_order_writes.proofs.OfSearch.{bare, unlogged, Alike}
+use Rattle.thm_order_writes.proofs.Node.{Appended, Admits, longer, admits-after, on-admitted}
+use Rattle.thm_order_writes.proofs.Search.{bare, unlogged, Alike}
 
 -- ---- nodes that are the same but for logs
 

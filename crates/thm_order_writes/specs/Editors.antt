@@ -13,7 +13,7 @@ use Rattle.spec.specs.Node.Shards.{heldShard}
 use Rattle.spec_run.specs.State.{at}
 use Rattle.node_header.specs.declared.Node.{Node}
 use Rattle.node_header.specs.View.{viewNode}
-use Rattle.node_lent.specs.Lend.{Lot}
+use Rattle.node_lent.specs.Lend.{LentStore}
 use Rattle.node_write.specs.declared.WriteReply.{WriteReply}
 use Rattle.node_write.specs.declared.WriteAnswer.{WriteAnswer}
 use Rattle.node_write.specs.ClientWrites.{WriteSlot, WritesAt}
@@ -27,11 +27,11 @@ use Rattle.thm_durable.specs.Engine.{storesOf}
 -- what its host owns: the header, and the columns of each slot
 pub record Owned : Type 0 where
   pub header : Node
-  pub lots : ℕ → Lot
+  pub lentStores : ℕ → LentStore
 
 -- what that is read as
 abbrev pub nodeOf : Owned → held.Node
-nodeOf u = viewNode (storesOf (u .lots)) (u .header)
+nodeOf u = viewNode (storesOf (u .lentStores)) (u .header)
 
 -- the vectors and the log of the shard of a key, if it is held
 abbrev pub vectorsIn : Option held.Held → Option Vectors
@@ -65,13 +65,13 @@ pub record Moment : Type 0 where
 -- `node_write::write`, lent the columns of the named shard's slot and any count of refused calls, left v and replied w
 pub record Writes (u : Owned) (c : Moment) (m : List ℕ) (v : Owned) (w : WriteReply) : Type 0 where
   pub slot : ℕ
-  pub left : Lot
+  pub left : LentStore
   pub count : ℕ
   pub told : WriteAnswer
   pub named : WriteSlot (u .header) m slot
-  pub call : WritesAt (u .header) (u .lots slot) left (c .clock) (c .least) m count told
+  pub call : WritesAt (u .header) (u .lentStores slot) left (c .clock) (c .least) m count told
   pub reply : told .answer ≡ w
-  pub leaves : v ≡ record { header = told .node; lots = at (u .lots) slot left }
+  pub leaves : v ≡ record { header = told .node; lentStores = at (u .lentStores) slot left }
 
 -- two of them, one after the other, with what each replied
 pub record InTurn (u : Owned) (c d : Moment) (x y : List ℕ) (v : Owned) (first second : WriteReply) : Type 0 where
@@ -87,7 +87,7 @@ abbrev pub SearchedAlike : Owned → Owned → Type 0
 SearchedAlike u v =
     (clock : ℕ) (m : List ℕ) (o p₁ p₂ : Output) (count slot₁ slot₂ : ℕ) (r₁ r₂ : NodeSearched)
     → SearchSlot (u .header) m slot₁ → SearchSlot (v .header) m slot₂
-    → SearchesAt (u .header) (u .lots slot₁) m clock o p₁ count r₁
-    → SearchesAt (v .header) (v .lots slot₂) m clock o p₂ count r₂
+    → SearchesAt (u .header) (u .lentStores slot₁) m clock o p₁ count r₁
+    → SearchesAt (v .header) (v .lentStores slot₂) m clock o p₂ count r₂
     → (r₁ .answer ≡ S.Refused 24 → ⊥) → (r₂ .answer ≡ S.Refused 24 → ⊥)
     → (r₁ .answer ≡ r₂ .answer) × (p₁ ≡ p₂) × (r₁ .refused ≡ r₂ .refused)

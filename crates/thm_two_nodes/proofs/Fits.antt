@@ -6,7 +6,7 @@ use mathlib.Core.Bool.{Bool, true, false}
 use Rattle.node_admit.specs.declared.Expiry.{Expiry}
 use Rattle.image_header_row.specs.Rows.{expiryTime}
 use Rattle.image_header.proofs.Back.{Fits}
-use Rattle.image_header.proofs.OfTidy.{KeptFits}
+use Rattle.image_header.proofs.Tidy.{HeldRowFits}
 use Rattle.thm_one_node.proofs.Fits.{all-same}
 use Rattle.thm_two_nodes.proofs.Headers.{row, leading, following, kept, leads, follows}
 
@@ -18,7 +18,7 @@ abbrev Row : (((ℕ × ℕ) × ℕ) × ℕ) × ℕ → Type 0
 Row x = ((((x .0 .0 .0 .0 < 256 ^ 8) × (x .0 .0 .0 .1 < 256 ^ 8)) × (x .0 .0 .1 < 256 ^ 8)) × (x .0 .1 < 256 ^ 4)) × (x .1 < 256 ^ 4)
 
 leading-fits : (stored last acked : ℕ) (aligned : Bool) → stored < 256 ^ 8 → last < 256 ^ 8 → acked < 256 ^ 8
-    → KeptFits (kept stored (leading last (row acked aligned)))
+    → HeldRowFits (kept stored (leading last (row acked aligned)))
 leading-fits stored last acked true a b c = (
   (
     (
@@ -58,7 +58,7 @@ leading-fits stored last acked false a b c = (
   ),
 )
 
-following-fits : (epoch stored last : ℕ) → epoch < 256 ^ 8 → stored < 256 ^ 8 → last < 256 ^ 8 → KeptFits (kept stored (following epoch last))
+following-fits : (epoch stored last : ℕ) → epoch < 256 ^ 8 → stored < 256 ^ 8 → last < 256 ^ 8 → HeldRowFits (kept stored (following epoch last))
 following-fits epoch stored last a b c = (
   (
     (

@@ -20,7 +20,7 @@ use Rattle.node_header.specs.declared.GrantAnswer.the-variants as G
 use Rattle.node_header.specs.Answers.{GrantsNode, WaitsNode}
 use Rattle.node_header.specs.Arrays.{arraysFit}
 use Rattle.node_header.specs.Formed.{lentNode, slotsFit, countsFit}
-use Rattle.node_header.specs.Seats.{Keeps}
+use Rattle.node_header.specs.Slots.{Keeps}
 use Rattle.node_hear.specs.Hears.{HearsReply}
 use Rattle.image_header.specs.Image.{lentHeader}
 use Rattle.wire_write.specs.Written.{textFits}
@@ -28,9 +28,9 @@ use Rattle.calls_parts.specs.Answer.{numberPut}
 use Rattle.calls_header.specs.Grants.{Grants}
 use Rattle.calls_header.specs.Acks.{Acks}
 use Rattle.calls_header.specs.Waits.{idBytes, RowsPut, WaitPut, Waits}
-use Rattle.calls_header.proofs.OfAsked.{asked-called}
-use Rattle.calls_header.proofs.OfCalls.{grants-image, acks-image, waits-image}
-use Rattle.calls_header.proofs.OfWaits.{all-put, waited-as}
+use Rattle.calls_header.proofs.Asked.{asked-called}
+use Rattle.calls_header.proofs.Calls.{grants-image, acks-image, waits-image}
+use Rattle.calls_header.proofs.Waits.{all-put, waited-as}
 use Rattle.thm_one_node.specs.Images.{room}
 use Rattle.thm_one_node.proofs.Map.{key}
 use Rattle.thm_one_node.proofs.Headers.{node}
@@ -49,7 +49,7 @@ grants-node = λ s. rw (s .long 0 0) refl
 
 grant-keeps : Keeps (leads Never 0 0 0 false) (leads (At 100) 0 0 0 false)
 unfolding opened arraysFit slotsFit countsFit
-grant-keeps = record { fits = λ e. refl; seats = refl }
+grant-keeps = record { fits = λ e. refl; slotsAre = refl }
 
 is-shown : record { found = true; node = leads Never 0 0 0 false } ≡ lentHeader shown
 is-shown = rw (lent-shown, read-shown)
@@ -78,7 +78,7 @@ aligns-node = λ s. rw (s .long 0 1) refl
 
 align-keeps : Keeps (leads (At 100) 1 1 0 false) (leads (At 100) 1 1 0 true)
 unfolding opened arraysFit slotsFit countsFit
-align-keeps = record { fits = λ e. refl; seats = refl }
+align-keeps = record { fits = λ e. refl; slotsAre = refl }
 
 is-written : record { found = true; node = leads (At 100) 1 1 0 false } ≡ lentHeader written
 is-written = rw (lent-written, read-written)
@@ -100,7 +100,7 @@ acks-node = λ s. rw (s .long 0 1) refl
 
 ack-keeps : Keeps (leads (At 100) 1 1 0 true) (leads (At 100) 1 1 1 true)
 unfolding opened arraysFit slotsFit countsFit
-ack-keeps = record { fits = λ e. refl; seats = refl }
+ack-keeps = record { fits = λ e. refl; slotsAre = refl }
 
 is-aligned : record { found = true; node = leads (At 100) 1 1 0 true } ≡ lentHeader aligned
 is-aligned = rw (lent-aligned, read-aligned)
@@ -123,7 +123,7 @@ unfolding opened lentNode slotsFit countsFit
 done = λ s. rw (s .long 0 1) refl
 
 wait-keeps : Keeps (leads (At 100) 1 1 1 true) (leads (At 100) 1 1 1 true)
-wait-keeps = record { fits = λ e. e; seats = refl }
+wait-keeps = record { fits = λ e. e; slotsAre = refl }
 
 none-put : room ≡ numberPut room 0
 unfolding numberPut

@@ -14,7 +14,7 @@ use Rattle.spec_run.proofs.Simulation.Client.{are-bytes}
 use Rattle.node_shard.specs.declared.Held.{Held}
 use Rattle.node_admit.specs.declared.Expiry.{Expiry}
 use Rattle.node_admit.specs.declared.Expiry.the-variants.{Never, At}
-use Rattle.node_header.specs.declared.Kept.{Kept}
+use Rattle.node_header.specs.declared.HeldRow.{HeldRow}
 use Rattle.node_header.specs.declared.Node.{Node}
 use Rattle.image_parts.specs.Shape as shape
 use Rattle.image_parts.specs.Parts as parts
@@ -70,16 +70,16 @@ following epoch last = record {
 }
 
 -- the shard with its rows, and a node with it, in the slot 0
-abbrev pub kept : (stored : ℕ) → Held → Kept
+abbrev pub kept : (stored : ℕ) → Held → HeldRow
 kept stored h = record { key = key; slot = 0; stored = stored; held = h }
 
-abbrev with : (id : ℕ) → Expiry → Kept → Node
+abbrev with : (id : ℕ) → Expiry → HeldRow → Node
 with id e x = record {
   id = node id;
   incarnation = 4;
   expiry = e;
   version = 3;
-  held = x ∷ replicate 7 image.noKept;
+  held = x ∷ replicate 7 image.noHeldRow;
   count = 1;
 }
 
@@ -94,35 +94,35 @@ unfolding newSecond nodeAt image.noNode shape.rowsAt
 read-new = refl
 
 pub read-shown : nodeAt shown ≡ leads Never 0 0 0 false
-unfolding opened first nodeAt shape.rowsAt rows.keptAt
+unfolding opened first nodeAt shape.rowsAt rows.heldRowAt
 read-shown = refl
 
 pub read-leased : nodeAt leased ≡ leads (At 100) 0 0 0 false
-unfolding opened first nodeAt shape.rowsAt rows.keptAt
+unfolding opened first nodeAt shape.rowsAt rows.heldRowAt
 read-leased = refl
 
 pub read-written : nodeAt written ≡ leads (At 100) 1 1 0 false
-unfolding opened first nodeAt shape.rowsAt rows.keptAt
+unfolding opened first nodeAt shape.rowsAt rows.heldRowAt
 read-written = refl
 
 pub read-aligned : nodeAt aligned ≡ leads (At 100) 1 1 0 true
-unfolding opened first nodeAt shape.rowsAt rows.keptAt
+unfolding opened first nodeAt shape.rowsAt rows.heldRowAt
 read-aligned = refl
 
 pub read-acked : nodeAt acked ≡ leads (At 100) 1 1 1 true
-unfolding opened first nodeAt shape.rowsAt rows.keptAt
+unfolding opened first nodeAt shape.rowsAt rows.heldRowAt
 read-acked = refl
 
 pub read-second : nodeAt shownSecond ≡ follows 0 0 0
-unfolding opened second nodeAt shape.rowsAt rows.keptAt
+unfolding opened second nodeAt shape.rowsAt rows.heldRowAt
 read-second = refl
 
 pub read-adopted : nodeAt adopted ≡ follows 1 0 0
-unfolding opened second nodeAt shape.rowsAt rows.keptAt
+unfolding opened second nodeAt shape.rowsAt rows.heldRowAt
 read-adopted = refl
 
 pub read-holding : nodeAt holding ≡ follows 1 1 1
-unfolding opened second nodeAt shape.rowsAt rows.keptAt
+unfolding opened second nodeAt shape.rowsAt rows.heldRowAt
 read-holding = refl
 
 -- the new one lends a header; the others by what was written (Put)

@@ -9,7 +9,7 @@ use Rattle.spec.specs.declared.Metric.the-variants.{Euclidean}
 use Rattle.spec_laws.proofs.Lists.{some-same}
 use Rattle.spec_run.proofs.Cases.Opened.{opened}
 use Rattle.node_replicate.specs.Peers.{ReplicateNames}
-use Rattle.node_epoch.specs.Announces.{NewEpochNames}
+use Rattle.node_epoch.specs.NewEpochs.{NewEpochNames}
 use Rattle.thm_one_node.proofs.Map.{key}
 
 abbrev pub alignment : message.NewEpoch

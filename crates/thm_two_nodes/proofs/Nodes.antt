@@ -26,9 +26,9 @@ use Rattle.node_header.specs.declared.Node.{Node}
 use Rattle.node_header.specs.View.{Stores, viewNode, used}
 use Rattle.node_header.specs.Formed.{lentNode, slotsFit, countsFit}
 use Rattle.image_store.specs.Read as read
-use Rattle.node_lent.specs.Lend.{Lot, storeIn, keptStore, lentAt, lentFor, slotOf, placeOf}
-use Rattle.image_node.specs.Lent.{holdsKey, keptOf, keptReadable, lotAt, lotIn, lendsState}
-use Rattle.image_node.specs.State.{keptImage, storesIn}
+use Rattle.node_lent.specs.Lend.{LentStore, storeIn, heldRowStore, lentAt, lentFor, slotOf, placeOf}
+use Rattle.image_node.specs.Lent.{holdsKey, heldRowOf, heldRowReadable, lentStoreAt, lentStoreIn, lendsState}
+use Rattle.image_node.specs.State.{heldRowImage, storesIn}
 use Rattle.thm_one_node.specs.Images.{stores}
 use Rattle.thm_one_node.proofs.Map.{key}
 use Rattle.thm_one_node.proofs.Headers.{nil}
@@ -79,24 +79,24 @@ second-one s l v = rw (l, v) refl
 
 -- ---- with the zeroed store
 
-pub leased-lot : lotIn stores (leads (At 100) 0 0 0 false) key ≡ before
-unfolding opened lotAt
-leased-lot = kept-read
+pub leased-lent-store : lentStoreIn stores (leads (At 100) 0 0 0 false) key ≡ before
+unfolding opened lentStoreAt
+leased-lent-store = kept-read
 
-pub second-lot : (epoch : ℕ) → lotIn stores (follows epoch 0 0) key ≡ before
-unfolding opened lotAt
-second-lot epoch = kept-read
+pub second-store : (epoch : ℕ) → lentStoreIn stores (follows epoch 0 0) key ≡ before
+unfolding opened lentStoreAt
+second-store epoch = kept-read
 
 pub lends-leased : lendsState leased stores key ≡ true
-unfolding opened lendsState keptReadable read.allReadable everyBelow
+unfolding opened lendsState heldRowReadable read.allReadable everyBelow
 lends-leased = rw (lent-leased, read-leased, stores-long, le-leb 1392640 1392640 (omega arith)) refl
 
 pub lends-second : lendsState shownSecond stores key ≡ true
-unfolding opened lendsState keptReadable read.allReadable everyBelow
+unfolding opened lendsState heldRowReadable read.allReadable everyBelow
 lends-second = rw (lent-second, read-second, stores-long, le-leb 1392640 1392640 (omega arith)) refl
 
 pub lends-adopted : lendsState adopted stores key ≡ true
-unfolding opened lendsState keptReadable read.allReadable everyBelow
+unfolding opened lendsState heldRowReadable read.allReadable everyBelow
 lends-adopted = rw (lent-adopted, read-adopted, stores-long, le-leb 1392640 1392640 (omega arith)) refl
 
 pub empty-fits : lentFits (storeIn before 0 0) ≡ true
@@ -108,7 +108,7 @@ unfolding opened lentNode slotsFit countsFit
 leased-node s = rw (s .long 0 0) refl
 
 leased-store : let n = leads (At 100) 0 0 0 false in lentAt n before (placeOf n key) ≡ true
-unfolding opened lentAt keptStore
+unfolding opened lentAt heldRowStore
 leased-store = empty-fits
 
 pub first-passes : (s : Stores) → lentFor s (leads (At 100) 0 0 0 false) before key ≡ true
@@ -121,7 +121,7 @@ unfolding opened lentNode slotsFit countsFit
 empty-node s epoch = rw (s .long 0 0) refl
 
 empty-store : (epoch : ℕ) → let n = follows epoch 0 0 in lentAt n before (placeOf n key) ≡ true
-unfolding opened lentAt keptStore
+unfolding opened lentAt heldRowStore
 empty-store epoch = empty-fits
 
 pub second-passes : (s : Stores) (epoch : ℕ) → lentFor s (follows epoch 0 0) before key ≡ true
@@ -139,20 +139,20 @@ second-node : (s : Stores) → lentNode s (follows 1 1 1) ≡ true
 unfolding opened lentNode slotsFit countsFit
 second-node s = rw (s .long 0 1) refl
 
-first-image : (aligned : Bool) → let n = leads (At 100) 1 1 0 aligned in cond (holdsKey n key) (keptImage stored (keptOf n key)) true ≡ true
+first-image : (aligned : Bool) → let n = leads (At 100) 1 1 0 aligned in cond (holdsKey n key) (heldRowImage stored (heldRowOf n key)) true ≡ true
 unfolding opened
 first-image aligned = image-stored
 
-second-image : let n = follows 1 1 1 in cond (holdsKey n key) (keptImage stored (keptOf n key)) true ≡ true
+second-image : let n = follows 1 1 1 in cond (holdsKey n key) (heldRowImage stored (heldRowOf n key)) true ≡ true
 unfolding opened
 second-image = image-stored
 
-pub first-full : (aligned : Bool) → lotIn stored (leads (At 100) 1 1 0 aligned) key ≡ columns
-unfolding opened lotAt
+pub first-full : (aligned : Bool) → lentStoreIn stored (leads (At 100) 1 1 0 aligned) key ≡ columns
+unfolding opened lentStoreAt
 first-full aligned = refl
 
-pub second-full : lotIn stored (follows 1 1 1) key ≡ columns
-unfolding opened lotAt
+pub second-full : lentStoreIn stored (follows 1 1 1) key ≡ columns
+unfolding opened lentStoreAt
 second-full = refl
 
 pub lends-written : lendsState written stored key ≡ true
@@ -166,17 +166,17 @@ lends-holding = lends-stored holding _ lent-holding read-holding second-node sec
 
 pub written-passes : (s : Stores) → lentFor s (leads (At 100) 1 1 0 false) columns key ≡ true
 written-passes s =
-    subst (λ (a : Lot). lentFor s (leads (At 100) 1 1 0 false) a key ≡ true) (first-full false)
+    subst (λ (a : LentStore). lentFor s (leads (At 100) 1 1 0 false) a key ≡ true) (first-full false)
     (passes-stored written _ lent-written read-written (first-node false) (first-image false) s)
 
 pub aligned-passes : (s : Stores) → lentFor s (leads (At 100) 1 1 0 true) columns key ≡ true
 aligned-passes s =
-    subst (λ (a : Lot). lentFor s (leads (At 100) 1 1 0 true) a key ≡ true) (first-full true)
+    subst (λ (a : LentStore). lentFor s (leads (At 100) 1 1 0 true) a key ≡ true) (first-full true)
     (passes-stored aligned _ lent-aligned read-aligned (first-node true) (first-image true) s)
 
 pub holding-passes : (s : Stores) → lentFor s (follows 1 1 1) columns key ≡ true
 holding-passes s =
-    subst (λ (a : Lot). lentFor s (follows 1 1 1) a key ≡ true) second-full
+    subst (λ (a : LentStore). lentFor s (follows 1 1 1) a key ≡ true) second-full
     (passes-stored holding _ lent-holding read-holding second-node second-image s)
 
 -- ---- the store in its slot, and what is left passes the test of a store

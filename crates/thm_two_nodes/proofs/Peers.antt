@@ -18,26 +18,26 @@ use Rattle.spec.specs.Node.Calls as calls
 use Rattle.spec.specs.Node.Wire.{opInDomain}
 use Rattle.spec_laws.proofs.Lists.{none-some, some-same, not-both}
 use Rattle.spec_retained.specs.Retained.{CarriesAll}
-use Rattle.spec_retained.proofs.OfCalls.{replicate-retains, new-epoch-retains}
+use Rattle.spec_retained.proofs.Calls.{replicate-retains, new-epoch-retains}
 use Rattle.spec_run.proofs.Cases.Opened.{opened}
-use Rattle.log_calls.proofs.OfFits.{fits-sized, fits-well}
+use Rattle.log_calls.proofs.FitLaws.{fits-sized, fits-well}
 use Rattle.log_store.specs.View as view
 use Rattle.log_store.specs.Table as table
 use Rattle.node_header.specs.declared.Node.{Node}
 use Rattle.node_header.specs.View.{Stores, viewNode}
-use Rattle.node_header.specs.Seats.{slotsOf}
-use Rattle.node_header.specs.Answers.{told}
-use Rattle.node_lent.specs.Lend.{Lot, placeOf, lentFor, slotOf, Whole}
+use Rattle.node_header.specs.Slots.{slotsOf}
+use Rattle.node_header.specs.Answers.{answeredAs}
+use Rattle.node_lent.specs.Lend.{LentStore, placeOf, lentFor, slotOf, Whole}
 use Rattle.image_node.specs.Lent.{storePut, Writable, Puts, StorePuts}
 use Rattle.image_node.specs.State.{storesIn, stateAt}
-use Rattle.image_node.proofs.OfPut.{puts-kept}
-use Rattle.image_node.proofs.OfBack.{put-log, put-rows}
+use Rattle.image_node.proofs.Put.{puts-kept}
+use Rattle.image_node.proofs.Back.{put-log, put-rows}
 use Rattle.image_store.specs.Image.{logAt, rowsAt}
 use Rattle.image_store.specs.Write as write
 use Rattle.node_replicate.specs.declared.PeerAnswer.{PeerAnswer}
 use Rattle.node_replicate.specs.declared.PeerReply.the-variants as R
-use Rattle.node_replicate.specs.Peers.{word, Seated, ReplicateSlot, ReplicateNames, ReplicatesAt}
-use Rattle.node_epoch.specs.Announces.{NewEpochSlot, NewEpochSeats, NewEpochNames, slotsThen, AnnouncesAt}
+use Rattle.node_replicate.specs.Peers.{word, SlotsGiven, ReplicateSlot, ReplicateNames, ReplicatesAt}
+use Rattle.node_epoch.specs.NewEpochs.{NewEpochSlot, NewEpochSlots, NewEpochNames, slotsThen, NewEpochsAt}
 use Rattle.calls_peer_out.specs.Ends.{Buffers, ended, endedAs}
 use Rattle.calls_peer.specs.PeerCalls.{buffers, replicates, announces, AtShard, ReplicatesImage, AnnouncesImage}
 use Rattle.thm_one_node.specs.Images.{stores}
@@ -49,7 +49,7 @@ use Rattle.thm_one_node.proofs.Stored.{columns, columns-log, columns-rows, log-
 use Rattle.thm_two_nodes.specs.Images.{shownSecond, adopted, holding, reply}
 use Rattle.thm_two_nodes.proofs.Headers.{kept, following, follows, read-second, read-adopted, read-holding}
 use Rattle.thm_two_nodes.proofs.Put.{header-adopted, header-holding, header-kept}
-use Rattle.thm_two_nodes.proofs.Nodes.{second, second-empty, second-one, second-lot, second-full, second-slot, second-slots, second-passes, holding-passes, lends-second, lends-adopted, lends-holding, empty-fits, one-fits}
+use Rattle.thm_two_nodes.proofs.Nodes.{second, second-empty, second-one, second-store, second-full, second-slot, second-slots, second-passes, holding-passes, lends-second, lends-adopted, lends-holding, empty-fits, one-fits}
 use Rattle.thm_two_nodes.proofs.Messages.{alignment, alignBytes, align-decoded, align-names, lone, entryBytes, entry-decoded, entry-names}
 use Rattle.thm_two_nodes.proofs.Served.{Facts, at-shard}
 
@@ -61,10 +61,10 @@ align-slot epoch stored last slot w = w alignment align-decoded ∙ second-slot 
 align-own : (epoch stored last : ℕ) → NewEpochSlot (follows epoch stored last) alignBytes (slotOf (follows epoch stored last) key)
 align-own epoch stored last v e = ap (slotOf (follows epoch stored last)) (align-names v e)
 
-align-seats : (epoch stored last offset : ℕ)
-    → NewEpochSeats (follows epoch stored last) alignBytes (R.Adopted (record { 0 = offset })) (follows 1 stored last)
+align-slots : (epoch stored last offset : ℕ)
+    → NewEpochSlots (follows epoch stored last) alignBytes (R.Adopted (record { 0 = offset })) (follows 1 stored last)
 unfolding opened slotsThen
-align-seats epoch stored last offset k named =
+align-slots epoch stored last offset k named =
     subst (λ (z : Key). slotsOf (follows 1 stored last) ≡ slotsThen (follows epoch stored last) z (R.Adopted (record { 0 = offset })))
     (sym (named alignment align-decoded)) refl
 
@@ -83,7 +83,7 @@ abbrev adopting : PeerAnswer
 adopting = record { answer = R.Adopted (record { 0 = 0 }); node = follows 1 0 0 }
 
 adopts : (s : Stores)
-    → record { answer = R.Adopted (record { 0 = 0 }); node = second 1 [] [] } ≡ told word (calls.newEpochWith (lentFor s (follows 0 0 0) before) (second 0 [] []) alignBytes)
+    → record { answer = R.Adopted (record { 0 = 0 }); node = second 1 [] [] } ≡ answeredAs word (calls.newEpochWith (lentFor s (follows 0 0 0) before) (second 0 [] []) alignBytes)
 unfolding opened alignBytes
 adopts s = rw (second-passes s 0) refl
 
@@ -91,14 +91,14 @@ empty-whole : Whole (follows 0 0 0) (follows 1 0 0) before key
 unfolding opened
 empty-whole e = (fits-sized _ empty-fits, fits-well _ empty-fits)
 
-adopts-at : AnnouncesAt (follows 0 0 0) before before alignBytes adopting
+adopts-at : NewEpochsAt (follows 0 0 0) before before alignBytes adopting
 adopts-at = record {
   same = λ s t slot w c.
       ap (λ (x : held.Node). record { answer = R.Adopted (record { 0 = 0 }); node = x }) (second-empty t 1)
       ∙ adopts s
-      ∙ ap (λ (x : held.Node). told word (calls.newEpochWith (lentFor s (follows 0 0 0) before) x alignBytes)) (sym (second-empty s 0));
+      ∙ ap (λ (x : held.Node). answeredAs word (calls.newEpochWith (lentFor s (follows 0 0 0) before) x alignBytes)) (sym (second-empty s 0));
   kept = λ e. not-both false e refl;
-  seats = align-seats 0 0 0 0;
+  slotsAre = align-slots 0 0 0 0;
   slots = λ e. second-slots 1 0 0;
   whole = λ e k named. subst (Whole (follows 0 0 0) (follows 1 0 0) before) (sym (named alignment align-decoded)) empty-whole;
 }
@@ -110,22 +110,22 @@ empty-puts = record { image = refl; fits = record { log = tt; rows = tt } }
 adopt-puts : Puts shownSecond adopted stores stores (follows 0 0 0) (follows 1 0 0) before 0
 adopt-puts = puts-kept shownSecond adopted stores stores (follows 0 0 0) (follows 1 0 0) before 0 header-adopted (omega arith) empty-puts
 
-adopt-facts : Facts announces NewEpochSlot NewEpochNames NewEpochSeats alignBytes shownSecond stores adopted stores before adopting (follows 0 0 0)
+adopt-facts : Facts announces NewEpochSlot NewEpochNames NewEpochSlots alignBytes shownSecond stores adopted stores before adopting (follows 0 0 0)
 adopt-facts = record {
-  called = subst (λ (x : Lot). AnnouncesAt (follows 0 0 0) x before alignBytes adopting) (sym (second-lot 0)) adopts-at;
+  called = subst (λ (x : LentStore). NewEpochsAt (follows 0 0 0) x before alignBytes adopting) (sym (second-store 0)) adopts-at;
   slot = align-own 0 0 0;
-  passes = λ z. subst (λ (x : Lot). lentFor z (follows 0 0 0) x key ≡ true) (sym (second-lot 0)) (second-passes z 0);
-  seats = refl;
+  passes = λ z. subst (λ (x : LentStore). lentFor z (follows 0 0 0) x key ≡ true) (sym (second-store 0)) (second-passes z 0);
+  slotsAre = refl;
   puts = subst (λ (i : ℕ). Puts shownSecond adopted stores stores (follows 0 0 0) (follows 1 0 0) before i) (sym (at-zero 0 0 0)) adopt-puts;
 }
 
 -- ---- a message that is read names the shard
 
-aligned-by : (b c : Buffers) → AtShard AnnouncesAt announces key alignBytes b c 0 → AnnouncesImage alignBytes b c 0
+aligned-by : (b c : Buffers) → AtShard NewEpochsAt announces key alignBytes b c 0 → AnnouncesImage alignBytes b c 0
 aligned-by b c d = record {
   undecoded = λ e. none-some (sym e ∙ align-decoded);
   outside = λ v e z. not-both true refl z;
-  inside = λ v e z. subst (λ (k : Key). AtShard AnnouncesAt announces k alignBytes b c 0) (align-names v e) d;
+  inside = λ v e z. subst (λ (k : Key). AtShard NewEpochsAt announces k alignBytes b c 0) (align-names v e) d;
 }
 
 unfoldable pub adoptReply : List ℕ
@@ -138,7 +138,7 @@ adopt-ends = refl
 pub announces-first : AnnouncesImage alignBytes (buffers shownSecond stores reply) (buffers adopted stores adoptReply) 0
 announces-first =
     aligned-by _ _
-    (at-shard announces NewEpochSlot NewEpochNames NewEpochSeats alignBytes shownSecond stores reply adopted stores adoptReply before adopting (follows 0 0 0)
+    (at-shard announces NewEpochSlot NewEpochNames NewEpochSlots alignBytes shownSecond stores reply adopted stores adoptReply before adopting (follows 0 0 0)
     read-second lends-second stores-bytes align-names refl (second-slots 1 0 0) align-carries adopt-facts adopt-ends)
 
 -- ---- the entry
@@ -148,7 +148,7 @@ storing = record { answer = R.Stored (record { 0 = 1 }); node = follows 1 1 1 }
 
 stores-one : (s : Stores)
     → record { answer = R.Stored (record { 0 = 1 }); node = second 1 (entry ∷ []) vectors }
-    ≡ told word (calls.replicateWith (lentFor s (follows 1 0 0) before) (second 1 [] []) entryBytes)
+    ≡ answeredAs word (calls.replicateWith (lentFor s (follows 1 0 0) before) (second 1 [] []) entryBytes)
 unfolding opened entryBytes fits
 stores-one s = rw (second-passes s 1) refl
 
@@ -163,9 +163,9 @@ stores-at = record {
       ap (λ (x : held.Node). record { answer = R.Stored (record { 0 = 1 }); node = x })
       (second-one t (log-lent after log-after rows-after t slot z (c .after)) (vectors-lent after log-after rows-after t slot z (c .after)))
       ∙ stores-one s
-      ∙ ap (λ (x : held.Node). told word (calls.replicateWith (lentFor s (follows 1 0 0) before) x entryBytes)) (sym (second-empty s 1));
+      ∙ ap (λ (x : held.Node). answeredAs word (calls.replicateWith (lentFor s (follows 1 0 0) before) x entryBytes)) (sym (second-empty s 1));
   kept = λ e. not-both false e refl;
-  seats = refl;
+  slotsAre = refl;
   slots = λ e. second-slots 1 1 1;
   whole = λ e k named. subst (Whole (follows 1 0 0) (follows 1 1 1) after) (sym (named lone entry-decoded)) one-whole;
 }
@@ -177,12 +177,12 @@ one-puts = record { image = is-put; fits = record { log = puts .fits .log; rows 
 store-puts : Puts adopted holding stores stored (follows 1 0 0) (follows 1 1 1) after 0
 store-puts = puts-kept adopted holding stores stored (follows 1 0 0) (follows 1 1 1) after 0 header-holding (omega arith) one-puts
 
-store-facts : Facts replicates ReplicateSlot ReplicateNames (λ n m. Seated n) entryBytes adopted stores holding stored after storing (follows 1 0 0)
+store-facts : Facts replicates ReplicateSlot ReplicateNames (λ n m. SlotsGiven n) entryBytes adopted stores holding stored after storing (follows 1 0 0)
 store-facts = record {
-  called = subst (λ (x : Lot). ReplicatesAt (follows 1 0 0) x after entryBytes storing) (sym (second-lot 1)) stores-at;
+  called = subst (λ (x : LentStore). ReplicatesAt (follows 1 0 0) x after entryBytes storing) (sym (second-store 1)) stores-at;
   slot = λ v e. ap (slotOf (follows 1 0 0)) (entry-names v e);
-  passes = λ z. subst (λ (x : Lot). lentFor z (follows 1 0 0) x key ≡ true) (sym (second-lot 1)) (second-passes z 1);
-  seats = refl;
+  passes = λ z. subst (λ (x : LentStore). lentFor z (follows 1 0 0) x key ≡ true) (sym (second-store 1)) (second-passes z 1);
+  slotsAre = refl;
   puts = subst (λ (i : ℕ). Puts adopted holding stores stored (follows 1 0 0) (follows 1 1 1) after i) (sym (at-zero 1 0 0)) store-puts;
 }
 
@@ -203,7 +203,7 @@ replicates-entry = record {
   outside = λ v e z. not-both (opInDomain (v .op)) (ap (λ (w : message.Replicated). opInDomain (w .op)) (some-same (sym e ∙ entry-decoded)) ∙ entry-inside) z;
   inside = λ v e z.
       subst (λ (k : Key). AtShard ReplicatesAt replicates k entryBytes (buffers adopted stores reply) (buffers holding stored storeReply) 0) (entry-names v e)
-      (at-shard replicates ReplicateSlot ReplicateNames (λ n m. Seated n) entryBytes adopted stores reply holding stored storeReply after storing (follows 1 0 0)
+      (at-shard replicates ReplicateSlot ReplicateNames (λ n m. SlotsGiven n) entryBytes adopted stores reply holding stored storeReply after storing (follows 1 0 0)
       read-adopted lends-adopted stores-bytes entry-names refl (second-slots 1 1 1) (λ f v g q. replicate-retains v f entryBytes) store-facts store-ends);
 }
 
@@ -214,7 +214,7 @@ keeping = record { answer = R.Adopted (record { 0 = 1 }); node = follows 1 1 1 }
 
 keeps : (s : Stores)
     → record { answer = R.Adopted (record { 0 = 1 }); node = second 1 (entry ∷ []) vectors }
-    ≡ told word (calls.newEpochWith (lentFor s (follows 1 1 1) columns) (second 1 (entry ∷ []) vectors) alignBytes)
+    ≡ answeredAs word (calls.newEpochWith (lentFor s (follows 1 1 1) columns) (second 1 (entry ∷ []) vectors) alignBytes)
 unfolding opened alignBytes
 keeps s = rw (holding-passes s) refl
 
@@ -222,17 +222,17 @@ keep-whole : Whole (follows 1 1 1) (follows 1 1 1) after key
 unfolding opened
 keep-whole e = (fits-sized _ one-fits, fits-well _ one-fits)
 
-keeps-at : AnnouncesAt (follows 1 1 1) columns after alignBytes keeping
+keeps-at : NewEpochsAt (follows 1 1 1) columns after alignBytes keeping
 keeps-at = record {
   same = λ s t slot w c.
       let z = align-slot 1 1 1 slot w in
       ap (λ (x : held.Node). record { answer = R.Adopted (record { 0 = 1 }); node = x })
       (second-one t (log-lent after log-after rows-after t slot z (c .after)) (vectors-lent after log-after rows-after t slot z (c .after)))
       ∙ keeps s
-      ∙ ap (λ (x : held.Node). told word (calls.newEpochWith (lentFor s (follows 1 1 1) columns) x alignBytes))
+      ∙ ap (λ (x : held.Node). answeredAs word (calls.newEpochWith (lentFor s (follows 1 1 1) columns) x alignBytes))
       (sym (second-one s (log-lent columns columns-log columns-rows s slot z (c .before)) (vectors-lent columns columns-log columns-rows s slot z (c .before))));
   kept = λ e. not-both false e refl;
-  seats = align-seats 1 1 1 1;
+  slotsAre = align-slots 1 1 1 1;
   slots = λ e. second-slots 1 1 1;
   whole = λ e k named. subst (Whole (follows 1 1 1) (follows 1 1 1) after) (sym (named alignment align-decoded)) keep-whole;
 }
@@ -248,12 +248,12 @@ again-puts = record { image = rw (log-after, rows-after) refl; fits = record { l
 keep-puts : Puts holding holding stored again (follows 1 1 1) (follows 1 1 1) after 0
 keep-puts = puts-kept holding holding stored again (follows 1 1 1) (follows 1 1 1) after 0 header-kept (omega arith) again-puts
 
-keep-facts : Facts announces NewEpochSlot NewEpochNames NewEpochSeats alignBytes holding stored holding again after keeping (follows 1 1 1)
+keep-facts : Facts announces NewEpochSlot NewEpochNames NewEpochSlots alignBytes holding stored holding again after keeping (follows 1 1 1)
 keep-facts = record {
-  called = subst (λ (x : Lot). AnnouncesAt (follows 1 1 1) x after alignBytes keeping) (sym second-full) keeps-at;
+  called = subst (λ (x : LentStore). NewEpochsAt (follows 1 1 1) x after alignBytes keeping) (sym second-full) keeps-at;
   slot = align-own 1 1 1;
-  passes = λ z. subst (λ (x : Lot). lentFor z (follows 1 1 1) x key ≡ true) (sym second-full) (holding-passes z);
-  seats = refl;
+  passes = λ z. subst (λ (x : LentStore). lentFor z (follows 1 1 1) x key ≡ true) (sym second-full) (holding-passes z);
+  slotsAre = refl;
   puts = subst (λ (i : ℕ). Puts holding holding stored again (follows 1 1 1) (follows 1 1 1) after i) (sym (at-zero 1 1 1)) keep-puts;
 }
 
@@ -267,7 +267,7 @@ keep-ends = refl
 pub announces-late : AnnouncesImage alignBytes (buffers holding stored reply) (buffers holding again keepReply) 0
 announces-late =
     aligned-by _ _
-    (at-shard announces NewEpochSlot NewEpochNames NewEpochSeats alignBytes holding stored reply holding again keepReply after keeping (follows 1 1 1)
+    (at-shard announces NewEpochSlot NewEpochNames NewEpochSlots alignBytes holding stored reply holding again keepReply after keeping (follows 1 1 1)
     read-holding lends-holding stored-bytes align-names refl (second-slots 1 1 1) align-carries keep-facts keep-ends)
 
 -- ---- what node 2's images are then read as

@@ -9,8 +9,8 @@ use Rattle.image_header_row.specs.Rows as rows
 use Rattle.image_header_row.specs.Tidy as tidy
 use Rattle.image_header.specs.Image.{headerLent, headerPut}
 use Rattle.image_header.specs.Becomes.{HeaderWrites}
-use Rattle.image_header.proofs.OfBecomes.{writes-long}
-use Rattle.image_header.proofs.OfImage.{lent-long}
+use Rattle.image_header.proofs.Becomes.{writes-long}
+use Rattle.image_header.proofs.Image.{lent-long}
 use Rattle.thm_one_node.specs.Images.{new}
 use Rattle.thm_one_node.proofs.Headers as one
 use Rattle.thm_two_nodes.specs.Images.{free, newSecond, first, second, shown, leased, written, aligned, acked, shownSecond, adopted, holding}
@@ -20,7 +20,7 @@ use Rattle.thm_two_nodes.proofs.Fits.{leads-fits, follows-fits}
 -- ---- node 1
 
 put-shown : shown ≡ headerPut new (leads Never 0 0 0 false)
-unfolding opened new free first headerPut rows.keptBytes tidy.tidyKept tidy.tidyHeld canon.padded
+unfolding opened new free first headerPut rows.heldRowBytes tidy.tidyHeldRow tidy.tidyHeld canon.padded
 put-shown = refl
 
 pub header-shown : HeaderWrites new shown (leads Never 0 0 0 false)
@@ -32,7 +32,7 @@ pub lent-shown : headerLent shown ≡ true
 lent-shown = header-shown .becomes (lent-long new one.lent-new) .lent
 
 put-leased : leased ≡ headerPut shown (leads (At 100) 0 0 0 false)
-unfolding opened first headerPut rows.keptBytes tidy.tidyKept tidy.tidyHeld canon.padded
+unfolding opened first headerPut rows.heldRowBytes tidy.tidyHeldRow tidy.tidyHeld canon.padded
 put-leased = refl
 
 pub header-leased : HeaderWrites shown leased (leads (At 100) 0 0 0 false)
@@ -44,7 +44,7 @@ pub lent-leased : headerLent leased ≡ true
 lent-leased = header-leased .becomes (lent-long shown lent-shown) .lent
 
 put-written : written ≡ headerPut leased (leads (At 100) 1 1 0 false)
-unfolding opened first headerPut rows.keptBytes tidy.tidyKept tidy.tidyHeld canon.padded
+unfolding opened first headerPut rows.heldRowBytes tidy.tidyHeldRow tidy.tidyHeld canon.padded
 put-written = refl
 
 pub header-written : HeaderWrites leased written (leads (At 100) 1 1 0 false)
@@ -56,7 +56,7 @@ pub lent-written : headerLent written ≡ true
 lent-written = header-written .becomes (lent-long leased lent-leased) .lent
 
 put-aligned : aligned ≡ headerPut written (leads (At 100) 1 1 0 true)
-unfolding opened first headerPut rows.keptBytes tidy.tidyKept tidy.tidyHeld canon.padded
+unfolding opened first headerPut rows.heldRowBytes tidy.tidyHeldRow tidy.tidyHeld canon.padded
 put-aligned = refl
 
 pub header-aligned : HeaderWrites written aligned (leads (At 100) 1 1 0 true)
@@ -68,7 +68,7 @@ pub lent-aligned : headerLent aligned ≡ true
 lent-aligned = header-aligned .becomes (lent-long written lent-written) .lent
 
 put-acked : acked ≡ headerPut aligned (leads (At 100) 1 1 1 true)
-unfolding opened first headerPut rows.keptBytes tidy.tidyKept tidy.tidyHeld canon.padded
+unfolding opened first headerPut rows.heldRowBytes tidy.tidyHeldRow tidy.tidyHeld canon.padded
 put-acked = refl
 
 pub header-acked : HeaderWrites aligned acked (leads (At 100) 1 1 1 true)
@@ -81,7 +81,7 @@ lent-acked = header-acked .becomes (lent-long aligned lent-aligned) .lent
 
 -- a wait leaves it as it was
 put-waited : acked ≡ headerPut acked (leads (At 100) 1 1 1 true)
-unfolding opened first headerPut rows.keptBytes tidy.tidyKept tidy.tidyHeld canon.padded
+unfolding opened first headerPut rows.heldRowBytes tidy.tidyHeldRow tidy.tidyHeld canon.padded
 put-waited = refl
 
 pub header-waited : HeaderWrites acked acked (leads (At 100) 1 1 1 true)
@@ -92,7 +92,7 @@ header-waited =
 -- ---- node 2
 
 put-second : shownSecond ≡ headerPut newSecond (follows 0 0 0)
-unfolding opened newSecond second headerPut rows.keptBytes tidy.tidyKept tidy.tidyHeld canon.padded
+unfolding opened newSecond second headerPut rows.heldRowBytes tidy.tidyHeldRow tidy.tidyHeld canon.padded
 put-second = refl
 
 pub header-second : HeaderWrites newSecond shownSecond (follows 0 0 0)
@@ -104,7 +104,7 @@ pub lent-second : headerLent shownSecond ≡ true
 lent-second = header-second .becomes (lent-long newSecond lent-new) .lent
 
 put-adopted : adopted ≡ headerPut shownSecond (follows 1 0 0)
-unfolding opened second headerPut rows.keptBytes tidy.tidyKept tidy.tidyHeld canon.padded
+unfolding opened second headerPut rows.heldRowBytes tidy.tidyHeldRow tidy.tidyHeld canon.padded
 put-adopted = refl
 
 pub header-adopted : HeaderWrites shownSecond adopted (follows 1 0 0)
@@ -116,7 +116,7 @@ pub lent-adopted : headerLent adopted ≡ true
 lent-adopted = header-adopted .becomes (lent-long shownSecond lent-second) .lent
 
 put-holding : holding ≡ headerPut adopted (follows 1 1 1)
-unfolding opened second headerPut rows.keptBytes tidy.tidyKept tidy.tidyHeld canon.padded
+unfolding opened second headerPut rows.heldRowBytes tidy.tidyHeldRow tidy.tidyHeld canon.padded
 put-holding = refl
 
 pub header-holding : HeaderWrites adopted holding (follows 1 1 1)
@@ -129,7 +129,7 @@ lent-holding = header-holding .becomes (lent-long adopted lent-adopted) .lent
 
 -- the late alignment leaves it as it was
 put-kept : holding ≡ headerPut holding (follows 1 1 1)
-unfolding opened second headerPut rows.keptBytes tidy.tidyKept tidy.tidyHeld canon.padded
+unfolding opened second headerPut rows.heldRowBytes tidy.tidyHeldRow tidy.tidyHeld canon.padded
 put-kept = refl
 
 pub header-kept : HeaderWrites holding holding (follows 1 1 1)

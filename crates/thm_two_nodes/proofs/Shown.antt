@@ -24,8 +24,8 @@ use Rattle.node_header.specs.Grow.{freeFrom}
 use Rattle.node_show.specs.declared.Start.{Start}
 use Rattle.node_show.specs.declared.NodeShown.{NodeShown}
 use Rattle.node_show.specs.declared.ShownAnswer.the-variants as S
-use Rattle.node_show.specs.Slots.{seated, slotsAfter}
-use Rattle.node_show.specs.Shows.{viewStarts, shownTold, viewShown}
+use Rattle.node_show.specs.Slots.{slotted, slotsAfter}
+use Rattle.node_show.specs.Shows.{viewStarts, shownAnswered, viewShown}
 use Rattle.node_hear.specs.Hears.{HearsMap}
 use Rattle.image_map.specs.declared.Lent as maps
 use Rattle.image_map.specs.Image.{mapAt, mapLent, lentMap}
@@ -36,9 +36,9 @@ use Rattle.calls_parts.specs.Answer.{numberPut}
 use Rattle.calls_header.specs.Fresh.{freshNode, Freshens}
 use Rattle.calls_header.specs.Waits.{RowsPut}
 use Rattle.calls_header.specs.Shows.{workerBytes, startBytes, ShowPut, Shows}
-use Rattle.calls_header.proofs.OfAsked.{asked-called}
-use Rattle.calls_header.proofs.OfCalls.{shows-image}
-use Rattle.calls_header.proofs.OfWaits.{all-put, shown-as}
+use Rattle.calls_header.proofs.Asked.{asked-called}
+use Rattle.calls_header.proofs.Calls.{shows-image}
+use Rattle.calls_header.proofs.Waits.{all-put, shown-as}
 use Rattle.thm_one_node.specs.Images.{unused, new, room, offset}
 use Rattle.thm_one_node.proofs.Headers.{key, node, nil}
 use Rattle.thm_one_node.proofs.Headers as one
@@ -69,37 +69,37 @@ abbrev second : NodeShown
 second = record { answer = S.Shown; starts = replicate 8 starting; count = 0; node = follows 0 0 0 }
 
 -- computed of the plain map
-first-plain : (s : Stores) → viewShown s first ≡ shownTold (calls.shownWith (lentNode s (freshNode 1 4) and true) (viewNode s (freshNode 1 4)) 0 map)
+first-plain : (s : Stores) → viewShown s first ≡ shownAnswered (calls.shownWith (lentNode s (freshNode 1 4) and true) (viewNode s (freshNode 1 4)) 0 map)
 unfolding opened image.noNode lentNode slotsFit viewStarts
 first-plain s = rw (nil (s .log 0 0) (s .long 0 0), s .bare 0) refl
 
-second-plain : (s : Stores) → viewShown s second ≡ shownTold (calls.shownWith (lentNode s (freshNode 2 4) and true) (viewNode s (freshNode 2 4)) 0 map)
+second-plain : (s : Stores) → viewShown s second ≡ shownAnswered (calls.shownWith (lentNode s (freshNode 2 4) and true) (viewNode s (freshNode 2 4)) 0 map)
 unfolding opened image.noNode lentNode slotsFit viewStarts
 second-plain s = rw (nil (s .log 0 0) (s .long 0 0), s .bare 0) refl
 
 -- .. and carried over to the one that the bytes are read as
-same : (n : Node) (x : NodeShown) → ((s : Stores) → viewShown s x ≡ shownTold (calls.shownWith (lentNode s n and true) (viewNode s n) 0 map))
+same : (n : Node) (x : NodeShown) → ((s : Stores) → viewShown s x ≡ shownAnswered (calls.shownWith (lentNode s n and true) (viewNode s n) 0 map))
     → (s : Stores)
-    → viewShown s x ≡ shownTold (calls.shownWith (lentNode s n and wellFormedLent (mapAt mapBytes)) (viewNode s n) 0 (viewMap (mapAt mapBytes)))
+    → viewShown s x ≡ shownAnswered (calls.shownWith (lentNode s n and wellFormedLent (mapAt mapBytes)) (viewNode s n) 0 (viewMap (mapAt mapBytes)))
 same n x plain s =
-    subst (λ (m : tables.Map). viewShown s x ≡ shownTold (calls.shownWith (lentNode s n and wellFormedLent (mapAt mapBytes)) (viewNode s n) 0 m)) (sym map-read)
-    (subst (λ (b : Bool). viewShown s x ≡ shownTold (calls.shownWith (lentNode s n and b) (viewNode s n) 0 map)) (sym tested) (plain s))
+    subst (λ (m : tables.Map). viewShown s x ≡ shownAnswered (calls.shownWith (lentNode s n and wellFormedLent (mapAt mapBytes)) (viewNode s n) 0 m)) (sym map-read)
+    (subst (λ (b : Bool). viewShown s x ≡ shownAnswered (calls.shownWith (lentNode s n and b) (viewNode s n) 0 map)) (sym tested) (plain s))
 
 first-hears : HearsMap (freshNode 1 4) (mapAt mapBytes) 0 first
-unfolding opened image.noNode formedNode slotsFit seated slotsAfter freeFrom
+unfolding opened image.noNode formedNode slotsFit slotted slotsAfter freeFrom
 first-hears = record {
   same = same (freshNode 1 4) first first-plain;
   slots = λ e. refl;
-  seats = λ e s. refl;
+  slotsAre = λ e s. refl;
   stays = λ e. not-both true refl e;
 }
 
 second-hears : HearsMap (freshNode 2 4) (mapAt mapBytes) 0 second
-unfolding opened image.noNode formedNode slotsFit seated slotsAfter freeFrom
+unfolding opened image.noNode formedNode slotsFit slotted slotsAfter freeFrom
 second-hears = record {
   same = same (freshNode 2 4) second second-plain;
   slots = λ e. refl;
-  seats = λ e s. refl;
+  slotsAre = λ e s. refl;
   stays = λ e. not-both true refl e;
 }
 

@@ -20,14 +20,14 @@ use Rattle.node_header.specs.declared.Node.{Node}
 use Rattle.node_header.specs.declared.StepAnswer.{StepAnswer}
 use Rattle.node_header.specs.declared.StepAnswer.the-variants as stepped
 use Rattle.node_header.specs.View.{Stores, viewNode}
-use Rattle.node_header.specs.Answers.{stepTold, StepsNode}
+use Rattle.node_header.specs.Answers.{stepAnswered, StepsNode}
 use Rattle.node_send.specs.declared.Request.the-variants as request
 use Rattle.node_send.specs.Requested.{answerOf, leftOf}
 use Rattle.node_step.specs.Requests.{Requests}
 use Rattle.wire_write.specs.Written.{textFits}
 use Rattle.image_header.specs.Image.{nodeAt}
-use Rattle.node_lent.specs.Lend.{Lot, lentFor, slotOf, Lends}
-use Rattle.image_node.specs.Lent.{lotIn, lendsState}
+use Rattle.node_lent.specs.Lend.{LentStore, lentFor, slotOf, Lends}
+use Rattle.image_node.specs.Lent.{lentStoreIn, lendsState}
 use Rattle.calls_parts.specs.Answer.{numberPut}
 use Rattle.calls_worker.specs.Steps.{Asking, asking, decodes, sentNumber, outputs, Tells, StepsImage}
 use Rattle.thm_one_node.specs.Images.{room}
@@ -51,11 +51,11 @@ is-worker = refl
 -- ---- the steps
 
 -- a log of one entry
-align-at : (l : Log) (v : Vectors) → length l ≡ 1 → stepped.Stepped step.Align ≡ stepTold (calls.stepWith (λ x. true) (first l v (row 0 false)) key 1 2)
+align-at : (l : Log) (v : Vectors) → length l ≡ 1 → stepped.Stepped step.Align ≡ stepAnswered (calls.stepWith (λ x. true) (first l v (row 0 false)) key 1 2)
 unfolding opened
 align-at l v e = refl
 
-send-at : (l : Log) (v : Vectors) → length l ≡ 1 → stepped.Stepped (step.Send 1 1) ≡ stepTold (calls.stepWith (λ x. true) (first l v (row 0 true)) key 1 2)
+send-at : (l : Log) (v : Vectors) → length l ≡ 1 → stepped.Stepped (step.Send 1 1) ≡ stepAnswered (calls.stepWith (λ x. true) (first l v (row 0 true)) key 1 2)
 unfolding opened
 send-at [] v e = absurd (omega arith)
 send-at (x ∷ []) v e = refl
@@ -103,12 +103,12 @@ module _ (isAligned : Bool) (sends : List ℕ)
     abbrev number : ℕ
     number = sentNumber (getD (sets space 0 sends) 0 0)
 
-    tells : Tells n (lotIn stored n key) key 1 2 Euclidean (outputs space room) (outputs (sets space 0 sends) (numberPut room (length sends))) number
+    tells : Tells n (lentStoreIn stored n key) key 1 2 Euclidean (outputs space room) (outputs (sets space 0 sends) (numberPut room (length sends))) number
     tells = record {
       step = told;
       sent = request.Written (length sends);
       steps = steps;
-      requests = subst (λ (a : Lot). Requests n a key 1 2 Euclidean space (sets space 0 sends) (request.Written (length sends))) (sym (first-full isAligned)) requests;
+      requests = subst (λ (a : LentStore). Requests n a key 1 2 Euclidean space (sets space 0 sends) (request.Written (length sends))) (sym (first-full isAligned)) requests;
       number = refl;
       answer = refl;
     }
@@ -121,7 +121,7 @@ module _ (isAligned : Bool) (sends : List ℕ)
         short = λ z. not-both true refl z;
         told = λ z.
             subst
-            (λ (v : Node). Tells v (lotIn stored v key) key 1 2 Euclidean (outputs space room) (outputs (sets space 0 sends) (numberPut room (length sends))) number)
+            (λ (v : Node). Tells v (lentStoreIn stored v key) key 1 2 Euclidean (outputs space room) (outputs (sets space 0 sends) (numberPut room (length sends))) number)
             (sym is) tells;
       };
     }

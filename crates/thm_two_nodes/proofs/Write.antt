@@ -11,14 +11,14 @@ use Rattle.spec.specs.Node.Calls as calls
 use Rattle.spec.specs.Node.Refused as refused
 use Rattle.spec_laws.proofs.Lists.{not-both}
 use Rattle.spec_run.proofs.Cases.Opened.{opened}
-use Rattle.log_calls.proofs.OfFits.{fits-sized, fits-well}
+use Rattle.log_calls.proofs.FitLaws.{fits-sized, fits-well}
 use Rattle.node_admit.specs.declared.Expiry.the-variants.{At}
 use Rattle.node_header.specs.declared.Node.{Node}
 use Rattle.node_header.specs.View.{Stores}
-use Rattle.node_header.specs.Answers.{told}
+use Rattle.node_header.specs.Answers.{answeredAs}
 use Rattle.node_lent.specs.Lend.{placeOf, lentFor, Whole}
 use Rattle.image_node.specs.Lent.{storePut, Puts, StorePuts}
-use Rattle.image_node.proofs.OfPut.{puts-kept}
+use Rattle.image_node.proofs.Put.{puts-kept}
 use Rattle.node_write.specs.declared.WriteAnswer.{WriteAnswer}
 use Rattle.node_write.specs.ClientWrites.{writeWord, WriteNames, SameWrite, WritesAt}
 use Rattle.calls_client.specs.Written.{buffers, WritesImages}
@@ -31,7 +31,7 @@ use Rattle.thm_one_node.proofs.WriteImages.{images-written}
 use Rattle.thm_two_nodes.specs.Images.{leased, written}
 use Rattle.thm_two_nodes.proofs.Headers.{row, kept, leading, leads, read-leased}
 use Rattle.thm_two_nodes.proofs.Put.{header-written}
-use Rattle.thm_two_nodes.proofs.Nodes.{first, first-empty, first-one, leased-lot, lends-leased, first-passes, first-slot, first-slots, one-fits}
+use Rattle.thm_two_nodes.proofs.Nodes.{first, first-empty, first-one, leased-lent-store, lends-leased, first-passes, first-slot, first-slots, one-fits}
 
 -- ---- the call, on the columns that the bytes are read into
 
@@ -43,7 +43,7 @@ is = leads (At 100) 1 1 0 false
 
 taken : (s : Stores)
     → record { answer = accepted; node = first (entry ∷ []) vectors (row 0 false) }
-    ≡ told writeWord (calls.writeWith (lentFor s was before) (first [] [] (row 0 false)) 5 1 bytes)
+    ≡ answeredAs writeWord (calls.writeWith (lentFor s was before) (first [] [] (row 0 false)) 5 1 bytes)
 unfolding opened bytes fits
 taken s = rw (first-passes s) refl
 
@@ -53,7 +53,7 @@ same = λ s t slot w c.
     ap (λ (x : held.Node). record { answer = accepted; node = x })
     (first-one t false (log-lent after log-after rows-after t slot z (c .after)) (vectors-lent after log-after rows-after t slot z (c .after)))
     ∙ taken s
-    ∙ ap (λ (x : held.Node). told writeWord (calls.writeWith (lentFor s was before) x 5 1 bytes)) (sym (first-empty s))
+    ∙ ap (λ (x : held.Node). answeredAs writeWord (calls.writeWith (lentFor s was before) x 5 1 bytes)) (sym (first-empty s))
 
 abbrev pub wrote : WriteAnswer
 wrote = record { answer = accepted; node = is; refused = 0 }
@@ -70,7 +70,7 @@ unfolding refused.counted
 writes = record {
   same = same;
   kept = λ e. not-both false e refl;
-  seats = refl;
+  slotsAre = refl;
   slots = λ e. first-slots;
   whole = λ e. whole;
   count = refl;
@@ -90,4 +90,4 @@ unfolding opened
 at-zero = refl
 
 pub writes-images : WritesImages (buffers leased stores room) (buffers written stored offset) count count 5 1 bytes 0
-writes-images = images-written leased written was is read-leased lends-leased leased-lot at-zero images writes
+writes-images = images-written leased written was is read-leased lends-leased leased-lent-store at-zero images writes

@@ -9,7 +9,7 @@ use borrow.Author.Tests.{not-true, not-false}
 use types.Run.{miss}
 use Rattle.wire_read.proofs.Decoded.{request-decoded}
 use Rattle.map_request.proofs.Loads.{decoded-shows, missed-all, some-all}
-use Rattle.calls_apply.proofs.OfCall.{room, undecoded-way, lent-not, malformed-way, ready-for, settled-way}
+use Rattle.calls_apply.proofs.Call.{room, undecoded-way, lent-not, malformed-way, ready-for, settled-way}
 use Rattle.calls_apply.proofs.apply.Statement.{statement}
 use Rattle.calls_apply.proofs.apply.Tie as tie
 

@@ -9,8 +9,8 @@ use borrow.Author.Tests.{not-true, not-false}
 use types.Run.{miss}
 use Rattle.wire_read.proofs.Decoded.{request-decoded}
 use Rattle.map_request.proofs.Loads.{decoded-shows, missed-all, some-all}
-use Rattle.calls_apply.proofs.OfCall.{room, ready-for}
-use Rattle.calls_apply_words.proofs.OfCall.{undecoded-way, lent-not, malformed-way, settled-in-words}
+use Rattle.calls_apply.proofs.Call.{room, ready-for}
+use Rattle.calls_apply_words.proofs.Call.{undecoded-way, lent-not, malformed-way, settled-in-words}
 use Rattle.calls_apply_words.proofs.apply_words.Statement.{statement}
 use Rattle.calls_apply_words.proofs.apply_words.Tie as tie
 

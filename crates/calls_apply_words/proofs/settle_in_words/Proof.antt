@@ -7,7 +7,7 @@ use Prim.Native.Nat.{ℕ, _+_, _-_, _*_, _≤_, _<_}
 use lib.ListN.{length, getD, take, drop, set}
 use mathlib.Core.Bool.{true, false}
 use borrow.Author.Tests.{not-true, not-false}
-use Rattle.calls_apply_words.proofs.OfWords.{as-told, short-way, refused-way, no-room-way, told-way}
+use Rattle.calls_apply_words.proofs.Words.{as-told, short-way, refused-way, no-room-way, told-way}
 use Rattle.calls_apply_words.proofs.settle_in_words.Statement.{statement}
 use Rattle.calls_apply_words.proofs.settle_in_words.Tie as tie
 

@@ -8,7 +8,7 @@ use lib.ListN.{length, getD, take, drop, set}
 use mathlib.Core.Bool.{true, false}
 use borrow.Author.Tests.{not-true, not-false}
 use Rattle.spec_laws.proofs.Lists.{not-both}
-use Rattle.calls_parts.proofs.OfAnswer.{number-unput}
+use Rattle.calls_parts.proofs.AnswerLaws.{number-unput}
 use Rattle.calls_apply_words.proofs.tell.Statement.{statement}
 use Rattle.calls_apply_words.proofs.tell.Tie as tie
 

@@ -7,10 +7,10 @@ use Prim.Native.Nat.{ℕ, _+_, _-_, _*_, _≤_, _<_}
 use lib.ListN.{length, getD, take, drop, set}
 use types.Run.{miss}
 use borrow.Author.Tests.{not-true, not-false}
-use Rattle.log_arrive.proofs.OfMessages.{copy-there}
-use Rattle.node_replicate.proofs.OfNamed.{copy-key-there, copy-missed}
-use Rattle.calls_peer.proofs.OfServes.{unread}
-use Rattle.calls_peer.proofs.OfMessages.{copy-outside, copy-inside}
+use Rattle.log_arrive.proofs.Messages.{copy-there}
+use Rattle.node_replicate.proofs.Named.{copy-key-there, copy-missed}
+use Rattle.calls_peer.proofs.Serves.{unread}
+use Rattle.calls_peer.proofs.Messages.{copy-outside, copy-inside}
 use Rattle.calls_copy.proofs.copy.Statement.{statement}
 use Rattle.calls_copy.proofs.copy.Tie as tie
 

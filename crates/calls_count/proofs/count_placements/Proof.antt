@@ -2,11 +2,11 @@
 use borrow.Author.Needs.{needs}
 use mathlib.Core.Path.{refl, sym, _∙_, ap}
 use Prim.Native.Nat.{_-_}
-use Rattle.image_map_loads.proofs.OfRows.{lent-long}
+use Rattle.image_map_loads.proofs.Rows.{lent-long}
 use borrow.Author.Tests.{not-true, not-false}
 use Rattle.spec.specs.Keys.{Key}
 use Rattle.calls_count.specs.Calls.{specGiven}
-use Rattle.calls_count.proofs.OfAnswer.{unnamed, broken, unlent, lent}
+use Rattle.calls_count.proofs.AnswerLaws.{unnamed, broken, unlent, lent}
 use Rattle.calls_count.proofs.count_placements.Statement.{statement}
 use Rattle.calls_count.proofs.count_placements.Tie as tie
 

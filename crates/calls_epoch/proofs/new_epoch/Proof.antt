@@ -6,9 +6,9 @@ use mathlib.Core.List.{List, [], _∷_, _++_}
 use Prim.Native.Nat.{ℕ, _+_, _-_, _*_, _≤_, _<_}
 use lib.ListN.{length, getD, take, drop, set}
 use types.Run.{miss}
-use Rattle.node_epoch.proofs.OfNamed.{new-epoch-key-there, new-epoch-missed}
-use Rattle.calls_peer.proofs.OfServes.{unread}
-use Rattle.calls_peer.proofs.OfMessages.{new-epoch-inside}
+use Rattle.node_epoch.proofs.Named.{new-epoch-key-there, new-epoch-missed}
+use Rattle.calls_peer.proofs.Serves.{unread}
+use Rattle.calls_peer.proofs.Messages.{new-epoch-inside}
 use Rattle.calls_epoch.proofs.new_epoch.Statement.{statement}
 use Rattle.calls_epoch.proofs.new_epoch.Tie as tie
 

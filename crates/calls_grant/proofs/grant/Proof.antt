@@ -8,13 +8,13 @@ use borrow.Author.Tests.{not-true, not-false, ltb-false}
 use Rattle.spec.specs.Limits.{maxTime}
 use Rattle.spec.specs.Layout.Format.{numberAt}
 use Rattle.spec.specs.Node.Calls as calls
-use Rattle.node_header.proofs.OfFormed.{header-few}
+use Rattle.node_header.proofs.Formed.{header-few}
 use Rattle.image_header_row.specs.Rows.{expiryOf}
 use Rattle.image_header.specs.Image.{headerLent, nodeAt}
-use Rattle.image_header.proofs.OfImage.{lent-long}
-use Rattle.calls_header.proofs.OfAsked.{asked-unread, asked-malformed, asked-called, first-fails, second-fails}
-use Rattle.image_header_check.proofs.OfRows.{counted}
-use Rattle.calls_grant.proofs.OfGrant.{end-of, granted-not, granted-so}
+use Rattle.image_header.proofs.Image.{lent-long}
+use Rattle.calls_header.proofs.Asked.{asked-unread, asked-malformed, asked-called, first-fails, second-fails}
+use Rattle.image_header_check.proofs.Rows.{counted}
+use Rattle.calls_grant.proofs.GrantLaws.{end-of, granted-not, granted-so}
 use Rattle.calls_grant.proofs.grant.Statement.{statement}
 use Rattle.calls_grant.proofs.grant.Tie as tie
 

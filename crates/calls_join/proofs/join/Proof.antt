@@ -7,7 +7,7 @@ use Prim.Native.Nat.{ℕ, _+_, _-_, _*_, _≤_, _<_}
 use lib.ListN.{length, getD, take, drop, set}
 use mathlib.Core.Path.{subst}
 use Rattle.calls_join.specs.Calls.{Checks}
-use Rattle.calls_join.proofs.OfCalls.{is-short, joins, refused-21, refused-28, refused-29, refused-23}
+use Rattle.calls_join.proofs.Calls.{is-short, joins, refused-21, refused-28, refused-29, refused-23}
 use Rattle.calls_join.proofs.join.Statement.{statement}
 use Rattle.calls_join.proofs.join.Tie as tie
 

@@ -7,7 +7,7 @@ use Prim.Native.Nat.{ℕ, _+_, _-_, _*_, _≤_, _<_}
 use lib.ListN.{length, getD, take, drop, set}
 use mathlib.Core.Path.{subst}
 use Rattle.calls_join.specs.Calls.{Checks}
-use Rattle.calls_join.proofs.OfCalls.{is-short, joins-for, no-count, refused-for-21, refused-for-28, refused-for-29, refused-for-23}
+use Rattle.calls_join.proofs.Calls.{is-short, joins-for, no-count, refused-for-21, refused-for-28, refused-for-29, refused-for-23}
 use Rattle.calls_join.proofs.join_call.Statement.{statement}
 use Rattle.calls_join.proofs.join_call.Tie as tie
 

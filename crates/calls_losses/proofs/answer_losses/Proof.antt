@@ -3,7 +3,7 @@ use borrow.Author.Needs.{needs}
 use native.Mathlib.Omega.{arith}
 use Prim.Native.Nat.{_-_}
 use lib.ListN.{length-replicate}
-use Rattle.calls_losses.proofs.OfCalls.{losses-told}
+use Rattle.calls_losses.proofs.Calls.{losses-told}
 use Rattle.calls_losses.proofs.answer_losses.Statement.{statement}
 use Rattle.calls_losses.proofs.answer_losses.Tie as tie
 

@@ -2,7 +2,7 @@
 use borrow.Author.Needs.{needs}
 use Prim.Native.Nat.{_-_}
 use mathlib.Core.Bool.{true, false}
-use Rattle.calls_losses.proofs.OfCalls.{none-put}
+use Rattle.calls_losses.proofs.Calls.{none-put}
 use Rattle.calls_losses.proofs.answer_none.Statement.{statement}
 use Rattle.calls_losses.proofs.answer_none.Tie as tie
 

@@ -6,7 +6,7 @@ use Prim.Native.Nat.{_-_}
 use lib.ListN.{take}
 use borrow.Author.Tests.{not-true, not-false}
 use lib.Seq.{length-take-le}
-use Rattle.calls_losses.proofs.OfCalls.{list-short, answer-short, both-lent}
+use Rattle.calls_losses.proofs.Calls.{list-short, answer-short, both-lent}
 use Rattle.calls_losses.proofs.answer_rows.Statement.{statement}
 use Rattle.calls_losses.proofs.answer_rows.Tie as tie
 

@@ -9,8 +9,8 @@ use Rattle.spec.specs.Keys.{Key}
 use Rattle.spec_losses.specs.Losses.{lost, lossesOf}
 use Rattle.map_tables.specs.View.{viewMap, viewSpec}
 use Rattle.image_map.specs.Image.{mapAt}
-use Rattle.image_map_loads.proofs.OfRows.{lent-long, used-of}
-use Rattle.calls_losses.proofs.OfCalls.{loses-unnamed, loses-unlent, loses-malformed, loses-lent, no-collection, its-collection, few}
+use Rattle.image_map_loads.proofs.Rows.{lent-long, used-of}
+use Rattle.calls_losses.proofs.Calls.{loses-unnamed, loses-unlent, loses-malformed, loses-lent, no-collection, its-collection, few}
 use Rattle.calls_losses.proofs.place_losses.Statement.{statement}
 use Rattle.calls_losses.proofs.place_losses.Tie as tie
 

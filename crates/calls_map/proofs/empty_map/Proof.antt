@@ -1,6 +1,6 @@
 -- `empty_map` meets its contract. Assumes nothing.
 use borrow.Author.Needs.{needs}
-use Rattle.calls_map.proofs.OfEmpty.{short-way, empty-way}
+use Rattle.calls_map.proofs.Empty.{short-way, empty-way}
 use Rattle.calls_map.proofs.empty_map.Statement.{statement}
 use Rattle.calls_map.proofs.empty_map.Tie as tie
 

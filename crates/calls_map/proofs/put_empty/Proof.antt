@@ -1,7 +1,7 @@
 -- `put_empty` meets its contract. Assumes nothing.
 use borrow.Author.Needs.{needs}
 use Rattle.image_parts.proofs.Images.{stored-then, stored-word}
-use Rattle.calls_map.proofs.OfEmpty.{no-rows}
+use Rattle.calls_map.proofs.Empty.{no-rows}
 use Rattle.calls_map.proofs.put_empty.Statement.{statement}
 use Rattle.calls_map.proofs.put_empty.Tie as tie
 

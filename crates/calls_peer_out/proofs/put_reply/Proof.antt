@@ -1,7 +1,7 @@
 -- `put_reply` meets its contract. Assumes nothing.
 use native.Mathlib.Omega.{arith}
 use borrow.Author.Needs.{needs}
-use Rattle.calls_peer_out.proofs.OfEnds.{no-room, room}
+use Rattle.calls_peer_out.proofs.Ends.{no-room, room}
 use Rattle.calls_peer_out.proofs.put_reply.Statement.{statement}
 use Rattle.calls_peer_out.proofs.put_reply.Tie as tie
 

@@ -5,9 +5,9 @@ use Prim.Native.Nat.{_-_}
 use borrow.Author.Tests.{not-true, not-false}
 use Rattle.map_place.specs.Answers.{placedOf}
 use Rattle.calls_map.specs.Places.{specGiven}
-use Rattle.calls_map.proofs.OfPlaces.{place-unlent, place-malformed, place-lent}
-use Rattle.image_map_loads.proofs.OfRows.{lent-long, used-of}
-use Rattle.calls_place.proofs.OfPlaces.{placed-live}
+use Rattle.calls_map.proofs.Places.{place-unlent, place-malformed, place-lent}
+use Rattle.image_map_loads.proofs.Rows.{lent-long, used-of}
+use Rattle.calls_place.proofs.Places.{placed-live}
 use Rattle.calls_place.proofs.place.Statement.{statement}
 use Rattle.calls_place.proofs.place.Tie as tie
 

@@ -4,8 +4,8 @@ use mathlib.Core.Path.{sym, _∙_}
 use Prim.Native.Nat.{_-_}
 use borrow.Author.Tests.{not-true, not-false}
 use Rattle.map_place.specs.Answers.{replacedOf}
-use Rattle.calls_map.proofs.OfPlaces.{replace-unnamed, replace-unlent, replace-malformed, replace-lent}
-use Rattle.image_map_loads.proofs.OfRows.{lent-long, used-of}
+use Rattle.calls_map.proofs.Places.{replace-unnamed, replace-unlent, replace-malformed, replace-lent}
+use Rattle.image_map_loads.proofs.Rows.{lent-long, used-of}
 use Rattle.calls_place.proofs.replacement.Statement.{statement}
 use Rattle.calls_place.proofs.replacement.Tie as tie
 

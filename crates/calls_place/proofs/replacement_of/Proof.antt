@@ -6,8 +6,8 @@ use Prim.Native.Nat.{_-_}
 use Rattle.map_place.specs.Read.{bestOf}
 use Rattle.map_place.specs.declared.Best.{Best}
 use Rattle.spec.specs.Map.Place.{replacedWith}
-use Rattle.image_map_loads.proofs.OfRows.{held-few}
-use Rattle.calls_place.proofs.OfPlaces.{absent, present}
+use Rattle.image_map_loads.proofs.Rows.{held-few}
+use Rattle.calls_place.proofs.Places.{absent, present}
 use Rattle.calls_place.proofs.replacement_of.Statement.{statement}
 use Rattle.calls_place.proofs.replacement_of.Tie as tie
 

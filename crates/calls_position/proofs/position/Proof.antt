@@ -4,7 +4,7 @@ use native.Mathlib.Omega.{arith}
 use mathlib.Core.Path.{sym, _∙_, ap}
 use Rattle.num_position.specs.Answers.{placed}
 use Rattle.calls_position.specs.Calls.{positionBytes}
-use Rattle.calls_position.proofs.OfBytes.{position-size}
+use Rattle.calls_position.proofs.Bytes.{position-size}
 use Rattle.calls_position.proofs.Answered.{answers-30, answers-23, answers}
 use Rattle.calls_position.proofs.position.Statement.{statement}
 use Rattle.calls_position.proofs.position.Tie as tie

@@ -5,8 +5,8 @@ use mathlib.Core.Path.{sym, _∙_, ap}
 use Rattle.num_position.specs.Answers.{fielded}
 use Rattle.num_position.specs.Positions.{toFields}
 use Rattle.calls_position.specs.Calls.{fieldsBytes}
-use Rattle.calls_position.proofs.OfBytes.{fields-size}
-use Rattle.calls_position.proofs.OfPattern.{read-at}
+use Rattle.calls_position.proofs.Bytes.{fields-size}
+use Rattle.calls_position.proofs.Pattern.{read-at}
 use Rattle.calls_position.proofs.Answered.{answers-30, answers-31, answers-23, answers}
 use Rattle.calls_position.proofs.position_fields.Statement.{statement}
 use Rattle.calls_position.proofs.position_fields.Tie as tie

@@ -5,9 +5,9 @@ use mathlib.Core.Path.{sym, _∙_, ap}
 use Rattle.num_position.specs.Answers.{vectored}
 use Rattle.num_position.specs.Positions.{toVector}
 use Rattle.calls_position.specs.Calls.{vectorBytes}
-use Rattle.calls_position.proofs.OfBytes.{vector-size}
-use Rattle.calls_position.proofs.OfVector.{vector-numbers}
-use Rattle.calls_position.proofs.OfPattern.{read-at}
+use Rattle.calls_position.proofs.Bytes.{vector-size}
+use Rattle.calls_position.proofs.Vector.{vector-numbers}
+use Rattle.calls_position.proofs.Pattern.{read-at}
 use Rattle.calls_position.proofs.Answered.{answers-30, answers-23, answers}
 use Rattle.calls_position.proofs.position_vector.Statement.{statement}
 use Rattle.calls_position.proofs.position_vector.Tie as tie

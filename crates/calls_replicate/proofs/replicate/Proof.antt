@@ -7,10 +7,10 @@ use Prim.Native.Nat.{ℕ, _+_, _-_, _*_, _≤_, _<_}
 use lib.ListN.{length, getD, take, drop, set}
 use types.Run.{miss}
 use borrow.Author.Tests.{not-true, not-false}
-use Rattle.log_arrive.proofs.OfMessages.{replicate-there}
-use Rattle.node_replicate.proofs.OfNamed.{replicate-key-there, replicate-missed}
-use Rattle.calls_peer.proofs.OfServes.{unread}
-use Rattle.calls_peer.proofs.OfMessages.{replicate-outside, replicate-inside}
+use Rattle.log_arrive.proofs.Messages.{replicate-there}
+use Rattle.node_replicate.proofs.Named.{replicate-key-there, replicate-missed}
+use Rattle.calls_peer.proofs.Serves.{unread}
+use Rattle.calls_peer.proofs.Messages.{replicate-outside, replicate-inside}
 use Rattle.calls_replicate.proofs.replicate.Statement.{statement}
 use Rattle.calls_replicate.proofs.replicate.Tie as tie
 

@@ -8,14 +8,14 @@ use lib.ListN.{length, getD, take, drop, set}
 use borrow.Author.Tests.{not-true, not-false, lt-ltb, le-ltb}
 use types.Run.{miss}
 use lib.Seq.{length-take-le}
-use Rattle.log_arrive.proofs.OfMessages.{search-there}
+use Rattle.log_arrive.proofs.Messages.{search-there}
 use Rattle.image_header.specs.Image.{nodeAt}
-use Rattle.image_node.specs.Lent.{noLot}
+use Rattle.image_node.specs.Lent.{noLentStore}
 use Rattle.calls_client_out.specs.Found.{freshHits}
-use Rattle.node_search.proofs.OfNamed.{search-missed, search-key-there}
-use Rattle.node_search.proofs.OfSearches.{message-query}
-use Rattle.calls_client.proofs.OfSearched.{bytes-late, bytes-undecoded, bytes-outside, bytes-uncounted, bytes-named}
-use Rattle.calls_search.proofs.OfMessage.{message-served}
+use Rattle.node_search.proofs.Named.{search-missed, search-key-there}
+use Rattle.node_search.proofs.Searches.{message-query}
+use Rattle.calls_client.proofs.Searched.{bytes-late, bytes-undecoded, bytes-outside, bytes-uncounted, bytes-named}
+use Rattle.calls_search.proofs.Message.{message-served}
 use Rattle.calls_search.proofs.search_message.Statement.{statement}
 use Rattle.calls_search.proofs.search_message.Tie as tie
 
@@ -55,7 +55,7 @@ slice-aggregate-search-named c = let a = (c .before .before .before .before .bef
 
 search-named-requires : tie.Need-search-named-requires
 search-named-requires c κs = let a = (c .before .before .before .before .before .before .before .before .before .before .before .before .before .before .before .before .before .before .before .before .before .before .before .args) in let i = sym ((c .before .before .before .before .before .before .before .before .before .before .before .before .before .before .before .decode) .ensures) ∙ (c .before .before .before .before .before .before .before .before .before .before .before .before .before .p) .given .1 in
-    message-query (nodeAt (a .header .now)) noLot (a .message .now) (a .clock) (freshHits 0) ((c .before .before .before .before .before .before .before .before .before .before .before .before .before .before .before .before .if1) .left) _ i ((c .before .before .before .before .before .before .before .before .before .read-query) .result) _ ((c .before .before .before .before .before .before .before .before .before .read-query) .ensures) (not-false _ ((c .before .before .before .before .before .before .before .if2) .left))
+    message-query (nodeAt (a .header .now)) noLentStore (a .message .now) (a .clock) (freshHits 0) ((c .before .before .before .before .before .before .before .before .before .before .before .before .before .before .before .before .if1) .left) _ i ((c .before .before .before .before .before .before .before .before .before .read-query) .result) _ ((c .before .before .before .before .before .before .before .before .before .read-query) .ensures) (not-false _ ((c .before .before .before .before .before .before .before .if2) .left))
 
 same-length : tie.Need-same-length
 same-length c = search needs

@@ -13,7 +13,7 @@ use Rattle.wire_write.proofs.Writes.{text-short}
 use Rattle.map_tables.specs.Names.{viewKey}
 use Rattle.image_node_check.specs.Find.{FindsIn, FoundIn}
 use Rattle.calls_worker.specs.Steps.{asking, outputs}
-use Rattle.calls_worker.proofs.OfSteps.{bad-name, bad-metric, decoded, undecoded, found-asked, malformed, absent}
+use Rattle.calls_worker.proofs.Steps.{bad-name, bad-metric, decoded, undecoded, found-asked, malformed, absent}
 use Rattle.calls_worker.proofs.step.Statement.{statement}
 use Rattle.calls_worker.proofs.step.Tie as tie
 

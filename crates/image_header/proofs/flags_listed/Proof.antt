@@ -7,7 +7,7 @@ use native.Mathlib.Nat.{sub-zero}
 use borrow.Author.Tests.{not-true, not-false}
 use Rattle.image_parts.specs.Shape.{codesBelow}
 use Rattle.image_header.specs.Image.{flagsListed}
-use Rattle.image_header.proofs.OfFlags.{flags-on, flags-stop, flags-end}
+use Rattle.image_header.proofs.Flags.{flags-on, flags-stop, flags-end}
 use Rattle.image_header.proofs.flags_listed.Statement.{statement}
 use Rattle.image_header.proofs.flags_listed.Tie as tie
 

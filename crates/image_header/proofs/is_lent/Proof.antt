@@ -1,7 +1,7 @@
 -- `is_lent` meets its contract. Assumes nothing.
 use borrow.Author.Needs.{needs}
 use mathlib.Core.Path.{sym, _∙_}
-use Rattle.image_header.proofs.OfImage.{lent-short, lent-listed}
+use Rattle.image_header.proofs.Image.{lent-short, lent-listed}
 use Rattle.image_header.proofs.is_lent.Statement.{statement}
 use Rattle.image_header.proofs.is_lent.Tie as tie
 

@@ -9,8 +9,8 @@ use mathlib.Core.Path.{subst}
 use Rattle.map_tables.specs.Names.{viewKey}
 use Rattle.image_header.specs.Image.{nodeAt}
 use Rattle.image_header_check.specs.Rows.{Counts}
-use Rattle.image_header_check.proofs.OfRows.{counted}
-use Rattle.image_header_begin.proofs.OfBegun.{place-few, counts-after, begun}
+use Rattle.image_header_check.proofs.Rows.{counted}
+use Rattle.image_header_begin.proofs.Begun.{place-few, counts-after, begun}
 use Rattle.image_header_begin.proofs.begin.Statement.{statement}
 use Rattle.image_header_begin.proofs.begin.Tie as tie
 

@@ -8,8 +8,8 @@ use lib.ListN.{length, getD, take, drop, set}
 use Rattle.spec.specs.Layout.Format.{numberAt}
 use Rattle.image_header_row.specs.Rows.{expiryOf, expiryCode, expiryTime}
 use Rattle.image_header.specs.Image.{headOf}
-use Rattle.image_header_form.proofs.OfFront.{stored-same}
-use Rattle.image_header_counts.proofs.OfCounts.{counts-whole}
+use Rattle.image_header_form.proofs.FrontLaws.{stored-same}
+use Rattle.image_header_counts.proofs.Counts.{counts-whole}
 use Rattle.image_header_counts.proofs.put_counts.Statement.{statement}
 use Rattle.image_header_counts.proofs.put_counts.Tie as tie
 

@@ -5,7 +5,7 @@ use mathlib.Core.Path.{_≡_, refl, sym, _∙_, ap}
 use mathlib.Core.List.{List, [], _∷_, _++_}
 use Prim.Native.Nat.{ℕ, _+_, _-_, _*_, _≤_, _<_}
 use lib.ListN.{length, getD, take, drop, set}
-use Rattle.image_header_counts.proofs.OfCounts.{row-counted}
+use Rattle.image_header_counts.proofs.Counts.{row-counted}
 use Rattle.image_header_counts.proofs.row_counted.Statement.{statement}
 use Rattle.image_header_counts.proofs.row_counted.Tie as tie
 

@@ -5,8 +5,8 @@ use mathlib.Core.Path.{_≡_}
 use Prim.Native.Nat.{_-_}
 use Rattle.spec.specs.Layout.Format.{numberAt}
 use Rattle.image_header.specs.Image.{headOf}
-use Rattle.image_header_form.proofs.OfFront.{stored-same}
-use Rattle.image_header_put.proofs.OfBack.{put-whole}
+use Rattle.image_header_form.proofs.FrontLaws.{stored-same}
+use Rattle.image_header_put.proofs.Back.{put-whole}
 use Rattle.image_header_put.proofs.put_end.Statement.{statement}
 use Rattle.image_header_put.proofs.put_end.Tie as tie
 

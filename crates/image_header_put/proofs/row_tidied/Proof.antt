@@ -3,7 +3,7 @@ use borrow.Author.Needs.{needs}
 use mathlib.Core.Path.{_∙_, ap}
 use Prim.Native.Nat.{_-_}
 use Rattle.image_parts.specs.Shape.{inUse}
-use Rattle.image_header_put.proofs.OfBack.{row-stored}
+use Rattle.image_header_put.proofs.Back.{row-stored}
 use Rattle.image_header_put.proofs.row_tidied.Statement.{statement}
 use Rattle.image_header_put.proofs.row_tidied.Tie as tie
 

@@ -4,8 +4,8 @@ use native.Mathlib.Omega.{arith}
 use mathlib.Core.Path.{refl, _∙_}
 use Prim.Native.Nat.{_+_, _-_, _*_, _≤_}
 use lib.ListN.{length}
-use Rattle.image_header_row.specs.Rows.{keptAt}
-use Rattle.image_header_put.proofs.OfBack.{rows, rows-long, row-of, Done, still, done-step, done-end}
+use Rattle.image_header_row.specs.Rows.{heldRowAt}
+use Rattle.image_header_put.proofs.Back.{rows, rows-long, row-of, Done, still, done-step, done-end}
 use Rattle.image_header_put.proofs.rows_tidied.Statement.{statement}
 use Rattle.image_header_put.proofs.rows_tidied.Tie as tie
 
@@ -49,7 +49,7 @@ loop-again c =
     let lt = (c .before .before .before .before .loop-test) .taken in
     let few = l .inv .2 in
     let k = rows-long s n in
-    (done-step s (rows s n) (l .out) _ i (l .inv .3) (omega arith) (omega arith) (l .inv .0) (the-row-tidied .kept .0) (keptAt (l .out) (48 + 1280 * i)) (still s (rows s n) (l .out) i (l .inv .0) ∙ row-of s n i lt) (the-row-tidied .ensures), omega arith, few, l .inv .3)
+    (done-step s (rows s n) (l .out) _ i (l .inv .3) (omega arith) (omega arith) (l .inv .0) (the-row-tidied .kept .0) (heldRowAt (l .out) (48 + 1280 * i)) (still s (rows s n) (l .out) i (l .inv .0) ∙ row-of s n i lt) (the-row-tidied .ensures), omega arith, few, l .inv .3)
 
 same-length : tie.Need-same-length Inv-loop μ-loop
 same-length c = (c .before .loop) .inv .0 .0

@@ -12,8 +12,8 @@ use lib.Seq.{length-take-le}
 use Rattle.image_map_count.specs.Answers.{countingAs}
 use Rattle.image_map_count.specs.Read.{viewIds, viewSix}
 use Rattle.image_map_count.specs.declared.Ending.{Ending}
-use Rattle.image_map_count.proofs.OfIds.{Narrow, narrow}
-use Rattle.image_map_count.proofs.OfAnswer.{malformed-answer, wide-answer, beyond-answer, six-answer, total-of, total-fits, total-beyond}
+use Rattle.image_map_count.proofs.Ids.{Narrow, narrow}
+use Rattle.image_map_count.proofs.Answer.{malformed-answer, wide-answer, beyond-answer, six-answer, total-of, total-fits, total-beyond}
 use Rattle.image_map_count.proofs.count_placements.Statement.{statement}
 use Rattle.image_map_count.proofs.count_placements.Tie as tie
 

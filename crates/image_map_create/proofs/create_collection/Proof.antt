@@ -7,7 +7,7 @@ use Prim.Native.Nat.{ℕ, _+_, _-_, _*_, _≤_, _<_}
 use lib.ListN.{length, getD, take, drop, set}
 use Rattle.map_tables.specs.Names.{viewName}
 use Rattle.map_tables.specs.View.{viewPlacement, viewSpec}
-use Rattle.image_map_create.proofs.OfCreated.{room-left, not-there, few-between, shards-fit, both-created}
+use Rattle.image_map_create.proofs.Created.{room-left, not-there, few-between, shards-fit, both-created}
 use Rattle.image_map_create.proofs.create_collection.Statement.{statement}
 use Rattle.image_map_create.proofs.create_collection.Tie as tie
 

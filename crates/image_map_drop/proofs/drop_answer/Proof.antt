@@ -9,7 +9,7 @@ use Rattle.spec.specs.Refusals.{noCollection}
 use Rattle.spec.specs.Map.Change.{accepts, rejects}
 use mathlib.Core.Bool.{Bool, cond}
 use Rattle.map_tables.specs.Names.{viewName}
-use Rattle.image_map_drop.proofs.OfDrop.{has-it, has-not}
+use Rattle.image_map_drop.proofs.Drop.{has-it, has-not}
 use Rattle.image_map_drop.proofs.drop_answer.Statement.{statement}
 use Rattle.image_map_drop.proofs.drop_answer.Tie as tie
 

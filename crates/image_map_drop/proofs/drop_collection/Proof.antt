@@ -6,7 +6,7 @@ use mathlib.Core.List.{List, [], _∷_, _++_}
 use Prim.Native.Nat.{ℕ, _+_, _-_, _*_, _≤_, _<_}
 use lib.ListN.{length, getD, take, drop, set}
 use Rattle.map_tables.specs.Names.{viewName}
-use Rattle.image_map_drop.proofs.OfDrop.{few-between, both-dropped}
+use Rattle.image_map_drop.proofs.Drop.{few-between, both-dropped}
 use Rattle.image_map_drop.proofs.drop_collection.Statement.{statement}
 use Rattle.image_map_drop.proofs.drop_collection.Tie as tie
 

@@ -12,9 +12,9 @@ use Rattle.map_tables.specs.declared.CollectionRow.{CollectionRow}
 use Rattle.image_map_row.specs.Rows.{collectionAt, collectionBytes}
 use Rattle.image_map_form.specs.Canon.{imageCollection}
 use Rattle.image_map.specs.Image.{noCollection}
-use Rattle.image_map_put.proofs.OfTidy.{Done, done-start, done-step, done-end, Tidy, tidy-long, tidy-row, tidy-all}
-use Rattle.image_map_put.proofs.OfWhole.{collection-same}
-use Rattle.image_move.proofs.OfBytes.{past}
+use Rattle.image_map_put.proofs.Tidy.{Done, done-start, done-step, done-end, Tidy, tidy-long, tidy-row, tidy-all}
+use Rattle.image_map_put.proofs.Whole.{collection-same}
+use Rattle.image_move.proofs.Bytes.{past}
 use Rattle.image_map_put.proofs.collections_tidied.Statement.{statement}
 use Rattle.image_map_put.proofs.collections_tidied.Tie as tie
 

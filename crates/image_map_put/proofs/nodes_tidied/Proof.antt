@@ -12,9 +12,9 @@ use Rattle.map_tables.specs.declared.NodeRow.{NodeRow}
 use Rattle.image_map_row.specs.Rows.{nodeAt, nodeBytes}
 use Rattle.image_map_form.specs.Canon.{imageNode}
 use Rattle.image_map.specs.Image.{noNode}
-use Rattle.image_map_put.proofs.OfTidy.{Done, done-start, done-step, done-end, Tidy, tidy-long, tidy-row, tidy-all}
-use Rattle.image_map_put.proofs.OfWhole.{node-same}
-use Rattle.image_move.proofs.OfBytes.{past}
+use Rattle.image_map_put.proofs.Tidy.{Done, done-start, done-step, done-end, Tidy, tidy-long, tidy-row, tidy-all}
+use Rattle.image_map_put.proofs.Whole.{node-same}
+use Rattle.image_move.proofs.Bytes.{past}
 use Rattle.image_map_put.proofs.nodes_tidied.Statement.{statement}
 use Rattle.image_map_put.proofs.nodes_tidied.Tie as tie
 

@@ -5,7 +5,7 @@ use mathlib.Core.Path.{_≡_, refl, sym, _∙_, ap}
 use mathlib.Core.List.{List, [], _∷_, _++_}
 use Prim.Native.Nat.{ℕ, _+_, _-_, _*_, _≤_, _<_}
 use lib.ListN.{length, getD, take, drop, set}
-use Rattle.image_map_put.proofs.OfWhole.{as-counted}
+use Rattle.image_map_put.proofs.Whole.{as-counted}
 use Rattle.image_map_put.proofs.put_tidied.Statement.{statement}
 use Rattle.image_map_put.proofs.put_tidied.Tie as tie
 

@@ -12,9 +12,9 @@ use Rattle.map_tables.specs.declared.SessionRow.{SessionRow}
 use Rattle.image_map_row.specs.Rows.{sessionAt, sessionBytes}
 use Rattle.image_map_form.specs.Canon.{imageSession}
 use Rattle.image_map.specs.Image.{noSession}
-use Rattle.image_map_put.proofs.OfTidy.{Done, done-start, done-step, done-end, Tidy, tidy-long, tidy-row, tidy-all}
-use Rattle.image_map_put.proofs.OfWhole.{session-same}
-use Rattle.image_move.proofs.OfBytes.{past}
+use Rattle.image_map_put.proofs.Tidy.{Done, done-start, done-step, done-end, Tidy, tidy-long, tidy-row, tidy-all}
+use Rattle.image_map_put.proofs.Whole.{session-same}
+use Rattle.image_move.proofs.Bytes.{past}
 use Rattle.image_map_put.proofs.sessions_tidied.Statement.{statement}
 use Rattle.image_map_put.proofs.sessions_tidied.Tie as tie
 

@@ -12,9 +12,9 @@ use Rattle.map_tables.specs.declared.ShardRow.{ShardRow}
 use Rattle.image_map_row.specs.Rows.{shardAt, shardBytes}
 use Rattle.image_map_form.specs.Canon.{imageShard}
 use Rattle.image_map.specs.Image.{noShard}
-use Rattle.image_map_put.proofs.OfTidy.{Done, done-start, done-step, done-end, Tidy, tidy-long, tidy-row, tidy-all}
-use Rattle.image_map_put.proofs.OfWhole.{shard-same}
-use Rattle.image_move.proofs.OfBytes.{past}
+use Rattle.image_map_put.proofs.Tidy.{Done, done-start, done-step, done-end, Tidy, tidy-long, tidy-row, tidy-all}
+use Rattle.image_map_put.proofs.Whole.{shard-same}
+use Rattle.image_move.proofs.Bytes.{past}
 use Rattle.image_map_put.proofs.shards_tidied.Statement.{statement}
 use Rattle.image_map_put.proofs.shards_tidied.Tie as tie
 

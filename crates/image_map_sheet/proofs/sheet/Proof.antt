@@ -6,9 +6,9 @@ use mathlib.Core.List.{List, [], _∷_, _++_}
 use Prim.Native.Nat.{ℕ, _+_, _-_, _*_, _≤_, _<_}
 use lib.ListN.{length, getD, take, drop, set}
 use borrow.Author.Tests.{not-true, not-false}
-use Rattle.image_map_loads.proofs.OfRows.{lent-long, used-of}
+use Rattle.image_map_loads.proofs.Rows.{lent-long, used-of}
 use Rattle.image_map_sheet.specs.Answers.{made}
-use Rattle.image_map_sheet.proofs.OfSheet.{not-lent, not-formed, sheeted}
+use Rattle.image_map_sheet.proofs.SheetLaws.{not-lent, not-formed, sheeted}
 use Rattle.image_map_sheet.proofs.sheet.Statement.{statement}
 use Rattle.image_map_sheet.proofs.sheet.Tie as tie
 

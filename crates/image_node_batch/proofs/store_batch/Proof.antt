@@ -7,7 +7,7 @@ use Prim.Native.Nat.{ℕ, _+_, _-_, _*_, _≤_, _<_}
 use lib.ListN.{length, getD, take, drop, set}
 use lib.ListN.{length-take, length-replicate}
 use lib.Seq.{sets}
-use Rattle.image_node_batch.proofs.OfTable.{copied, batch-stored, stored-few}
+use Rattle.image_node_batch.proofs.TableLaws.{copied, batch-stored, stored-few}
 use Rattle.image_node_batch.proofs.store_batch.Statement.{statement}
 use Rattle.image_node_batch.proofs.store_batch.Tie as tie
 

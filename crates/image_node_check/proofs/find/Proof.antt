@@ -10,12 +10,12 @@ use borrow.Author.Tests.{not-true, not-false}
 use Rattle.spec.specs.Layout.Format.{numberAt}
 use Rattle.map_tables.specs.Names.{viewKey}
 use Rattle.node_header.specs.Formed.{formedNode}
-use Rattle.node_header.proofs.OfFormed.{header-few}
+use Rattle.node_header.proofs.Formed.{header-few}
 use Rattle.image_header.specs.Image.{headerLent, nodeAt}
-use Rattle.image_header.proofs.OfImage.{lent-long}
+use Rattle.image_header.proofs.Image.{lent-long}
 use Rattle.image_header_check.specs.Rows.{Counts}
-use Rattle.image_header_check.proofs.OfRows.{counted}
-use Rattle.image_node_check.proofs.OfFind.{no-header, no-stores, unformed, not-held, slot-few, no-store, found-here}
+use Rattle.image_header_check.proofs.Rows.{counted}
+use Rattle.image_node_check.proofs.FindLaws.{no-header, no-stores, unformed, not-held, slot-few, no-store, found-here}
 use Rattle.image_node_check.proofs.find.Statement.{statement}
 use Rattle.image_node_check.proofs.find.Tie as tie
 

@@ -6,8 +6,8 @@ use mathlib.Core.List.{List, [], _∷_, _++_}
 use Prim.Native.Nat.{ℕ, _+_, _-_, _*_, _≤_, _<_}
 use lib.ListN.{length, getD, take, drop, set}
 use Rattle.image_header.specs.Image.{nodeAt}
-use Rattle.image_header_check.proofs.OfRows.{counted}
-use Rattle.image_node_grow.proofs.OfGrow.{row-slot, row-last, well-here, grows}
+use Rattle.image_header_check.proofs.Rows.{counted}
+use Rattle.image_node_grow.proofs.GrowLaws.{row-slot, row-last, well-here, grows}
 use Rattle.image_node_grow.proofs.grow.Statement.{statement}
 use Rattle.image_node_grow.proofs.grow.Tie as tie
 

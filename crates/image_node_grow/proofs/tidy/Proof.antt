@@ -9,8 +9,8 @@ use mathlib.Core.Path.{subst}
 use Rattle.image_header.specs.Image.{nodeAt}
 use Rattle.image_header.specs.Becomes.{HeaderWrites}
 use Rattle.image_header_counts.specs.Counts.{withCounts}
-use Rattle.image_header_check.proofs.OfRows.{counted}
-use Rattle.image_node_grow.proofs.OfGrow.{tidied}
+use Rattle.image_header_check.proofs.Rows.{counted}
+use Rattle.image_node_grow.proofs.GrowLaws.{tidied}
 use Rattle.image_node_grow.proofs.tidy.Statement.{statement}
 use Rattle.image_node_grow.proofs.tidy.Tie as tie
 

@@ -8,8 +8,8 @@ use lib.ListN.{length, getD, take, drop, set}
 use Rattle.spec.specs.Node.Worker.{newEpochMessage}
 use Rattle.spec.specs.Log.{epochEnds}
 use Rattle.image_store.specs.Image.{logAt}
-use Rattle.node_send.proofs.OfAnswer.{short, wrote}
-use Rattle.image_send.proofs.OfRequests.{aligning, align-put, align-length}
+use Rattle.node_send.proofs.Answer.{short, wrote}
+use Rattle.image_send.proofs.Requests.{aligning, align-put, align-length}
 use Rattle.image_send.proofs.write_align.Statement.{statement}
 use Rattle.image_send.proofs.write_align.Tie as tie
 

@@ -8,8 +8,8 @@ use lib.ListN.{length, getD, take, drop, set}
 use Rattle.spec.specs.Node.Worker.{copyOf}
 use Rattle.node_send_entries.specs.Sent.{keyNamed, entriesAt}
 use Rattle.image_send_entries.specs.Store.{storeColumns}
-use Rattle.node_send.proofs.OfAnswer.{short, wrote}
-use Rattle.image_send.proofs.OfRequests.{copy-size, copy-sent}
+use Rattle.node_send.proofs.Answer.{short, wrote}
+use Rattle.image_send.proofs.Requests.{copy-size, copy-sent}
 use Rattle.image_send.proofs.write_copy.Statement.{statement}
 use Rattle.image_send.proofs.write_copy.Tie as tie
 

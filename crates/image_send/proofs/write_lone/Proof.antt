@@ -9,10 +9,10 @@ use Rattle.spec.specs.Node.Worker.{loneOf}
 use Rattle.log_store.specs.View.{entryOf}
 use Rattle.node_send_entries.specs.Sent.{keyNamed}
 use Rattle.image_send_entries.specs.Store.{storeColumns}
-use Rattle.image_send_entries.proofs.OfStore.{few}
-use Rattle.node_send.proofs.OfAnswer.{short, wrote}
+use Rattle.image_send_entries.proofs.Store.{few}
+use Rattle.node_send.proofs.Answer.{short, wrote}
 use lib.Dec.{eqb}
-use Rattle.image_send.proofs.OfRequests.{op-some, lone-room, lone-size, lone-sent}
+use Rattle.image_send.proofs.Requests.{op-some, lone-room, lone-size, lone-sent}
 use Rattle.image_send.proofs.write_lone.Statement.{statement}
 use Rattle.image_send.proofs.write_lone.Tie as tie
 

@@ -9,7 +9,7 @@ use mathlib.Core.Path.{subst}
 use mathlib.Core.Option.{Option}
 use Rattle.spec.specs.Node.Worker.{Message}
 use Rattle.node_send.specs.Requested.{Requested}
-use Rattle.image_send.proofs.OfRequests.{sends-alone, sends-copied}
+use Rattle.image_send.proofs.Requests.{sends-alone, sends-copied}
 use Rattle.image_send.proofs.write_send.Statement.{statement}
 use Rattle.image_send.proofs.write_send.Tie as tie
 

@@ -6,7 +6,7 @@ use mathlib.Core.List.{List, [], _∷_, _++_}
 use Prim.Native.Nat.{ℕ, _+_, _-_, _*_, _≤_, _<_}
 use lib.ListN.{length, getD, take, drop, set}
 use Rattle.log_domain.specs.Parts.{tableIn}
-use Rattle.image_store_align.proofs.OfPairs.{Passed, passed-none, passed-on, found, none-found, agrees-past, agrees-in, agrees-none}
+use Rattle.image_store_align.proofs.Pairs.{Passed, passed-none, passed-on, found, none-found, agrees-past, agrees-in, agrees-none}
 use mathlib.Core.Option.{some}
 use Rattle.spec.specs.Log.{epochAt}
 use lib.Dec.{eqb}

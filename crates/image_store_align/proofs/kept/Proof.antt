@@ -12,8 +12,8 @@ use Rattle.log_store.proofs.Aligning.{KeptFrom, kept-zero, kept-on, kept-stop, 
 use Rattle.log_domain.specs.Parts.{tableIn}
 use Rattle.image_store.specs.Image.{words}
 use Rattle.image_store_check.specs.Test.{offsetsIn}
-use Rattle.image_store_check.proofs.OfEntries.{word-in}
-use Rattle.image_store_align.proofs.OfPairs.{agrees-at}
+use Rattle.image_store_check.proofs.EntryLaws.{word-in}
+use Rattle.image_store_align.proofs.Pairs.{agrees-at}
 use Rattle.image_store_align.proofs.kept.Statement.{statement}
 use Rattle.image_store_align.proofs.kept.Tie as tie
 

@@ -6,7 +6,7 @@ use mathlib.Core.List.{List, [], _∷_, _++_}
 use Prim.Native.Nat.{ℕ, _+_, _-_, _*_, _≤_, _<_}
 use lib.ListN.{length, getD, take, drop, set}
 use borrow.Author.Tests.{not-true, not-false}
-use Rattle.image_store_check.proofs.OfStore.{store-many, store-wide, store-refused, store-offsets, store-table}
+use Rattle.image_store_check.proofs.Store.{store-many, store-wide, store-refused, store-offsets, store-table}
 use Rattle.image_store_check.proofs.is_store.Statement.{statement}
 use Rattle.image_store_check.proofs.is_store.Tie as tie
 

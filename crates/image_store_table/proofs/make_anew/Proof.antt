@@ -5,7 +5,7 @@ use mathlib.Core.Path.{_≡_, refl, sym, _∙_, ap}
 use mathlib.Core.List.{List, [], _∷_, _++_}
 use Prim.Native.Nat.{ℕ, _+_, _-_, _*_, _≤_, _<_}
 use lib.ListN.{length, getD, take, drop, set}
-use Rattle.image_store_table.proofs.OfTable.{made}
+use Rattle.image_store_table.proofs.Table.{made}
 use Rattle.image_store_table.proofs.make_anew.Statement.{statement}
 use Rattle.image_store_table.proofs.make_anew.Tie as tie
 

@@ -10,7 +10,7 @@ use Rattle.log_store.specs.Table.{Tabled, rowsPlayed}
 use Rattle.log_store.proofs.Rebuilt.{rebuilt-zero, rebuilt-rise, rebuilt-on}
 use Rattle.image_store.specs.Read.{codesIn}
 use Rattle.image_store_check.specs.Test.{offsetsIn, idsIn}
-use Rattle.image_store_table.proofs.OfTable.{row-set, row-dropped}
+use Rattle.image_store_table.proofs.Table.{row-set, row-dropped}
 use Rattle.image_store_table.proofs.played.Statement.{statement}
 use Rattle.image_store_table.proofs.played.Tie as tie
 

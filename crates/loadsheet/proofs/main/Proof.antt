@@ -6,7 +6,7 @@ use mathlib.Core.List.{List, [], _∷_, _++_}
 use Prim.Native.Nat.{ℕ, _+_, _-_, _*_, _≤_, _<_}
 use lib.ListN.{length, getD, take, drop, set}
 use lib.ListN.{length-replicate}
-use Rattle.image_map_loads.proofs.OfRows.{used-of}
+use Rattle.image_map_loads.proofs.Rows.{used-of}
 use Rattle.loadsheet.proofs.main.Statement.{statement}
 use Rattle.loadsheet.proofs.main.Tie as tie
 

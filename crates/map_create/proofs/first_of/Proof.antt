@@ -15,7 +15,7 @@ use Rattle.map_tables.proofs.Defaults.{noNode, noId, noList}
 use mathlib.Core.Option.{some}
 use Rattle.spec_laws.proofs.Lists.{nth-none, nth-getD}
 use Rattle.map_tables.specs.View.{viewList}
-use Rattle.map_create.proofs.OfList.{list-row}
+use Rattle.map_create.proofs.List.{list-row}
 use Rattle.map_create.proofs.first_of.Statement.{statement}
 use Rattle.map_create.proofs.first_of.Tie as tie
 use Rattle.map_create.proofs.first_of.Reads as reads

@@ -5,7 +5,7 @@ use mathlib.Core.List.{List, [], _∷_, _++_}
 use Prim.Native.Nat.{ℕ, _+_, _-_, _*_, _≤_, _<_}
 use lib.ListN.{length, getD, take, drop, set}
 use Rattle.spec.specs.declared.DataNodeId.{DataNodeId}
-use Rattle.map_create.proofs.OfList.{list-short, list-long}
+use Rattle.map_create.proofs.List.{list-short, list-long}
 use Rattle.map_tables.proofs.Tables.{of-field}
 use Rattle.map_create.proofs.list_size.Statement.{statement}
 use Rattle.map_create.proofs.list_size.Tie as tie

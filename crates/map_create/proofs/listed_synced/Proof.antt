@@ -14,7 +14,7 @@ use mathlib.Core.List.{map}
 use Rattle.map_tables.proofs.Defaults.{noNode, noId, noList}
 use Rattle.spec_laws.proofs.Map.Rows.{put-most}
 use Rattle.map_tables.specs.View.{viewList, viewInSync}
-use Rattle.map_create.proofs.OfList.{list-row, more-synced, synced-end}
+use Rattle.map_create.proofs.List.{list-row, more-synced, synced-end}
 use Rattle.map_create.proofs.listed_synced.Statement.{statement}
 use Rattle.map_create.proofs.listed_synced.Tie as tie
 use Rattle.map_create.proofs.listed_synced.Reads as reads

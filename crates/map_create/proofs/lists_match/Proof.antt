@@ -9,7 +9,7 @@ use Rattle.spec.specs.Lists.{every}
 use Rattle.spec.specs.Map.Create.{listMatches}
 use Rattle.map_tables.specs.View.{viewList, viewPlacement}
 use Rattle.map_tables.proofs.Defaults.{noList}
-use Rattle.map_create.proofs.OfWalk.{match-none, match-over, match-yes}
+use Rattle.map_create.proofs.Walk.{match-none, match-over, match-yes}
 use Rattle.map_tables.proofs.Tables.{every-on, every-stop, every-end, used-size, used-row, of-field}
 use Rattle.map_create.proofs.lists_match.Statement.{statement}
 use Rattle.map_create.proofs.lists_match.Tie as tie

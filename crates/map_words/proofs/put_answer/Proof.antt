@@ -10,7 +10,7 @@ use Rattle.map_tables.specs.Names.{viewKey}
 use Rattle.map_tables.specs.View.{answerIn}
 use Rattle.map_tables.specs.declared.Answer.{Answer}
 use Rattle.map_tables.specs.declared.Answer.the-variants.{Done}
-use Rattle.map_words.proofs.OfParts.{puts-as, none-put}
+use Rattle.map_words.proofs.PartLaws.{puts-as, none-put}
 use Rattle.map_words.proofs.put_answer.Statement.{statement}
 use Rattle.map_words.proofs.put_answer.Tie as tie
 

@@ -5,7 +5,7 @@ use mathlib.Core.Path.{_≡_, refl, sym, _∙_, ap}
 use mathlib.Core.List.{List, [], _∷_, _++_}
 use Prim.Native.Nat.{ℕ, _+_, _-_, _*_, _≤_, _<_}
 use lib.ListN.{length, getD, take, drop, set}
-use Rattle.map_words.proofs.OfParts.{first-put}
+use Rattle.map_words.proofs.PartLaws.{first-put}
 use Rattle.map_words.proofs.text_of.Statement.{statement}
 use Rattle.map_words.proofs.text_of.Tie as tie
 

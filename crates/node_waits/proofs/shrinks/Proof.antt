@@ -1,5 +1,5 @@
 use borrow.Author.Needs.{needs}
-use Rattle.node_waits.proofs.OfWait.{shrink-late, shrink-not}
+use Rattle.node_waits.proofs.Wait.{shrink-late, shrink-not}
 use Rattle.spec.specs.Lists.{_and_, _or_}
 use native.Mathlib.Omega.{arith}
 use mathlib.Core.Path.{_≡_, refl, sym, _∙_, ap}

@@ -2,7 +2,7 @@
 use borrow.Author.Needs.{needs}
 use mathlib.Core.Path.{sym, _∙_, ap}
 use Rattle.num_position.specs.Positions.{turned}
-use Rattle.num_position.proofs.OfSizes.{not-fielded, no-thousandth, fielded-as}
+use Rattle.num_position.proofs.Sizes.{not-fielded, no-thousandth, fielded-as}
 use Rattle.num_position.proofs.to_fields.Statement.{statement}
 use Rattle.num_position.proofs.to_fields.Tie as tie
 

@@ -1,6 +1,6 @@
 -- The word is that of the number, which is the reason. Assumes nothing.
 use borrow.Author.Needs.{needs}
-use Rattle.test_lines.proofs.OfNumbers.{line-for}
+use Rattle.test_lines.proofs.NumberLaws.{line-for}
 use Rattle.test_lines.proofs.line_of.Statement.{statement}
 use Rattle.test_lines.proofs.line_of.Tie as tie
 

@@ -1,7 +1,7 @@
 -- Each test tells the word of its numbers. Assumes nothing.
 use borrow.Author.Needs.{needs}
 use native.Mathlib.Omega.{arith}
-use Rattle.test_lines.proofs.OfNumbers.{applied-for, rejected-for, refused-for}
+use Rattle.test_lines.proofs.NumberLaws.{applied-for, rejected-for, refused-for}
 use Rattle.test_lines.proofs.word_of.Statement.{statement}
 use Rattle.test_lines.proofs.word_of.Tie as tie
 

@@ -43,32 +43,32 @@ use Rattle.log_store.specs.View.{firsts, opOf, entryOf, logOf}
 use Rattle.log_store.specs.Table.{zipped, rowsOf, vectorsOf, rowOp, playRows, playRowsFrom}
 use Rattle.log_store.specs.Store.{wellFormedStore, everyBelow, sameRows}
 use Rattle.log_calls.specs.Fits.{sized, lentFits}
-use Rattle.log_calls.proofs.OfFits.{fits-sized, fits-well}
-use Rattle.node_header.specs.declared.Kept.{Kept}
+use Rattle.log_calls.proofs.FitLaws.{fits-sized, fits-well}
+use Rattle.node_header.specs.declared.HeldRow.{HeldRow}
 use Rattle.node_header.specs.declared.Node.{Node}
 use Rattle.node_header.specs.declared.NodeGranted.{NodeGranted}
 use Rattle.node_header.specs.declared.NodeWaited.{NodeWaited}
 use Rattle.node_header.specs.declared.NodeAcked.{NodeAcked}
 use Rattle.node_header.specs.declared.GrantAnswer.the-variants as G
-use Rattle.node_header.specs.View.{Stores, viewNode, used, noKept}
+use Rattle.node_header.specs.View.{Stores, viewNode, used, noHeldRow}
 use Rattle.node_header.specs.Formed.{slotsFit, countsFit, lentNode, formedNode}
 use Rattle.node_header.specs.Grow.{freeFrom}
-use Rattle.node_header.specs.Answers.{GrantsNode, WaitsNode, told}
+use Rattle.node_header.specs.Answers.{GrantsNode, WaitsNode, answeredAs}
 use Rattle.node_show.specs.declared.Start.{Start}
 use Rattle.node_show.specs.declared.NodeShown.{NodeShown}
 use Rattle.node_show.specs.declared.ShownAnswer.the-variants as S
-use Rattle.node_show.specs.Slots.{seated, slotsAfter}
+use Rattle.node_show.specs.Slots.{slotted, slotsAfter}
 use Rattle.node_show.specs.Shows.{viewStarts}
 use Rattle.node_hear.specs.Hears.{HearsMap, HearsReply}
-use Rattle.node_lent.specs.Lend.{storeOf, keptStore, lentAt, lentFor, slotOf, Lends, Whole}
-use Rattle.node_header.specs.Seats.{slotsOf}
+use Rattle.node_lent.specs.Lend.{storeOf, heldRowStore, lentAt, lentFor, slotOf, Lends, Whole}
+use Rattle.node_header.specs.Slots.{slotsOf}
 use Rattle.node_send.specs.declared.Request.the-variants as Q
 use Rattle.node_send.specs.Requested.{answerOf, leftOf}
 use Rattle.node_step.specs.Requests.{Requests}
 use Rattle.node_replicate.specs.declared.PeerAnswer.{PeerAnswer}
 use Rattle.node_replicate.specs.declared.PeerReply.the-variants as R
 use Rattle.node_replicate.specs.Peers.{word, ReplicatesAt}
-use Rattle.node_epoch.specs.Announces.{NewEpochSlot, NewEpochSeats, slotsThen, AnnouncesAt}
+use Rattle.node_epoch.specs.NewEpochs.{NewEpochSlot, NewEpochSlots, slotsThen, NewEpochsAt}
 use Rattle.node_write.specs.declared.WriteAnswer.{WriteAnswer}
 use Rattle.node_write.specs.ClientWrites.{writeWord, WriteNames, WriteSlot, SameWrite, WritesAt}
 use Rattle.spec.specs.Node.Refused as refused
@@ -169,8 +169,8 @@ following epoch last = record {
 
 abbrev header : ℕ → Expiry → Held → Node
 header n e h =
-    let x : Kept = record { key = key; slot = 0; stored = 0; held = h } in
-    record { id = node n; incarnation = 4; expiry = e; version = 3; held = array 8 noKept (x ∷ []); count = 1 }
+    let x : HeldRow = record { key = key; slot = 0; stored = 0; held = h } in
+    record { id = node n; incarnation = 4; expiry = e; version = 3; held = array 8 noHeldRow (x ∷ []); count = 1 }
 
 abbrev pub first : Expiry → (last acked : ℕ) → Bool → Node
 first e last acked aligned = header 1 e (leading last (row acked aligned))
@@ -187,11 +187,11 @@ abbrev pub shown-first : NodeShown
 shown-first = record { answer = S.Shown; starts = array 8 starting (starting ∷ []); count = 1; node = first Never 0 0 false }
 
 pub shows-first : HearsMap (new 1) map 0 shown-first
-unfolding opened fill wellFormedLent counted tableCounted lentNode formedNode slotsFit viewStarts seated slotsAfter freeFrom
+unfolding opened fill wellFormedLent counted tableCounted lentNode formedNode slotsFit viewStarts slotted slotsAfter freeFrom
 shows-first = record {
   same = λ s. rw (nil (s .log 0 0) (s .long 0 0), s .bare 0) refl;
   slots = λ e. refl;
-  seats = λ e s. refl;
+  slotsAre = λ e s. refl;
   stays = λ e. not-both true refl e;
 }
 
@@ -199,11 +199,11 @@ abbrev pub shown-second : NodeShown
 shown-second = record { answer = S.Shown; starts = array 8 starting []; count = 0; node = second 0 0 }
 
 pub shows-second : HearsMap (new 2) map 0 shown-second
-unfolding opened fill wellFormedLent counted tableCounted lentNode formedNode slotsFit viewStarts seated slotsAfter freeFrom
+unfolding opened fill wellFormedLent counted tableCounted lentNode formedNode slotsFit viewStarts slotted slotsAfter freeFrom
 shows-second = record {
   same = λ s. rw (nil (s .log 0 0) (s .long 0 0), s .bare 0) refl;
   slots = λ e. refl;
-  seats = λ e s. refl;
+  slotsAre = λ e s. refl;
   stays = λ e. not-both true refl e;
 }
 
@@ -292,19 +292,19 @@ second-one s l v = rw (l, v) refl
 
 -- each header and its store pass the test
 first-empty-lent : (s : Stores) → lentFor s (first (At 100) 0 0 false) before run.key ≡ true
-unfolding opened fill lentFor lentNode slotsFit countsFit lentAt keptStore lentFits sized wellFormedStore everyBelow sameRows logOf firsts rowsOf zipped playRows playRowsFrom
+unfolding opened fill lentFor lentNode slotsFit countsFit lentAt heldRowStore lentFits sized wellFormedStore everyBelow sameRows logOf firsts rowsOf zipped playRows playRowsFrom
 first-empty-lent s = rw (s .long 0 0) refl
 
 first-one-lent : (s : Stores) (aligned : Bool) → lentFor s (first (At 100) 1 0 aligned) after run.key ≡ true
-unfolding opened fill lentFor lentNode slotsFit countsFit lentAt keptStore lentFits sized wellFormedStore everyBelow sameRows logOf firsts entryOf opOf rowsOf zipped rowOp playRows playRowsFrom
+unfolding opened fill lentFor lentNode slotsFit countsFit lentAt heldRowStore lentFits sized wellFormedStore everyBelow sameRows logOf firsts entryOf opOf rowsOf zipped rowOp playRows playRowsFrom
 first-one-lent s aligned = rw (s .long 0 1) refl
 
 second-empty-lent : (s : Stores) (epoch : ℕ) → lentFor s (second epoch 0) before run.key ≡ true
-unfolding opened fill lentFor lentNode slotsFit countsFit lentAt keptStore lentFits sized wellFormedStore everyBelow sameRows logOf firsts rowsOf zipped playRows playRowsFrom
+unfolding opened fill lentFor lentNode slotsFit countsFit lentAt heldRowStore lentFits sized wellFormedStore everyBelow sameRows logOf firsts rowsOf zipped playRows playRowsFrom
 second-empty-lent s epoch = rw (s .long 0 0) refl
 
 second-one-lent : (s : Stores) → lentFor s (second 1 1) after run.key ≡ true
-unfolding opened fill lentFor lentNode slotsFit countsFit lentAt keptStore lentFits sized wellFormedStore everyBelow sameRows logOf firsts entryOf opOf rowsOf zipped rowOp playRows playRowsFrom
+unfolding opened fill lentFor lentNode slotsFit countsFit lentAt heldRowStore lentFits sized wellFormedStore everyBelow sameRows logOf firsts entryOf opOf rowsOf zipped rowOp playRows playRowsFrom
 second-one-lent s = rw (s .long 0 1) refl
 
 -- the slots stay as they are, and the stores are whole
@@ -316,15 +316,15 @@ second-slots : (epoch last : ℕ) → slotsFit (used (second epoch last)) ≡ tr
 unfolding opened fill slotsFit
 second-slots epoch last = refl
 
-empty-fits : (epoch : ℕ) → lentFits (storeOf before (getD (second epoch 0 .held) 0 noKept)) ≡ true
+empty-fits : (epoch : ℕ) → lentFits (storeOf before (getD (second epoch 0 .held) 0 noHeldRow)) ≡ true
 unfolding opened fill lentFits sized wellFormedStore everyBelow sameRows logOf firsts rowsOf zipped playRows playRowsFrom
 empty-fits epoch = refl
 
-one-fits : lentFits (storeOf after (getD (second 1 1 .held) 0 noKept)) ≡ true
+one-fits : lentFits (storeOf after (getD (second 1 1 .held) 0 noHeldRow)) ≡ true
 unfolding opened fill lentFits sized wellFormedStore everyBelow sameRows logOf firsts entryOf opOf rowsOf zipped rowOp playRows playRowsFrom
 one-fits = refl
 
-first-fits : lentFits (storeOf after (getD (first (At 100) 1 0 false .held) 0 noKept)) ≡ true
+first-fits : lentFits (storeOf after (getD (first (At 100) 1 0 false .held) 0 noHeldRow)) ≡ true
 unfolding opened fill lentFits sized wellFormedStore everyBelow sameRows logOf firsts entryOf opOf rowsOf zipped rowOp playRows playRowsFrom
 first-fits = refl
 
@@ -336,7 +336,7 @@ write-slot slot w = w (record { key = run.key; epoch = 1; op = wireDelete 41 }) 
 
 write-taken : (s : Stores)
     → record { answer = accepted; node = read-first (run.entry 1 1 41 ∷ []) (row 0 false) }
-    ≡ told writeWord (calls.writeWith (lentFor s (first (At 100) 0 0 false) before) (read-first [] (row 0 false)) 5 1 bytes)
+    ≡ answeredAs writeWord (calls.writeWith (lentFor s (first (At 100) 0 0 false) before) (read-first [] (row 0 false)) 5 1 bytes)
 unfolding opened
 write-taken s = rw (first-empty-lent s) refl
 
@@ -345,7 +345,7 @@ write-same = λ s t slot w c.
     let z = write-slot slot w in
     ap (λ (x : held.Node). record { answer = accepted; node = x }) (first-one t false (log-one t slot z (c .after)) (vectors-one t slot z (c .after)))
     ∙ write-taken s
-    ∙ ap (λ (x : held.Node). told writeWord (calls.writeWith (lentFor s (first (At 100) 0 0 false) before) x 5 1 bytes)) (sym (first-empty s))
+    ∙ ap (λ (x : held.Node). answeredAs writeWord (calls.writeWith (lentFor s (first (At 100) 0 0 false) before) x 5 1 bytes)) (sym (first-empty s))
 
 abbrev pub wrote : WriteAnswer
 wrote = record { answer = accepted; node = first (At 100) 1 0 false; refused = 0 }
@@ -364,7 +364,7 @@ unfolding refused.counted
 writes = record {
   same = write-same;
   kept = λ e. not-both false e refl;
-  seats = refl;
+  slotsAre = refl;
   slots = λ e. first-slots;
   whole = λ e. write-whole;
   count = refl;
@@ -433,9 +433,9 @@ second-slot epoch last = refl
 align-slot : (epoch last slot : ℕ) → NewEpochSlot (second epoch last) alignBytes slot → slot ≡ 0
 align-slot epoch last slot w = w newEpoch align-decoded ∙ second-slot epoch last
 
-align-seats : (epoch last offset : ℕ) → NewEpochSeats (second epoch last) alignBytes (R.Adopted (record { 0 = offset })) (second 1 last)
+align-slots : (epoch last offset : ℕ) → NewEpochSlots (second epoch last) alignBytes (R.Adopted (record { 0 = offset })) (second 1 last)
 unfolding opened fill slotsThen
-align-seats epoch last offset k named =
+align-slots epoch last offset k named =
     subst (λ (z : Key). slotsOf (second 1 last) ≡ slotsThen (second epoch last) z (R.Adopted (record { 0 = offset }))) (sym (named newEpoch align-decoded)) refl
 
 -- the first one: node 2 is at epoch 0, and adopts
@@ -443,7 +443,7 @@ abbrev pub adopted : PeerAnswer
 adopted = record { answer = R.Adopted (record { 0 = 0 }); node = second 1 0 }
 
 adopts-empty : (s : Stores)
-    → record { answer = R.Adopted (record { 0 = 0 }); node = read-second 1 [] } ≡ told word (calls.newEpochWith (lentFor s (second 0 0) before) (read-second 0 []) alignBytes)
+    → record { answer = R.Adopted (record { 0 = 0 }); node = read-second 1 [] } ≡ answeredAs word (calls.newEpochWith (lentFor s (second 0 0) before) (read-second 0 []) alignBytes)
 unfolding opened
 adopts-empty s = rw (second-empty-lent s 0) refl
 
@@ -451,14 +451,14 @@ empty-key : Whole (second 0 0) (second 1 0) before run.key
 unfolding opened fill
 empty-key e = (fits-sized _ (empty-fits 1), fits-well _ (empty-fits 1))
 
-pub announces-first : AnnouncesAt (second 0 0) before before alignBytes adopted
+pub announces-first : NewEpochsAt (second 0 0) before before alignBytes adopted
 announces-first = record {
   same = λ s t slot w c.
       ap (λ (x : held.Node). record { answer = R.Adopted (record { 0 = 0 }); node = x }) (second-empty t 1)
       ∙ adopts-empty s
-      ∙ ap (λ (x : held.Node). told word (calls.newEpochWith (lentFor s (second 0 0) before) x alignBytes)) (sym (second-empty s 0));
+      ∙ ap (λ (x : held.Node). answeredAs word (calls.newEpochWith (lentFor s (second 0 0) before) x alignBytes)) (sym (second-empty s 0));
   kept = λ e. not-both false e refl;
-  seats = align-seats 0 0 0;
+  slotsAre = align-slots 0 0 0;
   slots = λ e. second-slots 1 0;
   whole = λ e k named. subst (Whole (second 0 0) (second 1 0) before) (sym (named newEpoch align-decoded)) empty-key;
 }
@@ -469,7 +469,7 @@ stored = record { answer = R.Stored (record { 0 = 1 }); node = second 1 1 }
 
 stores-one : (s : Stores)
     → record { answer = R.Stored (record { 0 = 1 }); node = read-second 1 (run.entry 1 1 41 ∷ []) }
-    ≡ told word (calls.replicateWith (lentFor s (second 1 0) before) (read-second 1 []) entryBytes)
+    ≡ answeredAs word (calls.replicateWith (lentFor s (second 1 0) before) (read-second 1 []) entryBytes)
 unfolding opened
 stores-one s = rw (second-empty-lent s 1) refl
 
@@ -483,9 +483,9 @@ replicates = record {
       let z = w lone entry-decoded ∙ second-slot 1 0 in
       ap (λ (x : held.Node). record { answer = R.Stored (record { 0 = 1 }); node = x }) (second-one t (log-one t slot z (c .after)) (vectors-one t slot z (c .after)))
       ∙ stores-one s
-      ∙ ap (λ (x : held.Node). told word (calls.replicateWith (lentFor s (second 1 0) before) x entryBytes)) (sym (second-empty s 1));
+      ∙ ap (λ (x : held.Node). answeredAs word (calls.replicateWith (lentFor s (second 1 0) before) x entryBytes)) (sym (second-empty s 1));
   kept = λ e. not-both false e refl;
-  seats = refl;
+  slotsAre = refl;
   slots = λ e. second-slots 1 1;
   whole = λ e k named. subst (Whole (second 1 0) (second 1 1) after) (sym (named lone entry-decoded)) stored-key;
 }
@@ -496,7 +496,7 @@ kept = record { answer = R.Adopted (record { 0 = 1 }); node = second 1 1 }
 
 keeps-one : (s : Stores)
     → record { answer = R.Adopted (record { 0 = 1 }); node = read-second 1 (run.entry 1 1 41 ∷ []) }
-    ≡ told word (calls.newEpochWith (lentFor s (second 1 1) after) (read-second 1 (run.entry 1 1 41 ∷ [])) alignBytes)
+    ≡ answeredAs word (calls.newEpochWith (lentFor s (second 1 1) after) (read-second 1 (run.entry 1 1 41 ∷ [])) alignBytes)
 unfolding opened
 keeps-one s = rw (second-one-lent s) refl
 
@@ -504,16 +504,16 @@ kept-key : Whole (second 1 1) (second 1 1) after run.key
 unfolding opened fill
 kept-key e = (fits-sized _ one-fits, fits-well _ one-fits)
 
-pub announces-late : AnnouncesAt (second 1 1) after after alignBytes kept
+pub announces-late : NewEpochsAt (second 1 1) after after alignBytes kept
 announces-late = record {
   same = λ s t slot w c.
       let z = align-slot 1 1 slot w in
       ap (λ (x : held.Node). record { answer = R.Adopted (record { 0 = 1 }); node = x }) (second-one t (log-one t slot z (c .after)) (vectors-one t slot z (c .after)))
       ∙ keeps-one s
-      ∙ ap (λ (x : held.Node). told word (calls.newEpochWith (lentFor s (second 1 1) after) x alignBytes))
+      ∙ ap (λ (x : held.Node). answeredAs word (calls.newEpochWith (lentFor s (second 1 1) after) x alignBytes))
       (sym (second-one s (log-one s slot z (c .before)) (vectors-one s slot z (c .before))));
   kept = λ e. not-both false e refl;
-  seats = align-seats 1 1 1;
+  slotsAre = align-slots 1 1 1;
   slots = λ e. second-slots 1 1;
   whole = λ e k named. subst (Whole (second 1 1) (second 1 1) after) (sym (named newEpoch align-decoded)) kept-key;
 }

@@ -38,7 +38,7 @@ use Rattle.node_send.specs.declared.Request.the-variants as Q
 use Rattle.node_send.specs.Requested.{leftOf}
 use Rattle.node_replicate.specs.declared.PeerReply.the-variants as R
 use Rattle.node_replicate.specs.Peers.{ReplicateSlot}
-use Rattle.node_epoch.specs.Announces.{NewEpochSlot}
+use Rattle.node_epoch.specs.NewEpochs.{NewEpochSlot}
 use Rattle.node_write.specs.ClientWrites.{WriteSlot}
 use Rattle.thm_durable.specs.Engine.{Engine, storesOf, seen, withNode, withStore, host}
 use Rattle.thm_durable.specs.Calls.{writeSaid, waitSaid, requestSaid, peerSaid, ackSaid, Waits, Arrives, Acks, Called, Calls}
@@ -60,7 +60,7 @@ pub begun : Engine
 begun = record {
   map = map;
   nodes = nodes;
-  lots = λ n slot. before;
+  lentStores = λ n slot. before;
   clients = λ n. 100;
   requests = λ a b. [];
   replies = [];

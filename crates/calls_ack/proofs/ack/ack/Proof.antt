@@ -8,13 +8,13 @@ use lib.ListN.{length, getD, take, drop, set}
 use mathlib.Core.Bool.{true}
 use borrow.Author.Tests.{not-true, not-false}
 use Rattle.map_tables.specs.Names.{viewKey}
-use Rattle.node_header.proofs.OfFormed.{header-few}
+use Rattle.node_header.proofs.Formed.{header-few}
 use Rattle.image_header.specs.Image.{headerLent, nodeAt}
-use Rattle.image_header.proofs.OfImage.{lent-long}
-use Rattle.calls_header.proofs.OfAsked.{asked-unread, asked-malformed, asked-called, name-fits}
+use Rattle.image_header.proofs.Image.{lent-long}
+use Rattle.calls_header.proofs.Asked.{asked-unread, asked-malformed, asked-called, name-fits}
 use Rattle.image_header_check.specs.Rows.{Counts}
-use Rattle.image_header_check.proofs.OfRows.{counted}
-use Rattle.calls_ack.proofs.OfAck.{ack-bad, ack-none, ack-at}
+use Rattle.image_header_check.proofs.Rows.{counted}
+use Rattle.calls_ack.proofs.AckLaws.{ack-bad, ack-none, ack-at}
 use Rattle.calls_ack.proofs.ack.ack.Statement.{statement}
 use Rattle.calls_ack.proofs.ack.ack.Tie as tie
 

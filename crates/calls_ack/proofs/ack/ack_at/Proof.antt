@@ -6,9 +6,9 @@ use mathlib.Core.List.{List, [], _∷_, _++_}
 use Prim.Native.Nat.{ℕ, _+_, _-_, _*_, _≤_, _<_}
 use lib.ListN.{length, getD, take, drop, set}
 use borrow.Author.Tests.{not-true, not-false}
-use Rattle.image_header_set.proofs.OfPlace.{few-there}
-use Rattle.image_header_set.proofs.OfSet.{counts-still}
-use Rattle.calls_ack.proofs.OfAck.{at-not, at-none, few-peers, at-deed}
+use Rattle.image_header_set.proofs.Place.{few-there}
+use Rattle.image_header_set.proofs.SetLaws.{counts-still}
+use Rattle.calls_ack.proofs.AckLaws.{at-not, at-none, few-peers, at-deed}
 use Rattle.calls_ack.proofs.ack.ack_at.Statement.{statement}
 use Rattle.calls_ack.proofs.ack.ack_at.Tie as tie
 

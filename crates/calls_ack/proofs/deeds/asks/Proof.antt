@@ -7,7 +7,7 @@ use mathlib.Core.Bool.{false}
 use mathlib.Core.Path.{subst}
 use Rattle.node_shard.specs.declared.Reply.{Reply}
 use Rattle.node_shard.specs.Acks.{replyOf}
-use Rattle.node_acks.proofs.OfAck.{gap-some}
+use Rattle.node_acks.proofs.Ack.{gap-some}
 use native.Mathlib.Omega.{arith}
 use mathlib.Core.Path.{_≡_, refl, sym, _∙_, ap}
 use mathlib.Core.List.{List, [], _∷_, _++_}

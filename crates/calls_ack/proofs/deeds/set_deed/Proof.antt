@@ -5,7 +5,7 @@ use mathlib.Core.Path.{_≡_, refl, sym, _∙_, ap}
 use mathlib.Core.List.{List, [], _∷_, _++_}
 use Prim.Native.Nat.{ℕ, _+_, _-_, _*_, _≤_, _<_}
 use lib.ListN.{length, getD, take, drop, set}
-use Rattle.calls_ack.proofs.OfDeeds.{done-nothing, done-down, done-unalign, done-joins, done-stays}
+use Rattle.calls_ack.proofs.DeedLaws.{done-nothing, done-down, done-unalign, done-joins, done-stays}
 use Rattle.calls_ack.proofs.deeds.set_deed.Statement.{statement}
 use Rattle.calls_ack.proofs.deeds.set_deed.Tie as tie
 

@@ -8,9 +8,9 @@ use lib.ListN.{length, getD, take, drop, set}
 use mathlib.Core.Bool.{not}
 use borrow.Author.Tests.{lt-ltb, le-ltb}
 use Rattle.spec.specs.Layout.Message.{decodeReply}
-use Rattle.calls_header.proofs.OfAsked.{ack-unnamed, ack-under, ack-over, ack-step}
-use Rattle.calls_header.proofs.OfCalls.{reply-none, reply-some}
-use Rattle.calls_ack.proofs.OfHeeds.{heeds-none, heeds-some}
+use Rattle.calls_header.proofs.Asked.{ack-unnamed, ack-under, ack-over, ack-step}
+use Rattle.calls_header.proofs.Calls.{reply-none, reply-some}
+use Rattle.calls_ack.proofs.HeedLaws.{heeds-none, heeds-some}
 use Rattle.calls_ack.proofs.heeds.heeded.Statement.{statement}
 use Rattle.calls_ack.proofs.heeds.heeded.Tie as tie
 

@@ -9,7 +9,7 @@ use borrow.Author.Tests.{eq-eqb, ne-eqb}
 use mathlib.Core.Path.{subst}
 use Rattle.spec.specs.Map.Apply.{changeAnswer}
 use Rattle.map_tables.specs.Counted.{Sized}
-use Rattle.calls_apply.proofs.OfPlaces.{shard-none, shard-some, shard-sized}
+use Rattle.calls_apply.proofs.Places.{shard-none, shard-some, shard-sized}
 use Rattle.calls_apply.proofs.answers.answer_at.Statement.{statement}
 use Rattle.calls_apply.proofs.answers.answer_at.Tie as tie
 

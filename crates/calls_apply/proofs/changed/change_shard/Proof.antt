@@ -5,7 +5,7 @@ use mathlib.Core.Path.{_≡_, refl, sym, _∙_, ap}
 use mathlib.Core.List.{List, [], _∷_, _++_}
 use Prim.Native.Nat.{ℕ, _+_, _-_, _*_, _≤_, _<_}
 use lib.ListN.{length, getD, take, drop, set}
-use Rattle.calls_apply.proofs.OfChanged.{hit-inside, takes, change-taken}
+use Rattle.calls_apply.proofs.ChangedLaws.{hit-inside, takes, change-taken}
 use Rattle.calls_apply.proofs.changed.change_shard.Statement.{statement}
 use Rattle.calls_apply.proofs.changed.change_shard.Tie as tie
 

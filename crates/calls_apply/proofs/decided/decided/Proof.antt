@@ -5,7 +5,7 @@ use mathlib.Core.Path.{_≡_, refl, sym, _∙_, ap}
 use mathlib.Core.List.{List, [], _∷_, _++_}
 use Prim.Native.Nat.{ℕ, _+_, _-_, _*_, _≤_, _<_}
 use lib.ListN.{length, getD, take, drop, set}
-use Rattle.calls_apply.proofs.OfSettled.{decides-now, decides-told, keeps-as, full-keeps, new-fresh}
+use Rattle.calls_apply.proofs.SettledLaws.{decides-now, decides-told, keeps-as, full-keeps, new-fresh}
 use Rattle.calls_apply.proofs.decided.decided.Statement.{statement}
 use Rattle.calls_apply.proofs.decided.decided.Tie as tie
 

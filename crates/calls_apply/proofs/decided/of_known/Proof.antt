@@ -9,7 +9,7 @@ use Rattle.spec.specs.Map.Tables as tables
 use Rattle.map_tables.specs.View.{viewSession}
 use Rattle.map_tables.specs.declared.Answer.the-variants.{Done}
 use Rattle.map_tables.specs.declared.SessionRow.{SessionRow}
-use Rattle.calls_apply.proofs.OfSettled.{decides-now, decides-told, keeps-as, older-keeps, equal-keeps, next-fresh}
+use Rattle.calls_apply.proofs.SettledLaws.{decides-now, decides-told, keeps-as, older-keeps, equal-keeps, next-fresh}
 use Rattle.calls_apply.proofs.decided.of_known.Statement.{statement}
 use Rattle.calls_apply.proofs.decided.of_known.Tie as tie
 

@@ -5,9 +5,9 @@ use mathlib.Core.Path.{_≡_, refl, sym, _∙_, ap}
 use mathlib.Core.List.{List, [], _∷_, _++_}
 use Prim.Native.Nat.{ℕ, _+_, _-_, _*_, _≤_, _<_}
 use lib.ListN.{length, getD, take, drop, set}
-use Rattle.calls_apply.proofs.OfChanged.{shards-counted, change-decided}
-use Rattle.calls_apply.proofs.OfNodes.{register-decided, dead-decided}
-use Rattle.calls_apply.proofs.OfCollections.{shards-rise, create-decided, drop-decided, bench-decided}
+use Rattle.calls_apply.proofs.ChangedLaws.{shards-counted, change-decided}
+use Rattle.calls_apply.proofs.NodeLaws.{register-decided, dead-decided}
+use Rattle.calls_apply.proofs.Collections.{shards-rise, create-decided, drop-decided, bench-decided}
 use Rattle.calls_apply.proofs.decided.own_answer.Statement.{statement}
 use Rattle.calls_apply.proofs.decided.own_answer.Tie as tie
 

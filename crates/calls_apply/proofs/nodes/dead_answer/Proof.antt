@@ -9,7 +9,7 @@ use borrow.Author.Tests.{eq-eqb, ne-eqb}
 use mathlib.Core.Logic.{⊎-elim}
 use Rattle.spec.specs.Map.Apply.{deadAnswer}
 use Rattle.calls_apply.specs.Settles.{NodeStands}
-use Rattle.calls_apply.proofs.OfPlaces.{node-none, node-some, incarnation-is}
+use Rattle.calls_apply.proofs.Places.{node-none, node-some, incarnation-is}
 use Rattle.calls_apply.proofs.nodes.dead_answer.Statement.{statement}
 use Rattle.calls_apply.proofs.nodes.dead_answer.Tie as tie
 

@@ -6,7 +6,7 @@ use mathlib.Core.List.{List, [], _∷_, _++_}
 use Prim.Native.Nat.{ℕ, _+_, _-_, _*_, _≤_, _<_}
 use lib.ListN.{length, getD, take, drop, set}
 use mathlib.Core.Bool.{true}
-use Rattle.calls_apply.proofs.OfNodes.{register-room, register-taken}
+use Rattle.calls_apply.proofs.NodeLaws.{register-room, register-taken}
 use Rattle.calls_apply.proofs.nodes.register.Statement.{statement}
 use Rattle.calls_apply.proofs.nodes.register.Tie as tie
 

@@ -8,7 +8,7 @@ use lib.ListN.{length, getD, take, drop, set}
 use borrow.Author.Tests.{le-leb, lt-leb, le-ltb, lt-ltb}
 use Rattle.spec.specs.Map.Apply.{registerAnswer}
 use Rattle.calls_apply.specs.Settles.{NodeStands}
-use Rattle.calls_apply.proofs.OfPlaces.{nodes-count, node-none, node-some, incarnation-is}
+use Rattle.calls_apply.proofs.Places.{nodes-count, node-none, node-some, incarnation-is}
 use Rattle.calls_apply.proofs.nodes.register_answer.Statement.{statement}
 use Rattle.calls_apply.proofs.nodes.register_answer.Tie as tie
 

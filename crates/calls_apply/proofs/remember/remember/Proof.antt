@@ -5,7 +5,7 @@ use mathlib.Core.Path.{_≡_, refl, sym, _∙_, ap}
 use mathlib.Core.List.{List, [], _∷_, _++_}
 use Prim.Native.Nat.{ℕ, _+_, _-_, _*_, _≤_, _<_}
 use lib.ListN.{length, getD, take, drop, set}
-use Rattle.calls_apply.proofs.OfRemember.{remembered-few, remembered-writes}
+use Rattle.calls_apply.proofs.RememberLaws.{remembered-few, remembered-writes}
 use Rattle.calls_apply.proofs.remember.remember.Statement.{statement}
 use Rattle.calls_apply.proofs.remember.remember.Tie as tie
 

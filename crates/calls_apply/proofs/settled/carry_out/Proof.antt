@@ -6,7 +6,7 @@ use mathlib.Core.List.{List, [], _∷_, _++_}
 use Prim.Native.Nat.{ℕ, _+_, _-_, _*_, _≤_, _<_}
 use lib.ListN.{length, getD, take, drop, set}
 use borrow.Author.Tests.{not-true, not-false}
-use Rattle.calls_apply.proofs.OfSettled.{answers-now}
+use Rattle.calls_apply.proofs.SettledLaws.{answers-now}
 use Rattle.calls_apply.proofs.settled.carry_out.Statement.{statement}
 use Rattle.calls_apply.proofs.settled.carry_out.Tie as tie
 

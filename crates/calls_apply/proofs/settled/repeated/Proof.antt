@@ -5,8 +5,8 @@ use mathlib.Core.Path.{_≡_, refl, sym, _∙_, ap}
 use mathlib.Core.List.{List, [], _∷_, _++_}
 use Prim.Native.Nat.{ℕ, _+_, _-_, _*_, _≤_, _<_}
 use lib.ListN.{length, getD, take, drop, set}
-use Rattle.calls_map.proofs.OfApply.{older-not, refused-not, noted-else}
-use Rattle.calls_apply.proofs.OfSettled.{repeated-kept, repeated-written}
+use Rattle.calls_map.proofs.Apply.{older-not, refused-not, noted-else}
+use Rattle.calls_apply.proofs.SettledLaws.{repeated-kept, repeated-written}
 use Rattle.calls_apply.proofs.settled.repeated.Statement.{statement}
 use Rattle.calls_apply.proofs.settled.repeated.Tie as tie
 

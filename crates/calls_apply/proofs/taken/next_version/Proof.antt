@@ -6,7 +6,7 @@ use mathlib.Core.List.{List, [], _∷_, _++_}
 use Prim.Native.Nat.{ℕ, _+_, _-_, _*_, _≤_, _<_}
 use lib.ListN.{length, getD, take, drop, set}
 use mathlib.Core.Bool.{Bool, cond}
-use Rattle.map_apply.proofs.OfCommand.{notBench, sets-by}
+use Rattle.map_apply.proofs.Command.{notBench, sets-by}
 use Rattle.calls_apply.proofs.taken.next_version.Statement.{statement}
 use Rattle.calls_apply.proofs.taken.next_version.Tie as tie
 

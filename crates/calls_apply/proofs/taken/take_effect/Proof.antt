@@ -5,7 +5,7 @@ use mathlib.Core.Path.{_≡_, refl, sym, _∙_, ap}
 use mathlib.Core.List.{List, [], _∷_, _++_}
 use Prim.Native.Nat.{ℕ, _+_, _-_, _*_, _≤_, _<_}
 use lib.ListN.{length, getD, take, drop, set}
-use Rattle.calls_apply.proofs.OfCollections.{create-accepts, create-taken, drop-taken, bench-taken}
+use Rattle.calls_apply.proofs.Collections.{create-accepts, create-taken, drop-taken, bench-taken}
 use Rattle.calls_apply.proofs.taken.take_effect.Statement.{statement}
 use Rattle.calls_apply.proofs.taken.take_effect.Tie as tie
 

@@ -9,7 +9,7 @@ use borrow.Author.Tests.{not-true, not-false}
 use mathlib.Core.Bool.{cond}
 use Rattle.spec.specs.Map.Apply.{setsVersion}
 use Rattle.map_tables.specs.View.{answerOf, viewCommand}
-use Rattle.calls_apply.proofs.OfSettled.{effect-accepted, effect-taken, told-room, told-way, applied-room, applied-way}
+use Rattle.calls_apply.proofs.SettledLaws.{effect-accepted, effect-taken, told-room, told-way, applied-room, applied-way}
 use Rattle.calls_apply.proofs.taken.taken.Statement.{statement}
 use Rattle.calls_apply.proofs.taken.taken.Tie as tie
 

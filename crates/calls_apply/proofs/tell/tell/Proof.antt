@@ -10,7 +10,7 @@ use Rattle.map_tables.specs.Names.{viewKey}
 use Rattle.map_tables.specs.View.{answerIn}
 use Rattle.map_tables.specs.declared.Answer.{Answer}
 use Rattle.calls_apply.specs.Settles.{Room}
-use Rattle.calls_apply.proofs.OfRemember.{noted-as}
+use Rattle.calls_apply.proofs.RememberLaws.{noted-as}
 use Rattle.calls_apply.proofs.tell.tell.Statement.{statement}
 use Rattle.calls_apply.proofs.tell.tell.Tie as tie
 

@@ -2,7 +2,7 @@
 use Rattle.node_refused.specs.Count.{bumped}
 use native.Mathlib.Omega.{arith}
 use mathlib.Core.Path.{_∙_, ap}
-use Rattle.calls_client_out.proofs.OfCount.{count-done, count-short, count-more}
+use Rattle.calls_client_out.proofs.CountLaws.{count-done, count-short, count-more}
 use borrow.Author.Needs.{needs}
 use Rattle.calls_client_out.proofs.count.count_call.Statement.{statement}
 use Rattle.calls_client_out.proofs.count.count_call.Tie as tie

@@ -6,9 +6,9 @@ use mathlib.Core.List.{List, [], _∷_, _++_}
 use Prim.Native.Nat.{ℕ, _+_, _-_, _*_, _≤_, _<_}
 use lib.ListN.{length, getD, take, drop, set}
 use Rattle.log_domain.specs.Parts.{entriesIn}
-use Rattle.image_header_check.proofs.OfRows.{counted}
-use Rattle.image_node_grow.proofs.OfGrow.{row-slot}
-use Rattle.calls_copy.proofs.OfBatch.{slot-here, well-read, holds-read, grows-all}
+use Rattle.image_header_check.proofs.Rows.{counted}
+use Rattle.image_node_grow.proofs.GrowLaws.{row-slot}
+use Rattle.calls_copy.proofs.BatchLaws.{slot-here, well-read, holds-read, grows-all}
 use Rattle.calls_copy.proofs.batch.grow_all.Statement.{statement}
 use Rattle.calls_copy.proofs.batch.grow_all.Tie as tie
 

@@ -5,7 +5,7 @@ use mathlib.Core.Path.{_≡_, refl, sym, _∙_, ap}
 use mathlib.Core.List.{List, [], _∷_, _++_}
 use Prim.Native.Nat.{ℕ, _+_, _-_, _*_, _≤_, _<_}
 use lib.ListN.{length, getD, take, drop, set}
-use Rattle.calls_count.proofs.OfAnswer.{six-short, six-put}
+use Rattle.calls_count.proofs.AnswerLaws.{six-short, six-put}
 use Rattle.calls_count.proofs.answer.put_six.Statement.{statement}
 use Rattle.calls_count.proofs.answer.put_six.Tie as tie
 

@@ -5,7 +5,7 @@ use mathlib.Core.Path.{_≡_, refl, sym, _∙_, ap}
 use mathlib.Core.List.{List, [], _∷_, _++_}
 use Prim.Native.Nat.{ℕ, _+_, _-_, _*_, _≤_, _<_}
 use lib.ListN.{length, getD, take, drop, set}
-use Rattle.calls_count.proofs.OfAnswer.{id-there, id-none}
+use Rattle.calls_count.proofs.AnswerLaws.{id-there, id-none}
 use Rattle.calls_count.proofs.ids.id_at.Statement.{statement}
 use Rattle.calls_count.proofs.ids.id_at.Tie as tie
 

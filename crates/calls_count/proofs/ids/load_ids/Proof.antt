@@ -5,7 +5,7 @@ use mathlib.Core.Path.{_≡_, refl, sym, _∙_, ap}
 use mathlib.Core.List.{List, [], _∷_, _++_}
 use Prim.Native.Nat.{ℕ, _+_, _-_, _*_, _≤_, _<_}
 use lib.ListN.{length, getD, take, drop, set}
-use Rattle.calls_count.proofs.OfAnswer.{loaded}
+use Rattle.calls_count.proofs.AnswerLaws.{loaded}
 use Rattle.calls_count.proofs.ids.load_ids.Statement.{statement}
 use Rattle.calls_count.proofs.ids.load_ids.Tie as tie
 

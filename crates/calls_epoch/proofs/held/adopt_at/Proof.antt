@@ -7,13 +7,13 @@ use Prim.Native.Nat.{ℕ, _+_, _-_, _*_, _≤_, _<_}
 use lib.ListN.{length, getD, take, drop, set}
 use mathlib.Core.Path.{subst}
 use Rattle.spec.specs.Layout.Format.{Bytes}
-use Rattle.log_arrive.proofs.OfMessages.{new-epoch-there}
+use Rattle.log_arrive.proofs.Messages.{new-epoch-there}
 use Rattle.map_tables.specs.Names.{viewKey}
-use Rattle.image_node_grow.proofs.OfGrow.{row-slot, row-last, row-stored}
+use Rattle.image_node_grow.proofs.GrowLaws.{row-slot, row-last, row-stored}
 use Rattle.image_node.specs.Lent.{beginOf}
 use Rattle.image_node_grow.specs.Grow.{rowIn}
-use Rattle.calls_epoch.proofs.OfAligned.{last-most, left-of}
-use Rattle.calls_epoch.proofs.OfNewEpoch.{told-zero, row-own, keeps-here, tables-here, whole-sent, cut-sent}
+use Rattle.calls_epoch.proofs.Aligned.{last-most, left-of}
+use Rattle.calls_epoch.proofs.NewEpoch.{told-zero, row-own, keeps-here, tables-here, whole-sent, cut-sent}
 use Rattle.calls_epoch.proofs.held.adopt_at.Statement.{statement}
 use Rattle.calls_epoch.proofs.held.adopt_at.Tie as tie
 

@@ -5,9 +5,9 @@ use mathlib.Core.Path.{_≡_, refl, sym, _∙_, ap}
 use mathlib.Core.List.{List, [], _∷_, _++_}
 use Prim.Native.Nat.{ℕ, _+_, _-_, _*_, _≤_, _<_}
 use lib.ListN.{length, getD, take, drop, set}
-use Rattle.calls_epoch.proofs.OfBegin.{counts-here, full, sent, short}
-use Rattle.image_header_check.proofs.OfRows.{counted}
-use Rattle.calls_epoch.proofs.OfNewEpoch.{told-zero}
+use Rattle.calls_epoch.proofs.Begin.{counts-here, full, sent, short}
+use Rattle.image_header_check.proofs.Rows.{counted}
+use Rattle.calls_epoch.proofs.NewEpoch.{told-zero}
 use Rattle.calls_epoch.proofs.held.begin_at.Statement.{statement}
 use Rattle.calls_epoch.proofs.held.begin_at.Tie as tie
 

@@ -7,7 +7,7 @@ use Prim.Native.Nat.{ℕ, _+_, _-_, _*_, _≤_, _<_}
 use lib.ListN.{length, getD, take, drop, set}
 use Rattle.spec.specs.Layout.Format.{Bytes}
 use Rattle.map_tables.specs.Names.{viewKey}
-use Rattle.calls_epoch.proofs.OfNewEpoch.{row-own, row-role, stale-here, stale, short}
+use Rattle.calls_epoch.proofs.NewEpoch.{row-own, row-role, stale-here, stale, short}
 use Rattle.calls_epoch.proofs.held.new_epoch_at.Statement.{statement}
 use Rattle.calls_epoch.proofs.held.new_epoch_at.Tie as tie
 

@@ -6,15 +6,15 @@ use mathlib.Core.List.{List, [], _∷_, _++_}
 use Prim.Native.Nat.{ℕ, _+_, _-_, _*_, _≤_, _<_}
 use lib.ListN.{length, getD, take, drop, set}
 use mathlib.Core.Path.{subst}
-use Rattle.node_header.specs.View.{noKept}
-use Rattle.image_header_row.specs.Rows.{keptAt}
+use Rattle.node_header.specs.View.{noHeldRow}
+use Rattle.image_header_row.specs.Rows.{heldRowAt}
 use Rattle.image_header.specs.Image.{nodeAt}
-use Rattle.image_header_check.proofs.OfRows.{counted}
+use Rattle.image_header_check.proofs.Rows.{counted}
 use Rattle.image_header_set.specs.Row.{alignedSet}
-use Rattle.image_header_set.proofs.OfSet.{counts-still, row-put, row-as}
+use Rattle.image_header_set.proofs.SetLaws.{counts-still, row-put, row-as}
 use Rattle.image_node_grow.specs.Grow.{rowIn}
-use Rattle.image_node_grow.proofs.OfGrow.{row-is}
-use Rattle.node_header.specs.declared.Kept.{Kept}
+use Rattle.image_node_grow.proofs.GrowLaws.{row-is}
+use Rattle.node_header.specs.declared.HeldRow.{HeldRow}
 use Rattle.calls_epoch.proofs.held.realign.Statement.{statement}
 use Rattle.calls_epoch.proofs.held.realign.Tie as tie
 
@@ -40,7 +40,7 @@ same-length c = (c .before .before .put-back) .kept .0 ∙ (c .before .before .b
 returns : tie.Need-returns
 returns c = let a = (c .before .before .before .before .before .before .before .before .before .before .before .args) in let s = a .header .now in let e = counted s in let g = (c .before .before .before .before .before .before .before .before .get8) .ensures in let f = (c .before .before .before .before .before .before .before .before .before .before .before .pre) .0 .1 in let u = (c .before .before .before .before .before .before .before .before .before .before .before .pre) .1 in
     row-put s _ _ ((c .before .before .before .before .before .before .before .before .get8) .result) ((c .before .before .before .before .before .before .before .before .before .before .before .pre) .0 .0, omega arith, sym g) (a .at) (omega arith) (alignedSet (rowIn s (a .at)) (a .epoch) (a .last) (a .stored))
-    (row-as (ap (λ (x : Kept). alignedSet x (a .epoch) (a .last) (a .stored)) (sym (row-is s (a .at) ((c .before .before .before .before .before .before .before .before .before .before .before .pre) .0) u))) ((c .before .before .before .before .before .before .set-aligned) .ensures))
+    (row-as (ap (λ (x : HeldRow). alignedSet x (a .epoch) (a .last) (a .stored)) (sym (row-is s (a .at) ((c .before .before .before .before .before .before .before .before .before .before .before .pre) .0) u))) ((c .before .before .before .before .before .before .set-aligned) .ensures))
     (λ i. omega (arith, (c .before .before .before .before .slice-known2) .given i)) ((c .before .before .put-back) .ensures)
 
 pub realign-spec : {M : Type 1} → statement M

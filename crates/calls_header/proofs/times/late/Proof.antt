@@ -1,6 +1,6 @@
 -- `times::late` meets its contract. Assumes nothing.
 use borrow.Author.Tests.{lt-ltb, le-ltb}
-use Rattle.calls_header.proofs.OfAsked.{late-first, late-second}
+use Rattle.calls_header.proofs.Asked.{late-first, late-second}
 use Rattle.calls_header.proofs.times.late.Statement.{statement}
 use Rattle.calls_header.proofs.times.late.Tie as tie
 

@@ -9,7 +9,7 @@ use mathlib.Core.Path.{subst}
 use native.Mathlib.Numerals.{add-one}
 use borrow.Author.Tests.{not-true, not-false}
 use Rattle.calls_join.specs.View.{Leads, afterAt}
-use Rattle.calls_join.proofs.OfBytes.{stands-says, leads-size, leads-snoc, broken-in}
+use Rattle.calls_join.proofs.Bytes.{stands-says, leads-size, leads-snoc, broken-in}
 use Rattle.calls_join.proofs.answers.count_answers.Statement.{statement}
 use Rattle.calls_join.proofs.answers.count_answers.Tie as tie
 

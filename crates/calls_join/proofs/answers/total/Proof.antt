@@ -8,7 +8,7 @@ use lib.ListN.{length, getD, take, drop, set}
 use Rattle.spec_join.specs.Join.{allHits}
 use Rattle.calls_join.specs.View.{Stand, answersAt}
 use mathlib.Core.Path.{subst}
-use Rattle.calls_join.proofs.OfBytes.{stands-says, stand-first, stand-rest}
+use Rattle.calls_join.proofs.Bytes.{stands-says, stand-first, stand-rest}
 use Rattle.calls_join.proofs.Walks.{total-on, total-end}
 use Rattle.calls_join.proofs.answers.total.Statement.{statement}
 use Rattle.calls_join.proofs.answers.total.Tie as tie

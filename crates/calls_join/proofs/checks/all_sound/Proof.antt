@@ -6,7 +6,7 @@ use mathlib.Core.List.{List, [], _∷_, _++_}
 use Prim.Native.Nat.{ℕ, _+_, _-_, _*_, _≤_, _<_}
 use lib.ListN.{length, getD, take, drop, set}
 use borrow.Author.Tests.{not-true, not-false}
-use Rattle.calls_join.proofs.OfCalls.{sound-many, sound-risen, sound-each}
+use Rattle.calls_join.proofs.Calls.{sound-many, sound-risen, sound-each}
 use Rattle.calls_join.proofs.checks.all_sound.Statement.{statement}
 use Rattle.calls_join.proofs.checks.all_sound.Tie as tie
 

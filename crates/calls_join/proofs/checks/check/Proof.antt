@@ -8,7 +8,7 @@ use lib.ListN.{length, getD, take, drop, set}
 use mathlib.Core.Path.{subst}
 use borrow.Author.Tests.{not-true, not-false}
 use Rattle.calls_join.specs.View.{Counts}
-use Rattle.calls_join.proofs.OfCalls.{is-undecodable, is-out-of-order, is-other-shard, few-of}
+use Rattle.calls_join.proofs.Calls.{is-undecodable, is-out-of-order, is-other-shard, few-of}
 use Rattle.calls_join.proofs.checks.check.Statement.{statement}
 use Rattle.calls_join.proofs.checks.check.Tie as tie
 

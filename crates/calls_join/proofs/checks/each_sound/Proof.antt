@@ -10,9 +10,9 @@ use borrow.Author.Tests.{not-true, not-false}
 use Rattle.spec.specs.Lists.{every}
 use Rattle.spec_join.specs.Join.{soundAnswer}
 use Rattle.calls_join.specs.View.{Stand, answersAt}
-use Rattle.calls_join.proofs.OfBytes.{stands-says, stand-first, stand-rest}
+use Rattle.calls_join.proofs.Bytes.{stands-says, stand-first, stand-rest}
 use Rattle.calls_join.proofs.Walks.{answers-stop, answers-on, answers-end}
-use Rattle.calls_join.proofs.OfCalls.{order-wrong, apart-wrong, answer-sound}
+use Rattle.calls_join.proofs.Calls.{order-wrong, apart-wrong, answer-sound}
 use Rattle.calls_join.proofs.checks.each_sound.Statement.{statement}
 use Rattle.calls_join.proofs.checks.each_sound.Tie as tie
 

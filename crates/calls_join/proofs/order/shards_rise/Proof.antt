@@ -10,7 +10,7 @@ use Rattle.spec.specs.Lists.{rising}
 use Rattle.spec.specs.Layout.Format.{numberAt}
 use Rattle.spec_join.specs.Join.{shardBelow}
 use Rattle.calls_join.specs.View.{Stand, answersAt, afterAt}
-use Rattle.calls_join.proofs.OfBytes.{stands-says, stand-first, stand-rest}
+use Rattle.calls_join.proofs.Bytes.{stands-says, stand-first, stand-rest}
 use Rattle.calls_join.proofs.Walks.{rise-stop, rise-on, rise-end}
 use Rattle.calls_join.proofs.order.shards_rise.Statement.{statement}
 use Rattle.calls_join.proofs.order.shards_rise.Tie as tie

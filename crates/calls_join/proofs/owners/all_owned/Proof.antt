@@ -10,7 +10,7 @@ use borrow.Author.Tests.{not-true, not-false}
 use Rattle.spec_join.specs.Join.{Answer, owned}
 use Rattle.calls_join.specs.View.{Stand, answersAt, answerAt, hitsAt}
 use Rattle.calls_join.specs.Owners.{ownHits}
-use Rattle.calls_join.proofs.OfBytes.{stands-says, stand-first, stand-rest}
+use Rattle.calls_join.proofs.Bytes.{stands-says, stand-first, stand-rest}
 use Rattle.calls_join.proofs.Walks.{answers-stop, answers-on, answers-end}
 use Rattle.calls_join.proofs.owners.all_owned.Statement.{statement}
 use Rattle.calls_join.proofs.owners.all_owned.Tie as tie

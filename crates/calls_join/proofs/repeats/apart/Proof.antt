@@ -12,7 +12,7 @@ use Rattle.spec_join.specs.Join as join
 use Rattle.calls_join.specs.View.{hitsAt}
 use mathlib.Core.Bool.{false}
 use Rattle.calls_join.specs.Buckets.{Listed}
-use Rattle.calls_join.proofs.OfBuckets.{zeros, Kept, kept-none, kept-next, apart-all, apart-not}
+use Rattle.calls_join.proofs.Buckets.{zeros, Kept, kept-none, kept-next, apart-all, apart-not}
 use Rattle.calls_join.proofs.repeats.apart.Statement.{statement}
 use Rattle.calls_join.proofs.repeats.apart.Tie as tie
 

@@ -6,7 +6,7 @@ use mathlib.Core.List.{List, [], _∷_, _++_}
 use Prim.Native.Nat.{ℕ, _+_, _-_, _*_, _≤_, _<_}
 use lib.ListN.{length, getD, take, drop, set}
 use Rattle.calls_join.specs.Buckets.{idAt, Falls, Reaches}
-use Rattle.calls_join.proofs.OfBuckets.{reaches-none, reaches-on}
+use Rattle.calls_join.proofs.Buckets.{reaches-none, reaches-on}
 use Rattle.calls_join.proofs.repeats.listed.Statement.{statement}
 use Rattle.calls_join.proofs.repeats.listed.Tie as tie
 

@@ -11,7 +11,7 @@ use Rattle.map_place.specs.Read.{viewLoads, Columns}
 use Rattle.map_place.specs.Answers.{placedOf}
 use Rattle.map_place.proofs.Pairs.{there, row-next}
 use Rattle.calls_losses.specs.Rows.{lossAs}
-use Rattle.calls_losses.proofs.OfRows.{Walked, walked-start, walked-end, walked-skip, walked-row, found-loss, found-matters, light-left}
+use Rattle.calls_losses.proofs.RowLaws.{Walked, walked-start, walked-end, walked-skip, walked-row, found-loss, found-matters, light-left}
 use Rattle.calls_losses.proofs.rows.put_losses.Statement.{statement}
 use Rattle.calls_losses.proofs.rows.put_losses.Tie as tie
 

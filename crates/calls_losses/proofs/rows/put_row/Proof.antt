@@ -4,7 +4,7 @@ use native.Mathlib.Omega.{arith}
 use mathlib.Core.Path.{sym}
 use Prim.Native.Nat.{_-_}
 use Rattle.image_parts.proofs.Images.{stored-then, stored-word}
-use Rattle.calls_losses.proofs.OfRows.{short-row, long-row}
+use Rattle.calls_losses.proofs.RowLaws.{short-row, long-row}
 use Rattle.calls_losses.proofs.rows.put_row.Statement.{statement}
 use Rattle.calls_losses.proofs.rows.put_row.Tie as tie
 

@@ -1,7 +1,7 @@
 -- `lists::answer_lists` meets its contract. Assumes nothing.
 use borrow.Author.Needs.{needs}
 use mathlib.Core.Path.{refl}
-use Rattle.calls_map.proofs.OfPlaces.{lists-refused, told-lists}
+use Rattle.calls_map.proofs.Places.{lists-refused, told-lists}
 use Rattle.calls_map.proofs.lists.answer_lists.Statement.{statement}
 use Rattle.calls_map.proofs.lists.answer_lists.Tie as tie
 

@@ -5,7 +5,7 @@ use mathlib.Core.Path.{_≡_, sym, ap, _∙_}
 use Prim.Native.Nat.{ℕ, _*_}
 use lib.ListN.{length}
 use Rattle.map_tables.proofs.Tables.{of-field}
-use Rattle.calls_map.proofs.OfLists.{list-long}
+use Rattle.calls_map.proofs.ListLaws.{list-long}
 use Rattle.calls_map.proofs.lists.list_size.Statement.{statement}
 use Rattle.calls_map.proofs.lists.list_size.Tie as tie
 

@@ -8,7 +8,7 @@ use lib.ListN.{length, getD, drop}
 use Rattle.spec.specs.Layout.Format.{concatMap}
 use Rattle.map_tables.proofs.Tables.{of-field}
 use Rattle.image_parts.proofs.Images.{length-used}
-use Rattle.calls_map.proofs.OfLists.{pastList, rowBytes, rowsOf, rows-bytes, size-step, size-end}
+use Rattle.calls_map.proofs.ListLaws.{pastList, rowBytes, rowsOf, rows-bytes, size-step, size-end}
 use Rattle.calls_map.proofs.lists.lists_size.Statement.{statement}
 use Rattle.calls_map.proofs.lists.lists_size.Tie as tie
 

@@ -12,7 +12,7 @@ use Rattle.image_parts.specs.Shape.{inUse}
 use Rattle.image_parts.specs.Codes.{idOf}
 use Rattle.image_parts.specs.Parts.{idValue, idBytes}
 use Rattle.image_parts.proofs.Images.{table-step, length-used, put-end, stored-word, stored-all}
-use Rattle.calls_map.proofs.OfLists.{list-long}
+use Rattle.calls_map.proofs.ListLaws.{list-long}
 use Rattle.calls_map.proofs.lists.put_list.Statement.{statement}
 use Rattle.calls_map.proofs.lists.put_list.Tie as tie
 

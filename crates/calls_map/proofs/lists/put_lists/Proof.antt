@@ -11,7 +11,7 @@ use Rattle.map_tables.specs.View.{viewPlacement}
 use Rattle.map_tables.proofs.Tables.{of-field}
 use Rattle.image_parts.proofs.Images.{table-step, length-used, put-end}
 use Rattle.calls_map.specs.Places.{listsBytes}
-use Rattle.calls_map.proofs.OfLists.{pastList, rowBytes, rowsOf, rows-bytes, size-step}
+use Rattle.calls_map.proofs.ListLaws.{pastList, rowBytes, rowsOf, rows-bytes, size-step}
 use Rattle.calls_map.proofs.lists.put_lists.Statement.{statement}
 use Rattle.calls_map.proofs.lists.put_lists.Tie as tie
 

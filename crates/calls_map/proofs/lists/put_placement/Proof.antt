@@ -1,7 +1,7 @@
 -- `lists::put_placement` meets its contract. Assumes nothing.
 use borrow.Author.Needs.{needs}
 use Rattle.map_tables.specs.View.{viewPlacement}
-use Rattle.calls_map.proofs.OfPlaces.{lists-short, lists-long}
+use Rattle.calls_map.proofs.Places.{lists-short, lists-long}
 use Rattle.calls_map.proofs.lists.put_placement.Statement.{statement}
 use Rattle.calls_map.proofs.lists.put_placement.Tie as tie
 

@@ -6,7 +6,7 @@ use Rattle.map_tables.specs.Names.{viewKey}
 use Rattle.map_tables.specs.View.{answerIn}
 use Rattle.map_tables.specs.declared.Answer.{Answer}
 use Rattle.image_parts.specs.declared.Coded.{Coded}
-use Rattle.calls_map.proofs.OfNumbers.{code-number}
+use Rattle.calls_map.proofs.NumberLaws.{code-number}
 use Rattle.calls_map.proofs.numbers.verdict_number.Statement.{statement}
 use Rattle.calls_map.proofs.numbers.verdict_number.Tie as tie
 

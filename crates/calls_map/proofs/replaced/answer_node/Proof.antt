@@ -1,6 +1,6 @@
 -- `replaced::answer_node` meets its contract. Assumes nothing.
 use borrow.Author.Needs.{needs}
-use Rattle.calls_map.proofs.OfPlaces.{node-refused, told-node}
+use Rattle.calls_map.proofs.Places.{node-refused, told-node}
 use Rattle.calls_map.proofs.replaced.answer_node.Statement.{statement}
 use Rattle.calls_map.proofs.replaced.answer_node.Tie as tie
 

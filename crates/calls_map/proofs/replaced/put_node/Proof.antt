@@ -1,7 +1,7 @@
 -- `replaced::put_node` meets its contract. Assumes nothing.
 use borrow.Author.Needs.{needs}
 use mathlib.Core.Bool.{true, false}
-use Rattle.calls_map.proofs.OfPlaces.{node-put}
+use Rattle.calls_map.proofs.Places.{node-put}
 use Rattle.calls_map.proofs.replaced.put_node.Statement.{statement}
 use Rattle.calls_map.proofs.replaced.put_node.Tie as tie
 

@@ -1,5 +1,5 @@
 -- `replaced::put_none` meets its contract. Assumes nothing.
-use Rattle.calls_map.proofs.OfPlaces.{none-short, none-long}
+use Rattle.calls_map.proofs.Places.{none-short, none-long}
 use Rattle.calls_map.proofs.replaced.put_none.Statement.{statement}
 use Rattle.calls_map.proofs.replaced.put_none.Tie as tie
 

@@ -12,14 +12,14 @@ use Rattle.spec.specs.Node.Ack.{leaves}
 use Rattle.map_tables.specs.Names.{viewKey}
 use Rattle.node_header.specs.declared.Proposal.{Proposal}
 use Rattle.node_header.specs.Answers.{proposalOf}
-use Rattle.node_header.proofs.OfFormed.{header-few}
+use Rattle.node_header.proofs.Formed.{header-few}
 use Rattle.image_header.specs.Image.{headerLent, nodeAt}
-use Rattle.image_header.proofs.OfImage.{lent-long}
-use Rattle.calls_header.proofs.OfAsked.{asked-unread, asked-malformed, asked-called, name-fits}
+use Rattle.image_header.proofs.Image.{lent-long}
+use Rattle.calls_header.proofs.Asked.{asked-unread, asked-malformed, asked-called, name-fits}
 use Rattle.image_header_check.specs.Rows.{Counts}
-use Rattle.image_header_check.proofs.OfRows.{counted}
-use Rattle.image_header_set.proofs.OfSet.{counts-still}
-use Rattle.calls_outcome.proofs.OfOutcome.{outcome-bad, outcome-none, few-here, outcome-at}
+use Rattle.image_header_check.proofs.Rows.{counted}
+use Rattle.image_header_set.proofs.SetLaws.{counts-still}
+use Rattle.calls_outcome.proofs.OutcomeLaws.{outcome-bad, outcome-none, few-here, outcome-at}
 use Rattle.calls_outcome.proofs.outcome.outcome.Statement.{statement}
 use Rattle.calls_outcome.proofs.outcome.outcome.Tie as tie
 

@@ -3,7 +3,7 @@ use borrow.Author.Needs.{needs}
 use mathlib.Core.Bool.{not}
 use mathlib.Core.Path.{sym, ap, _∙_}
 use borrow.Author.Tests.{lt-ltb, le-ltb}
-use Rattle.calls_header.proofs.OfAsked.{outcome-unnamed, outcome-unended, outcome-under, outcome-over}
+use Rattle.calls_header.proofs.Asked.{outcome-unnamed, outcome-unended, outcome-under, outcome-over}
 use Rattle.calls_outcome.proofs.outcome.unread.Statement.{statement}
 use Rattle.calls_outcome.proofs.outcome.unread.Tie as tie
 

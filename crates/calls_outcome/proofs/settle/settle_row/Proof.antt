@@ -7,7 +7,7 @@ use Prim.Native.Nat.{ℕ, _+_, _-_, _*_, _≤_, _<_}
 use lib.ListN.{length, getD, take, drop, set}
 use borrow.Author.Tests.{not-true, not-false}
 use Rattle.image_parts.specs.Codes.{flagOf}
-use Rattle.calls_outcome.proofs.OfSettle.{settle-not, settle-none, settle-few, settle-row}
+use Rattle.calls_outcome.proofs.SettleLaws.{settle-not, settle-none, settle-few, settle-row}
 use Rattle.calls_outcome.proofs.settle.settle_row.Statement.{statement}
 use Rattle.calls_outcome.proofs.settle.settle_row.Tie as tie
 

@@ -2,7 +2,7 @@
 use borrow.Author.Needs.{needs}
 use borrow.Author.Tests.{le-leb, lt-leb}
 use mathlib.Core.Path.{sym, _∙_}
-use Rattle.calls_parts.proofs.OfAnswer.{number-put, number-unput}
+use Rattle.calls_parts.proofs.AnswerLaws.{number-put, number-unput}
 use Rattle.calls_parts.proofs.answer.put_number.Statement.{statement}
 use Rattle.calls_parts.proofs.answer.put_number.Tie as tie
 

@@ -2,7 +2,7 @@
 use native.Mathlib.Omega.{arith}
 use mathlib.Core.Path.{_∙_}
 use Rattle.wire_put.proofs.Writes.{text-short}
-use Rattle.calls_parts.proofs.OfKey.{all-named}
+use Rattle.calls_parts.proofs.KeyLaws.{all-named}
 use Rattle.calls_parts.proofs.named.key_named.Statement.{statement}
 use Rattle.calls_parts.proofs.named.key_named.Tie as tie
 

@@ -1,6 +1,6 @@
 -- `pattern` meets its contract. Assumes nothing.
 use borrow.Author.Needs.{needs}
-use Rattle.calls_position.proofs.OfPattern.{some-size, one-less, down-from, plain-size}
+use Rattle.calls_position.proofs.Pattern.{some-size, one-less, down-from, plain-size}
 use Rattle.calls_position.proofs.stored.pattern.Statement.{statement}
 use Rattle.calls_position.proofs.stored.pattern.Tie as tie
 

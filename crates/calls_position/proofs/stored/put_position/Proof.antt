@@ -1,8 +1,8 @@
 -- `put_position` meets its contract. Assumes nothing.
 use borrow.Author.Needs.{needs}
 use mathlib.Core.Path.{_∙_}
-use Rattle.calls_position.proofs.OfPattern.{pattern-read}
-use Rattle.calls_position.proofs.OfBytes.{position-put}
+use Rattle.calls_position.proofs.Pattern.{pattern-read}
+use Rattle.calls_position.proofs.Bytes.{position-put}
 use Rattle.calls_position.proofs.stored.put_position.Statement.{statement}
 use Rattle.calls_position.proofs.stored.put_position.Tie as tie
 

@@ -1,7 +1,7 @@
 -- `put_vector` meets its contract. Assumes nothing.
 use borrow.Author.Needs.{needs}
 use mathlib.Core.Path.{_∙_}
-use Rattle.calls_position.proofs.OfBytes.{vector-put}
+use Rattle.calls_position.proofs.Bytes.{vector-put}
 use Rattle.calls_position.proofs.stored.put_vector.Statement.{statement}
 use Rattle.calls_position.proofs.stored.put_vector.Tie as tie
 

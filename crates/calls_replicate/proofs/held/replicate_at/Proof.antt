@@ -7,10 +7,10 @@ use Prim.Native.Nat.{ℕ, _+_, _-_, _*_, _≤_, _<_}
 use lib.ListN.{length, getD, take, drop, set}
 use mathlib.Core.Path.{subst}
 use Rattle.map_tables.specs.Names.{viewKey}
-use Rattle.log_arrive.proofs.OfMessages.{replicate-there}
-use Rattle.image_node_grow.proofs.OfGrow.{row-last}
+use Rattle.log_arrive.proofs.Messages.{replicate-there}
+use Rattle.image_node_grow.proofs.GrowLaws.{row-last}
 use Rattle.calls_replicate.specs.Asked.{laid}
-use Rattle.calls_replicate.proofs.OfReplicate.{stale, full, stays, stays-short, grows-sent, grows-short, row-own, last-most, told-zero}
+use Rattle.calls_replicate.proofs.ReplicateLaws.{stale, full, stays, stays-short, grows-sent, grows-short, row-own, last-most, told-zero}
 use Rattle.calls_replicate.proofs.held.replicate_at.Statement.{statement}
 use Rattle.calls_replicate.proofs.held.replicate_at.Tie as tie
 

@@ -7,7 +7,7 @@ use Prim.Native.Nat.{ℕ, _+_, _-_, _*_, _≤_, _<_}
 use lib.ListN.{length, getD, take, drop, set}
 use Rattle.log_search.proofs.Searching.{vector-bounded}
 use Rattle.log_search.proofs.Answered.{least-both}
-use Rattle.calls_search.proofs.OfHeld.{row-few, store-there, store-well, nearest-held}
+use Rattle.calls_search.proofs.HeldLaws.{row-few, store-there, store-well, nearest-held}
 use Rattle.calls_search.proofs.held.nearest_held.Statement.{statement}
 use Rattle.calls_search.proofs.held.nearest_held.Tie as tie
 

@@ -6,7 +6,7 @@ use mathlib.Core.List.{List, [], _∷_, _++_}
 use Prim.Native.Nat.{ℕ, _+_, _-_, _*_, _≤_, _<_}
 use lib.ListN.{length, getD, take, drop, set}
 use borrow.Author.Tests.{not-true, not-false}
-use Rattle.calls_search.proofs.OfHeld.{row-few, served-not, served-unleased, served-found, lease-is}
+use Rattle.calls_search.proofs.HeldLaws.{row-few, served-not, served-unleased, served-found, lease-is}
 use Rattle.calls_search.proofs.held.search_held.Statement.{statement}
 use Rattle.calls_search.proofs.held.search_held.Tie as tie
 

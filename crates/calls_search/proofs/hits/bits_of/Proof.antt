@@ -5,7 +5,7 @@ use mathlib.Core.Path.{_≡_, refl, sym, _∙_, ap}
 use mathlib.Core.List.{List, [], _∷_, _++_}
 use Prim.Native.Nat.{ℕ, _+_, _-_, _*_, _≤_, _<_}
 use lib.ListN.{length, getD, take, drop, set}
-use Rattle.calls_client_out.proofs.OfHits.{self-number, other-nan}
+use Rattle.calls_client_out.proofs.HitLaws.{self-number, other-nan}
 use Rattle.calls_search.proofs.hits.bits_of.Statement.{statement}
 use Rattle.calls_search.proofs.hits.bits_of.Tie as tie
 

@@ -7,7 +7,7 @@ use Prim.Native.Nat.{ℕ, _+_, _-_, _*_, _≤_, _<_}
 use lib.ListN.{length, getD, take, drop, set}
 use borrow.Author.Tests.{not-true, not-false}
 use Rattle.log_search.proofs.Answered.{least-both}
-use Rattle.calls_search.proofs.OfHits.{ended-short, ended-uncounted, ended-found}
+use Rattle.calls_search.proofs.HitLaws.{ended-short, ended-uncounted, ended-found}
 use Rattle.calls_search.proofs.hits.put_found.Statement.{statement}
 use Rattle.calls_search.proofs.hits.put_found.Tie as tie
 

@@ -9,8 +9,8 @@ use mathlib.Core.List.{map}
 use lib.Seq.{sets}
 use Rattle.log_search.specs.Search.{idOf, distanceOf}
 use Rattle.calls_client_out.specs.Hits.{hitsBytes}
-use Rattle.calls_client_out.proofs.OfHits.{hits-none}
-use Rattle.calls_search.proofs.OfHits.{one-more}
+use Rattle.calls_client_out.proofs.HitLaws.{hits-none}
+use Rattle.calls_search.proofs.HitLaws.{one-more}
 use Rattle.calls_search.proofs.hits.put_hits.Statement.{statement}
 use Rattle.calls_search.proofs.hits.put_hits.Tie as tie
 

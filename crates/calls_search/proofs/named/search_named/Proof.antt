@@ -9,7 +9,7 @@ use mathlib.Core.Path.{subst}
 use Rattle.map_tables.specs.Names.{viewKey}
 use Rattle.node_lent.specs.declared.Lent as found
 use Rattle.image_node_check.specs.Find.{FindsIn}
-use Rattle.calls_search.proofs.OfMessage.{key-malformed, key-absent, key-held}
+use Rattle.calls_search.proofs.Message.{key-malformed, key-absent, key-held}
 use Rattle.calls_search.proofs.named.search_named.Statement.{statement}
 use Rattle.calls_search.proofs.named.search_named.Tie as tie
 

@@ -6,7 +6,7 @@ use mathlib.Core.List.{List, [], _∷_, _++_}
 use Prim.Native.Nat.{ℕ, _+_, _-_, _*_, _≤_, _<_}
 use lib.ListN.{length, getD, take, drop, set}
 use Rattle.image_header.specs.Image.{noNode}
-use Rattle.calls_header.proofs.OfFresh.{fresh-short, fresh-made}
+use Rattle.calls_header.proofs.Fresh.{fresh-short, fresh-made}
 use Rattle.calls_show.proofs.fresh.fresh_node.Statement.{statement}
 use Rattle.calls_show.proofs.fresh.fresh_node.Tie as tie
 

@@ -5,7 +5,7 @@ use mathlib.Core.Path.{_≡_, refl, sym, _∙_, ap}
 use mathlib.Core.List.{List, [], _∷_, _++_}
 use Prim.Native.Nat.{ℕ, _+_, _-_, _*_, _≤_, _<_}
 use lib.ListN.{length, getD, take, drop, set}
-use Rattle.calls_show.proofs.OfFresh.{fresh-put}
+use Rattle.calls_show.proofs.FreshLaws.{fresh-put}
 use Rattle.calls_show.proofs.fresh.put_fresh.Statement.{statement}
 use Rattle.calls_show.proofs.fresh.put_fresh.Tie as tie
 

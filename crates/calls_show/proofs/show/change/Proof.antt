@@ -8,7 +8,7 @@ use lib.ListN.{length, getD, take, drop, set}
 use lib.ListN.{length-replicate}
 use lib.Seq.{length-take-le}
 use borrow.Author.Tests.{not-true, not-false}
-use Rattle.calls_show.proofs.OfChange.{change-full, change-short, change-unanswered, change-put, rows-open}
+use Rattle.calls_show.proofs.Change.{change-full, change-short, change-unanswered, change-put, rows-open}
 use Rattle.calls_show.proofs.show.change.Statement.{statement}
 use Rattle.calls_show.proofs.show.change.Tie as tie
 

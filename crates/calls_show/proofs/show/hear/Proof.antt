@@ -5,13 +5,13 @@ use mathlib.Core.Path.{_≡_, refl, sym, _∙_, ap}
 use mathlib.Core.List.{List, [], _∷_, _++_}
 use Prim.Native.Nat.{ℕ, _+_, _-_, _*_, _≤_, _<_}
 use lib.ListN.{length, getD, take, drop, set}
-use Rattle.node_header.proofs.OfFormed.{header-few}
+use Rattle.node_header.proofs.Formed.{header-few}
 use Rattle.image_header.specs.Image.{nodeAt}
-use Rattle.image_header.proofs.OfImage.{lent-long}
-use Rattle.image_header_check.proofs.OfRows.{counted}
+use Rattle.image_header.proofs.Image.{lent-long}
+use Rattle.image_header_check.proofs.Rows.{counted}
 use Rattle.map_tables.specs.declared.Nodes.{Nodes}
-use Rattle.node_show.proofs.OfBytes.{nodes-is}
-use Rattle.calls_show.proofs.OfShow.{hear-older, hear-dead, hear-taken}
+use Rattle.node_show.proofs.Bytes.{nodes-is}
+use Rattle.calls_show.proofs.ShowLaws.{hear-older, hear-dead, hear-taken}
 use Rattle.calls_show.proofs.show.hear.Statement.{statement}
 use Rattle.calls_show.proofs.show.hear.Tie as tie
 

@@ -7,7 +7,7 @@ use Prim.Native.Nat.{ℕ, _+_, _-_, _*_, _≤_, _<_}
 use lib.ListN.{length, getD, take, drop, set}
 use borrow.Author.Tests.{not-true, not-false}
 use Rattle.image_header.specs.Image.{nodeAt}
-use Rattle.calls_show.proofs.OfShow.{none-short, none-put}
+use Rattle.calls_show.proofs.ShowLaws.{none-short, none-put}
 use Rattle.calls_show.proofs.show.ignore.Statement.{statement}
 use Rattle.calls_show.proofs.show.ignore.Tie as tie
 

@@ -8,7 +8,7 @@ use lib.ListN.{length, getD, take, drop, set}
 use borrow.Author.Tests.{not-true, not-false}
 use Rattle.image_header.specs.Image.{nodeAt}
 use Rattle.image_header_set.specs.Version.{versionSet}
-use Rattle.calls_show.proofs.OfShow.{none-short, none-put}
+use Rattle.calls_show.proofs.ShowLaws.{none-short, none-put}
 use Rattle.calls_show.proofs.show.note.Statement.{statement}
 use Rattle.calls_show.proofs.show.note.Tie as tie
 

@@ -7,10 +7,10 @@ use Prim.Native.Nat.{ℕ, _+_, _-_, _*_, _≤_, _<_}
 use lib.ListN.{length, getD, take, drop, set}
 use borrow.Author.Tests.{not-true, not-false}
 use Rattle.map_check.proofs.Formed.{lent-tables, lent-formed}
-use Rattle.image_header.proofs.OfImage.{lent-long}
-use Rattle.calls_header.proofs.OfAsked.{asked-malformed}
-use Rattle.calls_header.proofs.OfCalls.{lent-first, lent-both, map-long}
-use Rattle.calls_show.proofs.OfShow.{map-bad, header-bad, both-good}
+use Rattle.image_header.proofs.Image.{lent-long}
+use Rattle.calls_header.proofs.Asked.{asked-malformed}
+use Rattle.calls_header.proofs.Calls.{lent-first, lent-both, map-long}
+use Rattle.calls_show.proofs.ShowLaws.{map-bad, header-bad, both-good}
 use Rattle.calls_show.proofs.show.show_map.Statement.{statement}
 use Rattle.calls_show.proofs.show.show_map.Tie as tie
 

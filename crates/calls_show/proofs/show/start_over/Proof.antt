@@ -8,8 +8,8 @@ use lib.ListN.{length, getD, take, drop, set}
 use borrow.Author.Tests.{not-true, not-false}
 use Rattle.spec.specs.Layout.Format.{numberAt}
 use Rattle.calls_header.specs.Fresh.{freshNode}
-use Rattle.calls_show.proofs.OfFresh.{fresh-as}
-use Rattle.calls_show.proofs.OfShow.{none-short, none-put}
+use Rattle.calls_show.proofs.FreshLaws.{fresh-as}
+use Rattle.calls_show.proofs.ShowLaws.{none-short, none-put}
 use Rattle.calls_show.proofs.show.start_over.Statement.{statement}
 use Rattle.calls_show.proofs.show.start_over.Tie as tie
 

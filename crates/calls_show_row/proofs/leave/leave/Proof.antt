@@ -5,10 +5,10 @@ use mathlib.Core.Path.{refl, sym, _∙_}
 use Prim.Native.Nat.{_-_}
 use mathlib.Core.Bool.{true, false}
 use borrow.Author.Tests.{not-true, not-false}
-use Rattle.image_header_check.proofs.OfRows.{count-is}
-use Rattle.image_header_form.proofs.OfFront.{role-is}
-use Rattle.calls_show_row.proofs.OfGrow.{ready-on, up-is}
-use Rattle.calls_show_row.proofs.OfLeave.{leaves-left, leaves-rise, leaves-backup, leaves-stay}
+use Rattle.image_header_check.proofs.Rows.{count-is}
+use Rattle.image_header_form.proofs.FrontLaws.{role-is}
+use Rattle.calls_show_row.proofs.Grow.{ready-on, up-is}
+use Rattle.calls_show_row.proofs.LeaveLaws.{leaves-left, leaves-rise, leaves-backup, leaves-stay}
 use Rattle.calls_show_row.proofs.leave.leave.Statement.{statement}
 use Rattle.calls_show_row.proofs.leave.leave.Tie as tie
 

@@ -2,7 +2,7 @@
 use borrow.Author.Needs.{needs}
 use native.Mathlib.Omega.{arith}
 use Prim.Native.Nat.{_-_}
-use Rattle.calls_show_row.proofs.OfGrow.{rise-over, rise-fits}
+use Rattle.calls_show_row.proofs.Grow.{rise-over, rise-fits}
 use Rattle.calls_show_row.proofs.leave.rise.Statement.{statement}
 use Rattle.calls_show_row.proofs.leave.rise.Tie as tie
 

@@ -2,7 +2,7 @@
 use borrow.Author.Needs.{needs}
 use native.Mathlib.Omega.{arith}
 use Prim.Native.Nat.{_-_}
-use Rattle.calls_show_row.proofs.OfGrow.{stay-over, stay-fits}
+use Rattle.calls_show_row.proofs.Grow.{stay-over, stay-fits}
 use Rattle.calls_show_row.proofs.leave.stay.Statement.{statement}
 use Rattle.calls_show_row.proofs.leave.stay.Tie as tie
 

@@ -10,8 +10,8 @@ use Rattle.spec.specs.Node.Client.{nodeOf}
 use Rattle.spec.specs.Node.Shown.{isNew}
 use Rattle.node_shard.specs.View.{noPeer}
 use Rattle.image_header_row.specs.Rows.{peersAt}
-use Rattle.image_header_check.proofs.OfRows.{peers-long}
-use Rattle.calls_show_row.proofs.OfNews.{collect-takes, collect-passes, collect-ends, is-new, is-known}
+use Rattle.image_header_check.proofs.Rows.{peers-long}
+use Rattle.calls_show_row.proofs.NewsLaws.{collect-takes, collect-passes, collect-ends, is-new, is-known}
 use Rattle.calls_show_row.proofs.news.count_new.Statement.{statement}
 use Rattle.calls_show_row.proofs.news.count_new.Tie as tie
 

@@ -10,12 +10,12 @@ use Rattle.spec.specs.Limits.{maxWorkers}
 use Rattle.spec.specs.Node.Shown.{newRow, withRows}
 use Rattle.spec.specs.declared.Peer.{Peer}
 use Rattle.node_shard.specs.View.{others, below}
-use Rattle.node_show_shard.proofs.OfGrow.{grow-end, grow-me, grow-has, grow-full, grow-new, place-most}
-use Rattle.image_show.proofs.OfRow.{noCopy}
+use Rattle.node_show_shard.proofs.Grow.{grow-end, grow-me, grow-has, grow-full, grow-new, place-most}
+use Rattle.image_show.proofs.RowLaws.{noCopy}
 use Rattle.image_header_row.specs.Rows.{peersAt}
-use Rattle.image_header_check.proofs.OfRows.{peers-long}
+use Rattle.image_header_check.proofs.Rows.{peers-long}
 use Rattle.calls_show_row.specs.Peers.{peersIn}
-use Rattle.calls_show_row.proofs.OfPeers.{Only, only-none, only-then, peers-full, place-in}
+use Rattle.calls_show_row.proofs.PeerLaws.{Only, only-none, only-then, peers-full, place-in}
 use Rattle.calls_show_row.proofs.peers.grow.Statement.{statement}
 use Rattle.calls_show_row.proofs.peers.grow.Tie as tie
 

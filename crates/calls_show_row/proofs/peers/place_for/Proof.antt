@@ -9,8 +9,8 @@ use Rattle.spec.specs.Lists.{lead}
 use Rattle.node_shard.specs.View.{below, noPeer}
 use Rattle.node_shard.proofs.Loops.{lead-on, lead-stop, lead-end}
 use Rattle.image_header_row.specs.Rows.{peersAt, peerAt}
-use Rattle.image_header_check.proofs.OfRows.{peers-long, peer-row}
-use Rattle.image_header_set.proofs.OfPlace.{node-at}
+use Rattle.image_header_check.proofs.Rows.{peers-long, peer-row}
+use Rattle.image_header_set.proofs.Place.{node-at}
 use Rattle.calls_show_row.proofs.peers.place_for.Statement.{statement}
 use Rattle.calls_show_row.proofs.peers.place_for.Tie as tie
 

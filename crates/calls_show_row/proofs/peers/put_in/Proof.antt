@@ -2,7 +2,7 @@
 use native.Mathlib.Omega.{arith}
 use Prim.Native.Nat.{_+_, _-_, _≤_, _<_}
 use lib.ListN.{length}
-use Rattle.calls_show_row.proofs.OfPeers.{Carried, carry-start, carry-step, carry-end}
+use Rattle.calls_show_row.proofs.PeerLaws.{Carried, carry-start, carry-step, carry-end}
 use Rattle.calls_show_row.proofs.peers.put_in.Statement.{statement}
 use Rattle.calls_show_row.proofs.peers.put_in.Tie as tie
 

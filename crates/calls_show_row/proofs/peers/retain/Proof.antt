@@ -3,7 +3,7 @@ use native.Mathlib.Omega.{arith}
 use Prim.Native.Nat.{_-_, _≤_}
 use lib.ListN.{take}
 use Rattle.spec.specs.Node.Shown.{retained}
-use Rattle.calls_show_row.proofs.OfPeers.{Changed, change-start, change-step, change-end}
+use Rattle.calls_show_row.proofs.PeerLaws.{Changed, change-start, change-step, change-end}
 use Rattle.calls_show_row.proofs.peers.retain.Statement.{statement}
 use Rattle.calls_show_row.proofs.peers.retain.Tie as tie
 

@@ -1,7 +1,7 @@
 -- `row::refresh_row` meets its contract. Assumes nothing.
 use borrow.Author.Needs.{needs}
 use Prim.Native.Nat.{_-_}
-use Rattle.calls_show_row.proofs.OfLeave.{refreshes}
+use Rattle.calls_show_row.proofs.LeaveLaws.{refreshes}
 use Rattle.calls_show_row.proofs.row.refresh_row.Statement.{statement}
 use Rattle.calls_show_row.proofs.row.refresh_row.Tie as tie
 

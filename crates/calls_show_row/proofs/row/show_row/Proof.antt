@@ -1,7 +1,7 @@
 -- `row::show_row` meets its contract. Assumes nothing.
 use borrow.Author.Needs.{needs}
 use Prim.Native.Nat.{_-_}
-use Rattle.calls_show_row.proofs.OfRow.{few-known}
+use Rattle.calls_show_row.proofs.RowLaws.{few-known}
 use Rattle.calls_show_row.proofs.row.show_row.Statement.{statement}
 use Rattle.calls_show_row.proofs.row.show_row.Tie as tie
 

@@ -3,7 +3,7 @@ use borrow.Author.Needs.{needs}
 use native.Mathlib.Omega.{arith}
 use Prim.Native.Nat.{ℕ, _-_}
 use lib.ListN.{length-replicate}
-use Rattle.calls_show_row.proofs.OfRow.{copy-ready, needs-full, needs-some, after-few}
+use Rattle.calls_show_row.proofs.RowLaws.{copy-ready, needs-full, needs-some, after-few}
 use Rattle.calls_show_row.proofs.row.workers_of.Statement.{statement}
 use Rattle.calls_show_row.proofs.row.workers_of.Tie as tie
 

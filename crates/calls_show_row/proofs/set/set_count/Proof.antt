@@ -3,7 +3,7 @@ use borrow.Author.Needs.{needs}
 use native.Mathlib.Omega.{arith}
 use Prim.Native.Nat.{_-_}
 use Rattle.image_parts.proofs.Images.{stored-word}
-use Rattle.image_header_set.proofs.OfSet.{count-set}
+use Rattle.image_header_set.proofs.SetLaws.{count-set}
 use Rattle.calls_show_row.proofs.set.set_count.Statement.{statement}
 use Rattle.calls_show_row.proofs.set.set_count.Tie as tie
 

@@ -4,7 +4,7 @@ use native.Mathlib.Omega.{arith}
 use Prim.Native.Nat.{_-_}
 use Rattle.image_parts.proofs.Images.{stored-word}
 use Rattle.image_parts.proofs.Types.{replicas-good}
-use Rattle.calls_show_row.proofs.OfSet.{holders-set}
+use Rattle.calls_show_row.proofs.SetLaws.{holders-set}
 use Rattle.calls_show_row.proofs.set.set_holders.Statement.{statement}
 use Rattle.calls_show_row.proofs.set.set_holders.Tie as tie
 

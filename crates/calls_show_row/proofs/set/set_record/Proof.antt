@@ -4,8 +4,8 @@ use native.Mathlib.Omega.{arith}
 use mathlib.Core.Path.{sym, _∙_}
 use Prim.Native.Nat.{_-_}
 use Rattle.image_parts.proofs.Images.{stored-word}
-use Rattle.image_header_check.proofs.OfRows.{last-is}
-use Rattle.calls_show_row.proofs.OfSet.{record-set}
+use Rattle.image_header_check.proofs.Rows.{last-is}
+use Rattle.calls_show_row.proofs.SetLaws.{record-set}
 use Rattle.calls_show_row.proofs.set.set_record.Statement.{statement}
 use Rattle.calls_show_row.proofs.set.set_record.Tie as tie
 

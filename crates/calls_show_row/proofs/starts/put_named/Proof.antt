@@ -5,7 +5,7 @@ use mathlib.Core.Path.{_≡_}
 use Prim.Native.Nat.{_-_, _≤_}
 use lib.ListN.{length}
 use Rattle.map_tables.proofs.Tables.{of-field}
-use Rattle.calls_header.proofs.OfStarts.{key-stored}
+use Rattle.calls_header.proofs.Starts.{key-stored}
 use Rattle.calls_show_row.proofs.starts.put_named.Statement.{statement}
 use Rattle.calls_show_row.proofs.starts.put_named.Tie as tie
 

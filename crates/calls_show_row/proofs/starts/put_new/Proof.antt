@@ -10,12 +10,12 @@ use Rattle.spec.specs.Node.Shown.{isNew, workerFor, Worker}
 use Rattle.map_tables.specs.Names.{viewKey}
 use Rattle.node_shard.specs.View.{noPeer}
 use Rattle.image_header_row.specs.Rows.{peersAt}
-use Rattle.image_header_check.proofs.OfRows.{peers-long, count-is}
+use Rattle.image_header_check.proofs.Rows.{peers-long, count-is}
 use Rattle.calls_show_row.specs.Leave.{PutsNew}
 use mathlib.Core.Path.{subst}
 use lib.ListN.{length-take}
-use Rattle.calls_show_row.proofs.OfNews.{collect-takes, collect-passes, collect-ends, collect-most, is-new, is-known, node-is}
-use Rattle.calls_show_row.proofs.OfStarts.{Putting, putting-start, putting-same, putting-step, putting-end, worker-as, starts-are}
+use Rattle.calls_show_row.proofs.NewsLaws.{collect-takes, collect-passes, collect-ends, collect-most, is-new, is-known, node-is}
+use Rattle.calls_show_row.proofs.StartLaws.{Putting, putting-start, putting-same, putting-step, putting-end, worker-as, starts-are}
 use Rattle.calls_show_row.proofs.starts.put_new.Statement.{statement}
 use Rattle.calls_show_row.proofs.starts.put_new.Tie as tie
 

@@ -3,7 +3,7 @@ use borrow.Author.Needs.{needs}
 use Prim.Native.Nat.{_-_}
 use Rattle.image_parts.proofs.Images.{stored-then, stored-word}
 use Rattle.spec.specs.Layout.Parts.{metricCode}
-use Rattle.calls_header.proofs.OfStarts.{byte-stored}
+use Rattle.calls_header.proofs.Starts.{byte-stored}
 use Rattle.calls_show_row.proofs.starts.put_worker.Statement.{statement}
 use Rattle.calls_show_row.proofs.starts.put_worker.Tie as tie
 

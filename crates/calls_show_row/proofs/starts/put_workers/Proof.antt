@@ -3,7 +3,7 @@ use borrow.Author.Needs.{needs}
 use native.Mathlib.Omega.{arith}
 use Prim.Native.Nat.{ℕ, _-_}
 use lib.ListN.{length-replicate}
-use Rattle.calls_show_row.proofs.OfRow.{few-known, copy-ready, copy-few, room-new, puts-all}
+use Rattle.calls_show_row.proofs.RowLaws.{few-known, copy-ready, copy-few, room-new, puts-all}
 use Rattle.calls_show_row.proofs.starts.put_workers.Statement.{statement}
 use Rattle.calls_show_row.proofs.starts.put_workers.Tie as tie
 

@@ -5,7 +5,7 @@ use mathlib.Core.Path.{_≡_, refl, sym, _∙_, ap}
 use mathlib.Core.List.{List, [], _∷_, _++_}
 use Prim.Native.Nat.{ℕ, _+_, _-_, _*_, _≤_, _<_}
 use lib.ListN.{length, getD, take, drop, set}
-use Rattle.calls_show_walk.proofs.OfRow.{copied}
+use Rattle.calls_show_walk.proofs.RowLaws.{copied}
 use Rattle.calls_show_walk.proofs.row.copy_row.Statement.{statement}
 use Rattle.calls_show_walk.proofs.row.copy_row.Tie as tie
 

@@ -6,9 +6,9 @@ use mathlib.Core.List.{List, [], _∷_, _++_}
 use Prim.Native.Nat.{ℕ, _+_, _-_, _*_, _≤_, _<_}
 use lib.ListN.{length, getD, take, drop, set}
 use Rattle.image_header.specs.Image.{nodeAt}
-use Rattle.image_header_set.proofs.OfPlace.{in-array, place-in, place-out}
-use Rattle.calls_show_walk.proofs.OfRow.{skipped, ninth-kept, ready, few-at, keep-taken}
-use Rattle.node_header.specs.declared.Kept.{Kept}
+use Rattle.image_header_set.proofs.Place.{in-array, place-in, place-out}
+use Rattle.calls_show_walk.proofs.RowLaws.{skipped, ninth-kept, ready, few-at, keep-taken}
+use Rattle.node_header.specs.declared.HeldRow.{HeldRow}
 use Rattle.calls_show_walk.proofs.row.keep_row.Statement.{statement}
 use Rattle.calls_show_walk.proofs.row.keep_row.Tie as tie
 
@@ -31,7 +31,7 @@ copy-row-requires : tie.Need-copy-row-requires
 copy-row-requires c κs = search needs
 
 refresh-row-requires : tie.Need-refresh-row-requires
-refresh-row-requires c κs = let a = (c .before .before .before .before .before .before .before .before .before .args) in let lt = (c .before .before .before .before .before .before .if1) .left in let b = (c .before .before .before .copy-row) .ensures in let l = b .outside .long in let w = (c .before .before .before .before .before .before .before .before .before .pre) .4 in let e = (c .before .before .before .before .before .if2) .left in let k = ap (λ (x : Kept). x .held .count) (b .row) in let f = few-at (a .header .now) (a .held) ((c .before .before .before .before .before .before .before .before .before .pre) .0) ((c .before .before .before .before .before .before .before .before .before .pre) .1) (a .row) (a .at) ((c .before .before .before .before .before .before .before .before .before .pre) .2) lt in
+refresh-row-requires c κs = let a = (c .before .before .before .before .before .before .before .before .before .args) in let lt = (c .before .before .before .before .before .before .if1) .left in let b = (c .before .before .before .copy-row) .ensures in let l = b .outside .long in let w = (c .before .before .before .before .before .before .before .before .before .pre) .4 in let e = (c .before .before .before .before .before .if2) .left in let k = ap (λ (x : HeldRow). x .held .count) (b .row) in let f = few-at (a .header .now) (a .held) ((c .before .before .before .before .before .before .before .before .before .pre) .0) ((c .before .before .before .before .before .before .before .before .before .pre) .1) (a .row) (a .at) ((c .before .before .before .before .before .before .before .before .before .pre) .2) lt in
     ready _ _ (a .row) (omega arith) ((c .before .before .before .before .before .before .before .before .before .pre) .3) (omega arith)
 
 same-length : tie.Need-same-length

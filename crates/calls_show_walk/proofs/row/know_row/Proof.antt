@@ -6,7 +6,7 @@ use mathlib.Core.List.{List, [], _∷_, _++_}
 use Prim.Native.Nat.{ℕ, _+_, _-_, _*_, _≤_, _<_}
 use lib.ListN.{length, getD, take, drop, set}
 use Rattle.image_header.specs.Image.{nodeAt}
-use Rattle.calls_show_walk.proofs.OfRow.{ninth-known, know-ready, know-taken}
+use Rattle.calls_show_walk.proofs.RowLaws.{ninth-known, know-ready, know-taken}
 use Rattle.calls_show_walk.proofs.row.know_row.Statement.{statement}
 use Rattle.calls_show_walk.proofs.row.know_row.Tie as tie
 

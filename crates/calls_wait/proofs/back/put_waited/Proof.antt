@@ -6,8 +6,8 @@ use Prim.Native.Nat.{_-_}
 use Rattle.spec.specs.Layout.Format.{numberAt}
 use Rattle.image_header_row.specs.Rows.{expiryOf, expiryCode, expiryTime}
 use Rattle.image_header.specs.Image.{headOf}
-use Rattle.image_header_form.proofs.OfFront.{stored-same}
-use Rattle.calls_wait.proofs.OfBack.{put-waited, count-behind}
+use Rattle.image_header_form.proofs.FrontLaws.{stored-same}
+use Rattle.calls_wait.proofs.BackLaws.{put-waited, count-behind}
 use Rattle.calls_wait.proofs.back.put_waited.Statement.{statement}
 use Rattle.calls_wait.proofs.back.put_waited.Tie as tie
 

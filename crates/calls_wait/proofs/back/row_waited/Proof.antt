@@ -2,7 +2,7 @@
 use borrow.Author.Needs.{needs}
 use native.Mathlib.Omega.{arith}
 use Prim.Native.Nat.{_-_}
-use Rattle.calls_wait.proofs.OfBack.{row-waited}
+use Rattle.calls_wait.proofs.BackLaws.{row-waited}
 use Rattle.calls_wait.proofs.back.row_waited.Statement.{statement}
 use Rattle.calls_wait.proofs.back.row_waited.Tie as tie
 

@@ -9,7 +9,7 @@ use Rattle.map_tables.proofs.Tables.{of-field}
 use Rattle.image_parts.proofs.Images.{length-used}
 use Rattle.image_header.specs.Image.{nodeAt}
 use Rattle.calls_header.specs.Waits.{idBytes}
-use Rattle.calls_header.proofs.OfWaits.{no-answer, no-peers, all-put}
+use Rattle.calls_header.proofs.Waits.{no-answer, no-peers, all-put}
 use Rattle.calls_wait.specs.Waited.{waitedNode}
 use Rattle.calls_wait.proofs.ends.put_shrink.Statement.{statement}
 use Rattle.calls_wait.proofs.ends.put_shrink.Tie as tie

@@ -2,7 +2,7 @@
 use borrow.Author.Needs.{needs}
 use mathlib.Core.Bool.{not}
 use mathlib.Core.Path.{sym, ap, _∙_}
-use Rattle.calls_header.proofs.OfAsked.{wait-unnamed, wait-named}
+use Rattle.calls_header.proofs.Asked.{wait-unnamed, wait-named}
 use Rattle.calls_wait.proofs.wait.unread.Statement.{statement}
 use Rattle.calls_wait.proofs.wait.unread.Tie as tie
 

@@ -6,13 +6,13 @@ use Prim.Native.Nat.{_-_}
 use mathlib.Core.Bool.{true}
 use borrow.Author.Tests.{not-true, not-false}
 use Rattle.map_tables.specs.Names.{viewKey}
-use Rattle.node_header.proofs.OfFormed.{header-few}
+use Rattle.node_header.proofs.Formed.{header-few}
 use Rattle.image_header.specs.Image.{headerLent, nodeAt}
-use Rattle.image_header.proofs.OfImage.{lent-long}
-use Rattle.calls_header.proofs.OfAsked.{asked-unread, asked-malformed, asked-called, name-fits}
+use Rattle.image_header.proofs.Image.{lent-long}
+use Rattle.calls_header.proofs.Asked.{asked-unread, asked-malformed, asked-called, name-fits}
 use Rattle.image_header_check.specs.Rows.{Counts}
-use Rattle.image_header_check.proofs.OfRows.{counted}
-use Rattle.calls_wait.proofs.OfWait.{wait-early, wait-short, wait-bad, wait-none, few, wait-at}
+use Rattle.image_header_check.proofs.Rows.{counted}
+use Rattle.calls_wait.proofs.WaitLaws.{wait-early, wait-short, wait-bad, wait-none, few, wait-at}
 use Rattle.calls_wait.proofs.wait.wait.Statement.{statement}
 use Rattle.calls_wait.proofs.wait.wait.Tie as tie
 

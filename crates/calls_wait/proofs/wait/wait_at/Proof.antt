@@ -4,7 +4,7 @@ use native.Mathlib.Omega.{arith}
 use mathlib.Core.Path.{sym, _∙_}
 use Prim.Native.Nat.{_-_}
 use borrow.Author.Tests.{not-true, not-false}
-use Rattle.calls_wait.proofs.OfWait.{at-other, at-over, at-still}
+use Rattle.calls_wait.proofs.WaitLaws.{at-other, at-over, at-still}
 use Rattle.calls_wait.proofs.wait.wait_at.Statement.{statement}
 use Rattle.calls_wait.proofs.wait.wait_at.Tie as tie
 

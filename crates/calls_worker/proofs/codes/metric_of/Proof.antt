@@ -1,5 +1,5 @@
 -- `codes::metric_of` meets its contract. Assumes nothing.
-use Rattle.calls_worker.proofs.OfCodes.{metric-zero, metric-other}
+use Rattle.calls_worker.proofs.CodeLaws.{metric-zero, metric-other}
 use Rattle.calls_worker.proofs.codes.metric_of.Statement.{statement}
 use Rattle.calls_worker.proofs.codes.metric_of.Tie as tie
 

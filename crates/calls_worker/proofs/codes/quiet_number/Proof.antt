@@ -1,6 +1,6 @@
 -- `codes::quiet_number` meets its contract. Assumes nothing.
 use borrow.Author.Needs.{needs}
-use Rattle.calls_worker.proofs.OfCodes.{quiet-as}
+use Rattle.calls_worker.proofs.CodeLaws.{quiet-as}
 use Rattle.calls_worker.proofs.codes.quiet_number.Statement.{statement}
 use Rattle.calls_worker.proofs.codes.quiet_number.Tie as tie
 

@@ -1,7 +1,7 @@
 -- `codes::sent_number` meets its contract. Assumes nothing.
 use borrow.Author.Needs.{needs}
 use lib.ListN.{getD}
-use Rattle.calls_worker.proofs.OfCodes.{sent-empty, sent-aligns, sent-replicates, sent-copies}
+use Rattle.calls_worker.proofs.CodeLaws.{sent-empty, sent-aligns, sent-replicates, sent-copies}
 use Rattle.calls_worker.proofs.codes.sent_number.Statement.{statement}
 use Rattle.calls_worker.proofs.codes.sent_number.Tie as tie
 

@@ -6,7 +6,7 @@ use mathlib.Core.List.{List, [], _∷_, _++_}
 use Prim.Native.Nat.{ℕ, _+_, _-_, _*_, _≤_, _<_}
 use lib.ListN.{length, getD, take, drop, set}
 use Rattle.wire_write.specs.Written.{keyGiven}
-use Rattle.calls_worker.proofs.OfFound.{few, row-there, slot-few, sends-there, asks-stop, asks-wait, asks-align, send-fits, asks-send}
+use Rattle.calls_worker.proofs.Found.{few, row-there, slot-few, sends-there, asks-stop, asks-wait, asks-align, send-fits, asks-send}
 use Rattle.calls_worker.proofs.told.request_at.Statement.{statement}
 use Rattle.calls_worker.proofs.told.request_at.Tie as tie
 

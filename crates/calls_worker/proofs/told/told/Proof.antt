@@ -1,7 +1,7 @@
 -- `told::told` meets its contract. Assumes nothing.
 use borrow.Author.Needs.{needs}
 use Rattle.node_send.specs.declared.Request.the-variants as request
-use Rattle.calls_worker.proofs.OfTold.{told-as}
+use Rattle.calls_worker.proofs.AnswerLaws.{told-as}
 use Rattle.calls_worker.proofs.told.told.Statement.{statement}
 use Rattle.calls_worker.proofs.told.told.Tie as tie
 

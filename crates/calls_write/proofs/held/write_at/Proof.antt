@@ -8,7 +8,7 @@ use lib.ListN.{length, getD, take, drop, set}
 use mathlib.Core.Path.{subst}
 use Rattle.map_tables.specs.Names.{viewKey}
 use Rattle.image_node_check.specs.Find.{FindsIn}
-use Rattle.calls_write.proofs.OfWays.{malformed, absent}
+use Rattle.calls_write.proofs.Ways.{malformed, absent}
 use Rattle.calls_write.proofs.held.write_at.Statement.{statement}
 use Rattle.calls_write.proofs.held.write_at.Tie as tie
 

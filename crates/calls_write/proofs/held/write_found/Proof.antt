@@ -5,9 +5,9 @@ use mathlib.Core.Path.{sym, _∙_, ap}
 use Prim.Native.Nat.{ℕ, _+_, _-_}
 use borrow.Author.Tests.{not-true, not-false}
 use Rattle.map_tables.specs.Names.{viewKey}
-use Rattle.log_arrive.proofs.OfMessages.{write-there}
-use Rattle.image_node_grow.proofs.OfGrow.{row-last, row-few}
-use Rattle.calls_write.proofs.OfWays.{admits-so, not-primary, no-lease, too-few, no-room, free, no-answer, grown-so}
+use Rattle.log_arrive.proofs.Messages.{write-there}
+use Rattle.image_node_grow.proofs.GrowLaws.{row-last, row-few}
+use Rattle.calls_write.proofs.Ways.{admits-so, not-primary, no-lease, too-few, no-room, free, no-answer, grown-so}
 use Rattle.calls_write.proofs.held.write_found.Statement.{statement}
 use Rattle.calls_write.proofs.held.write_found.Tie as tie
 

@@ -7,9 +7,9 @@ use Prim.Native.Nat.{ℕ, _+_, _-_, _*_, _≤_, _<_}
 use lib.ListN.{length, getD, take, drop, set}
 use borrow.Author.Tests.{not-true, not-false, lt-ltb, le-ltb}
 use types.Run.{miss}
-use Rattle.log_arrive.proofs.OfMessages.{write-there}
-use Rattle.node_write.proofs.OfNamed.{write-missed, write-key-there}
-use Rattle.calls_client.proofs.OfWritten.{bytes-late, bytes-undecoded, bytes-outside, bytes-uncounted, bytes-named}
+use Rattle.log_arrive.proofs.Messages.{write-there}
+use Rattle.node_write.proofs.Named.{write-missed, write-key-there}
+use Rattle.calls_client.proofs.Written.{bytes-late, bytes-undecoded, bytes-outside, bytes-uncounted, bytes-named}
 use Rattle.calls_write.proofs.message.write_message.Statement.{statement}
 use Rattle.calls_write.proofs.message.write_message.Tie as tie
 

@@ -1,6 +1,6 @@
 -- `catalogue_position_fields` meets its contract: the machine reads both numbers back from their bits. Assumes nothing.
 use borrow.Author.Needs.{needs}
-use Rattle.calls_position.proofs.OfPattern.{divides-read}
+use Rattle.calls_position.proofs.Pattern.{divides-read}
 use Rattle.host.proofs.position.catalogue_position_fields.Statement.{statement}
 use Rattle.host.proofs.position.catalogue_position_fields.Tie as tie
 

@@ -1,6 +1,6 @@
 -- `catalogue_position_vector` meets its contract: the machine reads both numbers back from their bits. Assumes nothing.
 use borrow.Author.Needs.{needs}
-use Rattle.calls_position.proofs.OfPattern.{vectors-read}
+use Rattle.calls_position.proofs.Pattern.{vectors-read}
 use Rattle.host.proofs.position.catalogue_position_vector.Statement.{statement}
 use Rattle.host.proofs.position.catalogue_position_vector.Tie as tie
 

@@ -8,7 +8,7 @@ use Rattle.spec.specs.Node.Lease.{before}
 use Rattle.node_admit.specs.View.{viewExpiry}
 use Rattle.image_parts.specs.Codes.{flagOf}
 use Rattle.image_header.specs.Image.{nodeAt}
-use Rattle.image_header_admit.proofs.OfAdmission.{elsewhere, unleased, too-few, full, admitted}
+use Rattle.image_header_admit.proofs.AdmissionLaws.{elsewhere, unleased, too-few, full, admitted}
 use Rattle.image_header_admit.proofs.admission.admit_write.Statement.{statement}
 use Rattle.image_header_admit.proofs.admission.admit_write.Tie as tie
 

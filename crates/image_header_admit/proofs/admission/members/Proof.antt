@@ -6,9 +6,9 @@ use Prim.Native.Nat.{ℕ, _-_, _≤_}
 use lib.ListN.{length, take}
 use Rattle.spec.specs.Lists.{filter}
 use Rattle.spec.specs.Node.Client.{isMember}
-use Rattle.node_admit.proofs.OfAdmission.{filter-on, filter-past}
+use Rattle.node_admit.proofs.AdmissionLaws.{filter-on, filter-past}
 use Rattle.image_header_row.specs.Rows.{noPeer, peersAt}
-use Rattle.image_header_check.proofs.OfRows.{peers-long, peer-row}
+use Rattle.image_header_check.proofs.Rows.{peers-long, peer-row}
 use Rattle.image_header_admit.proofs.admission.members.Statement.{statement}
 use Rattle.image_header_admit.proofs.admission.members.Tie as tie
 

@@ -8,8 +8,8 @@ use Rattle.spec.specs.Lists.{lead}
 use Rattle.node_shard.specs.View.{others, noPeer}
 use Rattle.node_shard.proofs.Loops.{lead-on, lead-stop, lead-end}
 use Rattle.image_header_row.specs.Rows.{peersAt}
-use Rattle.image_header_check.proofs.OfRows.{peers-long}
-use Rattle.image_header_admit.proofs.OfStep.{row-same, row-other}
+use Rattle.image_header_check.proofs.Rows.{peers-long}
+use Rattle.image_header_admit.proofs.Step.{row-same, row-other}
 use Rattle.image_header_admit.proofs.worker.peer_place.Statement.{statement}
 use Rattle.image_header_admit.proofs.worker.peer_place.Tie as tie
 

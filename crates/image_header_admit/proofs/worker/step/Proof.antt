@@ -3,7 +3,7 @@ use borrow.Author.Needs.{needs}
 use native.Mathlib.Omega.{arith}
 use Prim.Native.Nat.{_-_}
 use borrow.Author.Tests.{not-true, not-false}
-use Rattle.image_header_admit.proofs.OfStep.{holders-few, count-few, stop-not, stop-gone, align-new, align-old, ack-fits, sends-on}
+use Rattle.image_header_admit.proofs.Step.{holders-few, count-few, stop-not, stop-gone, align-new, align-old, ack-fits, sends-on}
 use Rattle.image_header_admit.proofs.worker.step.Statement.{statement}
 use Rattle.image_header_admit.proofs.worker.step.Tie as tie
 

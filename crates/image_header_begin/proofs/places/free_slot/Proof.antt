@@ -7,15 +7,15 @@ use Prim.Native.Nat.{ℕ, _+_, _-_, _*_, _≤_, _<_}
 use lib.ListN.{length, getD, take, drop, set}
 use borrow.Author.Tests.{not-true, not-false}
 use mathlib.Core.List.{map}
-use Rattle.node_header.specs.declared.Kept.{Kept}
+use Rattle.node_header.specs.declared.HeldRow.{HeldRow}
 use Rattle.node_header.specs.Grow.{freeFrom, lowestFree}
-use Rattle.node_header.proofs.OfGrow.{free-on, free-stop, free-end}
+use Rattle.node_header.proofs.Grow.{free-on, free-stop, free-end}
 use Rattle.image_header.specs.Image.{nodeAt}
 use Rattle.image_header_begin.proofs.places.free_slot.Statement.{statement}
 use Rattle.image_header_begin.proofs.places.free_slot.Tie as tie
 
 abbrev Inv-loop : tie.InvT-loop
-Inv-loop s count slot₀ slot = (slot ≤ 8) × (lowestFree (take count (nodeAt s .held)) ≡ freeFrom (8 - slot) slot (map (λ (x : Kept). x .slot) (take count (nodeAt s .held))))
+Inv-loop s count slot₀ slot = (slot ≤ 8) × (lowestFree (take count (nodeAt s .held)) ≡ freeFrom (8 - slot) slot (map (λ (x : HeldRow). x .slot) (take count (nodeAt s .held))))
 
 abbrev μ-loop : tie.MeasureT-loop
 μ-loop s count slot₀ slot = 8 - slot

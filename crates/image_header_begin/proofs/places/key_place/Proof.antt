@@ -10,13 +10,13 @@ use Rattle.spec.specs.Lists.{lead}
 use Rattle.spec.specs.Keys.{keyBelow}
 use Rattle.node_shard.proofs.Loops.{lead-on, lead-stop, lead-end}
 use Rattle.map_tables.specs.Names.{viewKey}
-use Rattle.node_header.specs.View.{noKept}
+use Rattle.node_header.specs.View.{noHeldRow}
 use Rattle.node_header.specs.Grow.{belowKey}
 use Rattle.image_parts.specs.Parts.{keyAt}
-use Rattle.image_header_row.specs.Rows.{keptAt}
+use Rattle.image_header_row.specs.Rows.{heldRowAt}
 use Rattle.image_header.specs.Image.{nodeAt}
-use Rattle.image_header_check.proofs.OfRows.{held-long, row-at}
-use Rattle.image_header_begin.proofs.OfRows.{below-key}
+use Rattle.image_header_check.proofs.Rows.{held-long, row-at}
+use Rattle.image_header_begin.proofs.RowLaws.{below-key}
 use Rattle.image_header_begin.proofs.places.key_place.Statement.{statement}
 use Rattle.image_header_begin.proofs.places.key_place.Tie as tie
 
@@ -44,7 +44,7 @@ key-below-requires c κs = search needs
 returns : tie.Need-returns Inv-loop μ-loop
 returns c = let a = (c .before .before .before .before .before .before .args) in let s = a .s .now in let l = (c .before .before .before .before .loop) in let i = l .i in let n = a .count in let p = belowKey (viewKey (a .key)) in let k = (c .before .before .before .before .before .before .pre) .1 in let g = held-long s in let lt = (c .before .before .before .loop-test) .taken in
     let r : (c .before .key-below) .result ≡ keyBelow (viewKey (keyAt s (48 + 1280 * i))) (viewKey (a .key)) = (c .before .key-below) .ensures ∙ (rw ((c .before .before .key-at) .ensures)) in
-    lead-stop p (nodeAt s .held) n i (omega arith) (l .inv .1) noKept (ap p (row-at s n (c .before .before .before .before .before .before .pre) i noKept lt) ∙ below-key s (48 + 1280 * i) (viewKey (a .key)) ∙ sym r ∙ not-true _ ((c .if1) .taken)) lt
+    lead-stop p (nodeAt s .held) n i (omega arith) (l .inv .1) noHeldRow (ap p (row-at s n (c .before .before .before .before .before .before .pre) i noHeldRow lt) ∙ below-key s (48 + 1280 * i) (viewKey (a .key)) ∙ sym r ∙ not-true _ ((c .if1) .taken)) lt
 
 add-i : tie.Need-add-i Inv-loop μ-loop
 add-i c = search needs
@@ -55,7 +55,7 @@ loop-less c = search needs
 loop-again : tie.Need-loop-again Inv-loop μ-loop
 loop-again c = let a = (c .before .before .before .before .before .before .args) in let s = a .s .now in let l = (c .before .before .before .before .loop) in let i = l .i in let n = a .count in let p = belowKey (viewKey (a .key)) in let k = (c .before .before .before .before .before .before .pre) .1 in let g = held-long s in let lt = (c .before .before .before .loop-test) .taken in
     let r : (c .before .key-below) .result ≡ keyBelow (viewKey (keyAt s (48 + 1280 * i))) (viewKey (a .key)) = (c .before .key-below) .ensures ∙ (rw ((c .before .before .key-at) .ensures)) in
-    (omega arith, lead-on p (nodeAt s .held) n i (omega arith) (l .inv .1) noKept (ap p (row-at s n (c .before .before .before .before .before .before .pre) i noKept lt) ∙ below-key s (48 + 1280 * i) (viewKey (a .key)) ∙ sym r ∙ not-false _ ((c .if1) .left)) lt)
+    (omega arith, lead-on p (nodeAt s .held) n i (omega arith) (l .inv .1) noHeldRow (ap p (row-at s n (c .before .before .before .before .before .before .pre) i noHeldRow lt) ∙ below-key s (48 + 1280 * i) (viewKey (a .key)) ∙ sym r ∙ not-false _ ((c .if1) .left)) lt)
 
 returns-2 : tie.Need-returns-2 Inv-loop μ-loop
 returns-2 c = let a = (c .before .before .before .args) in let s = a .s .now in let k = (c .before .before .before .pre) .1 in let g = held-long s in

@@ -6,7 +6,7 @@ use mathlib.Core.List.{List, [], _∷_, _++_}
 use Prim.Native.Nat.{ℕ, _+_, _-_, _*_, _≤_, _<_}
 use lib.ListN.{length, getD, take, drop, set}
 use Rattle.image_parts.proofs.Images.{stored-word}
-use Rattle.image_header_begin.proofs.OfRows.{opened}
+use Rattle.image_header_begin.proofs.RowLaws.{opened}
 use Rattle.image_header_begin.proofs.rows.open_row.Statement.{statement}
 use Rattle.image_header_begin.proofs.rows.open_row.Tie as tie
 

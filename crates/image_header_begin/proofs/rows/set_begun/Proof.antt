@@ -7,7 +7,7 @@ use Prim.Native.Nat.{ℕ, _+_, _-_, _*_, _≤_, _<_}
 use lib.ListN.{length, getD, take, drop, set}
 use Rattle.image_parts.proofs.Images.{stored-word, stored-as}
 use Rattle.image_parts.proofs.Types.{key-good}
-use Rattle.image_header_begin.proofs.OfRows.{begun-set}
+use Rattle.image_header_begin.proofs.RowLaws.{begun-set}
 use Rattle.image_header_begin.proofs.rows.set_begun.Statement.{statement}
 use Rattle.image_header_begin.proofs.rows.set_begun.Tie as tie
 

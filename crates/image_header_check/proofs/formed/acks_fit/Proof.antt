@@ -9,7 +9,7 @@ use Rattle.spec.specs.Layout.Format.{numberAt}
 use Rattle.spec.specs.Node.WellFormed.{ackFits}
 use Rattle.node_shard.proofs.Loops.{every-on, every-stop, every-end}
 use Rattle.image_header_row.specs.Rows.{noPeer, peersAt}
-use Rattle.image_header_check.proofs.OfRows.{peers-long, peer-row, ack-over, ack-under}
+use Rattle.image_header_check.proofs.Rows.{peers-long, peer-row, ack-over, ack-under}
 use Rattle.image_header_check.proofs.formed.acks_fit.Statement.{statement}
 use Rattle.image_header_check.proofs.formed.acks_fit.Tie as tie
 

@@ -6,16 +6,16 @@ use Prim.Native.Nat.{_-_, _≤_}
 use lib.ListN.{take, drop}
 use borrow.Author.Tests.{not-true, not-false}
 use Rattle.spec.specs.Lists.{every}
-use Rattle.node_header.specs.View.{noKept}
-use Rattle.node_header.specs.Formed.{keptFits}
+use Rattle.node_header.specs.View.{noHeldRow}
+use Rattle.node_header.specs.Formed.{heldRowFits}
 use Rattle.node_shard.proofs.Loops.{every-on, every-stop, every-end}
 use Rattle.image_header.specs.Image.{nodeAt}
-use Rattle.image_header_check.proofs.OfRows.{held-long, row-at}
+use Rattle.image_header_check.proofs.Rows.{held-long, row-at}
 use Rattle.image_header_check.proofs.formed.all_fit.Statement.{statement}
 use Rattle.image_header_check.proofs.formed.all_fit.Tie as tie
 
 abbrev Inv-loop : tie.InvT-loop
-Inv-loop s count i₀ i = (i ≤ count) × (every keptFits (take count (nodeAt s .held)) ≡ every keptFits (drop i (take count (nodeAt s .held))))
+Inv-loop s count i₀ i = (i ≤ count) × (every heldRowFits (take count (nodeAt s .held)) ≡ every heldRowFits (drop i (take count (nodeAt s .held))))
 
 abbrev μ-loop : tie.MeasureT-loop
 μ-loop s count i₀ i = count - i
@@ -43,7 +43,7 @@ returns c =
     let k = the-pre .1 in
     let g = held-long s in
     let lt = (c .before .before .loop-test) .taken in
-    every-stop keptFits (nodeAt s .held) n i (omega arith) (l .inv .1) noKept (ap keptFits (row-at s n (the-pre) i noKept lt) ∙ sym ((c .before .row-fits) .ensures) ∙ not-true _ ((c .if1) .taken)) lt
+    every-stop heldRowFits (nodeAt s .held) n i (omega arith) (l .inv .1) noHeldRow (ap heldRowFits (row-at s n (the-pre) i noHeldRow lt) ∙ sym ((c .before .row-fits) .ensures) ∙ not-true _ ((c .if1) .taken)) lt
 
 add-i : tie.Need-add-i Inv-loop μ-loop
 add-i c = search needs
@@ -62,7 +62,7 @@ loop-again c =
     let k = the-pre .1 in
     let g = held-long s in
     let lt = (c .before .before .loop-test) .taken in
-    (omega arith, every-on keptFits (nodeAt s .held) n i (omega arith) (l .inv .1) noKept (ap keptFits (row-at s n (the-pre) i noKept lt) ∙ sym ((c .before .row-fits) .ensures) ∙ not-false _ ((c .if1) .left)) lt)
+    (omega arith, every-on heldRowFits (nodeAt s .held) n i (omega arith) (l .inv .1) noHeldRow (ap heldRowFits (row-at s n (the-pre) i noHeldRow lt) ∙ sym ((c .before .row-fits) .ensures) ∙ not-false _ ((c .if1) .left)) lt)
 
 returns-2 : tie.Need-returns-2 Inv-loop μ-loop
 returns-2 c =
@@ -70,7 +70,7 @@ returns-2 c =
     let s = a .s .now in
     let k = (c .before .before .before .pre) .1 in
     let g = held-long s in
-    every-end keptFits (nodeAt s .held) (a .count) ((c .before .loop) .i) (omega arith) ((c .before .loop) .inv .1) (search needs)
+    every-end heldRowFits (nodeAt s .held) (a .count) ((c .before .loop) .i) (omega arith) ((c .before .loop) .inv .1) (search needs)
 
 pub all-fit-spec : {M : Type 1} → statement M
 all-fit-spec =

@@ -7,10 +7,10 @@ use lib.ListN.{take}
 use mathlib.Core.Bool.{Bool}
 use Rattle.spec.specs.Lists.{_and_, every, rising}
 use Rattle.node_header.specs.View.{used}
-use Rattle.node_header.specs.Formed.{keptFits, keptBelow, slotsFit}
-use Rattle.node_header.proofs.OfFormed.{header-over, header-rest}
+use Rattle.node_header.specs.Formed.{heldRowFits, heldRowBelow, slotsFit}
+use Rattle.node_header.proofs.Formed.{header-over, header-rest}
 use Rattle.image_header.specs.Image.{nodeAt}
-use Rattle.image_header_check.proofs.OfRows.{counted}
+use Rattle.image_header_check.proofs.Rows.{counted}
 use Rattle.image_header_check.proofs.formed.is_formed.Statement.{statement}
 use Rattle.image_header_check.proofs.formed.is_formed.Tie as tie
 
@@ -47,10 +47,10 @@ returns-2 c = let s = c .before .before .before .before .before .before .before 
     let t = c .before .before .before .before .before .if1 .left in
     let h : nodeAt s .count ≤ 8 = omega arith in
     let q : c .before .before .before .before .before .before .get8 .result ≡ nodeAt s .count = e ∙ sym k in
-    let r : c .before .before .before .before .keys-rise .result ≡ rising keptBelow (used (nodeAt s)) = c .before .before .before .before .keys-rise .ensures ∙ ap (λ (j : ℕ). rising keptBelow (take j (nodeAt s .held))) q in
-    let f : c .before .before .before .all-fit .result ≡ every keptFits (used (nodeAt s)) = c .before .before .before .all-fit .ensures ∙ ap (λ (j : ℕ). every keptFits (take j (nodeAt s .held))) q in
+    let r : c .before .before .before .before .keys-rise .result ≡ rising heldRowBelow (used (nodeAt s)) = c .before .before .before .before .keys-rise .ensures ∙ ap (λ (j : ℕ). rising heldRowBelow (take j (nodeAt s .held))) q in
+    let f : c .before .before .before .all-fit .result ≡ every heldRowFits (used (nodeAt s)) = c .before .before .before .all-fit .ensures ∙ ap (λ (j : ℕ). every heldRowFits (take j (nodeAt s .held))) q in
     let g : c .before .before .slots-fit .result ≡ slotsFit (used (nodeAt s)) = c .before .before .slots-fit .ensures ∙ ap (λ (j : ℕ). slotsFit (take j (nodeAt s .held))) q in
-    header-rest (nodeAt s) h (c .both2 .result) (c .both2 .ensures ∙ ap (λ (b : Bool). b and c .before .both .result) r ∙ ap (λ (b : Bool). rising keptBelow (used (nodeAt s)) and b) (c .before .both .ensures ∙ ap (λ (b : Bool). b and c .before .before .slots-fit .result) f ∙ ap (λ (b : Bool). every keptFits (used (nodeAt s)) and b) g))
+    header-rest (nodeAt s) h (c .both2 .result) (c .both2 .ensures ∙ ap (λ (b : Bool). b and c .before .both .result) r ∙ ap (λ (b : Bool). rising heldRowBelow (used (nodeAt s)) and b) (c .before .both .ensures ∙ ap (λ (b : Bool). b and c .before .before .slots-fit .result) f ∙ ap (λ (b : Bool). every heldRowFits (used (nodeAt s)) and b) g))
 
 pub is-formed-spec : {M : Type 1} → statement M
 is-formed-spec =

@@ -8,17 +8,17 @@ use borrow.Author.Tests.{not-true, not-false}
 use Rattle.spec.specs.Lists.{rising}
 use Rattle.spec.specs.Keys.{keyBelow}
 use Rattle.map_tables.specs.Names.{viewKey}
-use Rattle.node_header.specs.View.{noKept}
-use Rattle.node_header.specs.Formed.{keptBelow}
+use Rattle.node_header.specs.View.{noHeldRow}
+use Rattle.node_header.specs.Formed.{heldRowBelow}
 use Rattle.node_shard.proofs.Loops.{rise-on, rise-stop, rise-end}
 use Rattle.image_parts.specs.Parts.{keyAt}
 use Rattle.image_header.specs.Image.{nodeAt}
-use Rattle.image_header_check.proofs.OfRows.{held-long, row-at, below-is}
+use Rattle.image_header_check.proofs.Rows.{held-long, row-at, below-is}
 use Rattle.image_header_check.proofs.formed.keys_rise.Statement.{statement}
 use Rattle.image_header_check.proofs.formed.keys_rise.Tie as tie
 
 abbrev Inv-loop : tie.InvT-loop
-Inv-loop s count i₀ i = (1 ≤ i) × (i ≤ count) × (rising keptBelow (take count (nodeAt s .held)) ≡ rising keptBelow (drop (i - 1) (take count (nodeAt s .held))))
+Inv-loop s count i₀ i = (1 ≤ i) × (i ≤ count) × (rising heldRowBelow (take count (nodeAt s .held)) ≡ rising heldRowBelow (drop (i - 1) (take count (nodeAt s .held))))
 
 abbrev μ-loop : tie.MeasureT-loop
 μ-loop s count i₀ i = count - i
@@ -67,7 +67,7 @@ returns-2 c =
     let lt = (c .before .before .before .before .loop-test) .taken in
     let f = l .inv .0 in
     let r : ((c .before .key-below) .result) ≡ keyBelow (viewKey (keyAt s (48 + 1280 * (i - 1)))) (viewKey (keyAt s (48 + 1280 * i))) = (c .before .key-below) .ensures ∙ (rw ((c .before .before .before .key-at) .ensures, (c .before .before .key-at2) .ensures)) in
-    rise-stop keptBelow (nodeAt s .held) n i (omega arith) f (l .inv .2) noKept lt (rw (row-at s n (the-pre) (i - 1) noKept (omega arith), row-at s n (the-pre) i noKept lt) (below-is s (48 + 1280 * (i - 1)) (48 + 1280 * i) ∙ sym r ∙ not-true _ ((c .if2) .taken)))
+    rise-stop heldRowBelow (nodeAt s .held) n i (omega arith) f (l .inv .2) noHeldRow lt (rw (row-at s n (the-pre) (i - 1) noHeldRow (omega arith), row-at s n (the-pre) i noHeldRow lt) (below-is s (48 + 1280 * (i - 1)) (48 + 1280 * i) ∙ sym r ∙ not-true _ ((c .if2) .taken)))
 
 add-i : tie.Need-add-i Inv-loop μ-loop
 add-i c = search needs
@@ -88,7 +88,7 @@ loop-again c =
     let lt = (c .before .before .before .before .loop-test) .taken in
     let f = l .inv .0 in
     let r : ((c .before .key-below) .result) ≡ keyBelow (viewKey (keyAt s (48 + 1280 * (i - 1)))) (viewKey (keyAt s (48 + 1280 * i))) = (c .before .key-below) .ensures ∙ (rw ((c .before .before .before .key-at) .ensures, (c .before .before .key-at2) .ensures)) in
-    (omega arith, omega arith, rise-on keptBelow (nodeAt s .held) n i (omega arith) f (l .inv .2) noKept lt (rw (row-at s n (the-pre) (i - 1) noKept (omega arith), row-at s n (the-pre) i noKept lt) (below-is s (48 + 1280 * (i - 1)) (48 + 1280 * i) ∙ sym r ∙ not-false _ ((c .if2) .left))))
+    (omega arith, omega arith, rise-on heldRowBelow (nodeAt s .held) n i (omega arith) f (l .inv .2) noHeldRow lt (rw (row-at s n (the-pre) (i - 1) noHeldRow (omega arith), row-at s n (the-pre) i noHeldRow lt) (below-is s (48 + 1280 * (i - 1)) (48 + 1280 * i) ∙ sym r ∙ not-false _ ((c .if2) .left))))
 
 returns-3 : tie.Need-returns-3 Inv-loop μ-loop
 returns-3 c =
@@ -98,7 +98,7 @@ returns-3 c =
     let g = held-long s in
     let t = (c .loop-test) .left in
     let b = (c .before .loop) .inv .1 in
-    rise-end keptBelow (nodeAt s .held) (a .count) ((c .before .loop) .i) (omega arith) ((c .before .loop) .inv .0) ((c .before .loop) .inv .2) noKept (omega arith)
+    rise-end heldRowBelow (nodeAt s .held) (a .count) ((c .before .loop) .i) (omega arith) ((c .before .loop) .inv .0) ((c .before .loop) .inv .2) noHeldRow (omega arith)
 
 pub keys-rise-spec : {M : Type 1} → statement M
 keys-rise-spec =

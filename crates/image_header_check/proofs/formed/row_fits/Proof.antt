@@ -10,10 +10,10 @@ use Rattle.spec.specs.Lists.{_and_, every, rising}
 use Rattle.spec.specs.Node.Shards.{rowBelow}
 use Rattle.spec.specs.Node.WellFormed.{ackFits}
 use Rattle.spec.specs.declared.Peer.{Peer}
-use Rattle.node_shard.proofs.OfFormed.{formed-holders, formed-last, formed-count, formed-rows}
-use Rattle.node_header.proofs.OfFormed.{kept-long, kept-over, kept-rest}
-use Rattle.image_header_row.specs.Rows.{peersAt, keptAt}
-use Rattle.image_header_check.proofs.OfRows.{len-is, stored-is, last-is, holders-is, count-is, peers-is}
+use Rattle.node_shard.proofs.Formed.{formed-holders, formed-last, formed-count, formed-rows}
+use Rattle.node_header.proofs.Formed.{kept-long, kept-over, kept-rest}
+use Rattle.image_header_row.specs.Rows.{peersAt, heldRowAt}
+use Rattle.image_header_check.proofs.Rows.{len-is, stored-is, last-is, holders-is, count-is, peers-is}
 use Rattle.image_header_check.proofs.formed.row_fits.Statement.{statement}
 use Rattle.image_header_check.proofs.formed.row_fits.Tie as tie
 
@@ -28,8 +28,8 @@ returns c =
     let a = len-is s at in
     let e = (c .before .get8) .ensures in
     let t = (c .if1) .taken in
-    let h : 32 < keptAt s at .key .collection .len = omega arith in
-    kept-long (keptAt s at) h
+    let h : 32 < heldRowAt s at .key .collection .len = omega arith in
+    kept-long (heldRowAt s at) h
 
 add-get8 : tie.Need-add-get8
 add-get8 c = search needs
@@ -48,9 +48,9 @@ returns-2 c =
     let t = (c .before .before .if1) .left in
     let f = (c .before .get82) .ensures in
     let u = (c .if2) .taken in
-    let g : keptAt s at .key .collection .len ≤ 32 = omega arith in
-    let h : 1024 < keptAt s at .stored = omega arith in
-    kept-over (keptAt s at) g h
+    let g : heldRowAt s at .key .collection .len ≤ 32 = omega arith in
+    let h : 1024 < heldRowAt s at .stored = omega arith in
+    kept-over (heldRowAt s at) g h
 
 add-get8-2 : tie.Need-add-get8-2
 add-get8-2 c = search needs
@@ -72,10 +72,10 @@ returns-3 c =
     let u = (c .before .before .if2) .left in
     let v = (c .before .get83) .ensures in
     let w = (c .if3) .taken in
-    let g : keptAt s at .key .collection .len ≤ 32 = omega arith in
-    let h : keptAt s at .stored ≤ 1024 = omega arith in
-    let k : 8 < keptAt s at .held .holders = omega arith in
-    kept-rest (keptAt s at) g h false (formed-holders (keptAt s at .held) k)
+    let g : heldRowAt s at .key .collection .len ≤ 32 = omega arith in
+    let h : heldRowAt s at .stored ≤ 1024 = omega arith in
+    let k : 8 < heldRowAt s at .held .holders = omega arith in
+    kept-rest (heldRowAt s at) g h false (formed-holders (heldRowAt s at .held) k)
 
 add-get8-3 : tie.Need-add-get8-3
 add-get8-3 c = search needs
@@ -100,11 +100,11 @@ returns-4 c =
     let w = (c .before .before .if3) .left in
     let x = (c .before .get84) .ensures in
     let y = (c .if4) .taken in
-    let g : keptAt s at .key .collection .len ≤ 32 = omega arith in
-    let h : keptAt s at .stored ≤ 1024 = omega arith in
-    let k : keptAt s at .held .holders ≤ 8 = omega arith in
-    let m : 1024 < keptAt s at .held .last = omega arith in
-    kept-rest (keptAt s at) g h false (formed-last (keptAt s at .held) k m)
+    let g : heldRowAt s at .key .collection .len ≤ 32 = omega arith in
+    let h : heldRowAt s at .stored ≤ 1024 = omega arith in
+    let k : heldRowAt s at .held .holders ≤ 8 = omega arith in
+    let m : 1024 < heldRowAt s at .held .last = omega arith in
+    kept-rest (heldRowAt s at) g h false (formed-last (heldRowAt s at .held) k m)
 
 add-get8-4 : tie.Need-add-get8-4
 add-get8-4 c = search needs
@@ -132,12 +132,12 @@ returns-5 c =
     let y = (c .before .before .if4) .left in
     let z = (c .before .get85) .ensures in
     let q = (c .if5) .taken in
-    let g : keptAt s at .key .collection .len ≤ 32 = omega arith in
-    let h : keptAt s at .stored ≤ 1024 = omega arith in
-    let k : keptAt s at .held .holders ≤ 8 = omega arith in
-    let m : keptAt s at .held .last ≤ 1024 = omega arith in
-    let o : 32 < keptAt s at .held .count = omega arith in
-    kept-rest (keptAt s at) g h false (formed-count (keptAt s at .held) k m o)
+    let g : heldRowAt s at .key .collection .len ≤ 32 = omega arith in
+    let h : heldRowAt s at .stored ≤ 1024 = omega arith in
+    let k : heldRowAt s at .held .holders ≤ 8 = omega arith in
+    let m : heldRowAt s at .held .last ≤ 1024 = omega arith in
+    let o : 32 < heldRowAt s at .held .count = omega arith in
+    kept-rest (heldRowAt s at) g h false (formed-count (heldRowAt s at .held) k m o)
 
 add-rows-rise : tie.Need-add-rows-rise
 add-rows-rise c = search needs
@@ -178,15 +178,15 @@ returns-6 c =
     let y = (c .before .before .before .before .before .if4) .left in
     let z = the-get85 .ensures in
     let q = (c .before .before .before .if5) .left in
-    let g : keptAt s at .key .collection .len ≤ 32 = omega arith in
-    let h : keptAt s at .stored ≤ 1024 = omega arith in
-    let k : keptAt s at .held .holders ≤ 8 = omega arith in
-    let m : keptAt s at .held .last ≤ 1024 = omega arith in
-    let o : keptAt s at .held .count ≤ 32 = omega arith in
-    let i : (the-get85 .result) ≡ keptAt s at .held .count = z ∙ sym n in
-    let r : (the-rows-rise .result) ≡ rising rowBelow (take (keptAt s at .held .count) (keptAt s at .held .peers)) = the-rows-rise .ensures ∙ ap (λ (j : ℕ). rising rowBelow (take j (peersAt s (at + 256)))) i ∙ ap (λ (j : List Peer). rising rowBelow (take (keptAt s at .held .count) j)) (sym (peers-is s at)) in
-    let fit : ((c .before .acks-fit) .result) ≡ every ackFits (take (keptAt s at .held .count) (keptAt s at .held .peers)) = (c .before .acks-fit) .ensures ∙ ap (λ (j : ℕ). every ackFits (take j (peersAt s (at + 256)))) i ∙ ap (λ (j : List Peer). every ackFits (take (keptAt s at .held .count) j)) (sym (peers-is s at)) in
-    kept-rest (keptAt s at) g h ((c .both) .result) (formed-rows (keptAt s at .held) k m o ((c .both) .result) ((c .both) .ensures ∙ ap (λ (j : Bool). j and ((c .before .acks-fit) .result)) r ∙ ap (λ (j : Bool). rising rowBelow (take (keptAt s at .held .count) (keptAt s at .held .peers)) and j) fit))
+    let g : heldRowAt s at .key .collection .len ≤ 32 = omega arith in
+    let h : heldRowAt s at .stored ≤ 1024 = omega arith in
+    let k : heldRowAt s at .held .holders ≤ 8 = omega arith in
+    let m : heldRowAt s at .held .last ≤ 1024 = omega arith in
+    let o : heldRowAt s at .held .count ≤ 32 = omega arith in
+    let i : (the-get85 .result) ≡ heldRowAt s at .held .count = z ∙ sym n in
+    let r : (the-rows-rise .result) ≡ rising rowBelow (take (heldRowAt s at .held .count) (heldRowAt s at .held .peers)) = the-rows-rise .ensures ∙ ap (λ (j : ℕ). rising rowBelow (take j (peersAt s (at + 256)))) i ∙ ap (λ (j : List Peer). rising rowBelow (take (heldRowAt s at .held .count) j)) (sym (peers-is s at)) in
+    let fit : ((c .before .acks-fit) .result) ≡ every ackFits (take (heldRowAt s at .held .count) (heldRowAt s at .held .peers)) = (c .before .acks-fit) .ensures ∙ ap (λ (j : ℕ). every ackFits (take j (peersAt s (at + 256)))) i ∙ ap (λ (j : List Peer). every ackFits (take (heldRowAt s at .held .count) j)) (sym (peers-is s at)) in
+    kept-rest (heldRowAt s at) g h ((c .both) .result) (formed-rows (heldRowAt s at .held) k m o ((c .both) .result) ((c .both) .ensures ∙ ap (λ (j : Bool). j and ((c .before .acks-fit) .result)) r ∙ ap (λ (j : Bool). rising rowBelow (take (heldRowAt s at .held .count) (heldRowAt s at .held .peers)) and j) fit))
 
 pub row-fits-spec : {M : Type 1} → statement M
 row-fits-spec =

@@ -9,7 +9,7 @@ use Rattle.spec.specs.Layout.Format.{numberAt}
 use Rattle.spec.specs.Node.Shards.{rowBelow}
 use Rattle.node_shard.proofs.Loops.{rise-on, rise-stop, rise-end}
 use Rattle.image_header_row.specs.Rows.{noPeer, peersAt}
-use Rattle.image_header_check.proofs.OfRows.{peers-long, peer-row, row-over, row-under}
+use Rattle.image_header_check.proofs.Rows.{peers-long, peer-row, row-over, row-under}
 use Rattle.image_header_check.proofs.formed.rows_rise.Statement.{statement}
 use Rattle.image_header_check.proofs.formed.rows_rise.Tie as tie
 

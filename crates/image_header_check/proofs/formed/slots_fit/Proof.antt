@@ -7,12 +7,12 @@ use lib.ListN.{getD, take, drop}
 use lib.Dec.{ltb}
 use borrow.Author.Tests.{lt-ltb, le-ltb}
 use Rattle.spec.specs.Lists.{any}
-use Rattle.node_header.specs.declared.Kept.{Kept}
-use Rattle.node_header.specs.View.{noKept}
+use Rattle.node_header.specs.declared.HeldRow.{HeldRow}
+use Rattle.node_header.specs.View.{noHeldRow}
 use Rattle.node_header.specs.Formed.{onSlot, slotsFit}
-use Rattle.node_header.proofs.OfFormed.{slots-on, slots-over, slots-twice, slots-end}
+use Rattle.node_header.proofs.Formed.{slots-on, slots-over, slots-twice, slots-end}
 use Rattle.image_header.specs.Image.{nodeAt}
-use Rattle.image_header_check.proofs.OfRows.{held-long, row-at, slot-is}
+use Rattle.image_header_check.proofs.Rows.{held-long, row-at, slot-is}
 use Rattle.image_header_check.proofs.formed.slots_fit.Statement.{statement}
 use Rattle.image_header_check.proofs.formed.slots_fit.Tie as tie
 
@@ -48,8 +48,8 @@ returns c =
     let k = the-pre .1 in
     let g = held-long s in
     let lt = (c .before .before .loop-test) .taken in
-    let e : getD (nodeAt s .held) i noKept .slot ≡ ((c .before .get8) .result) = ap (λ (x : Kept). x .slot) (row-at s n (the-pre) i noKept lt) ∙ slot-is s (48 + 1280 * i) ∙ sym ((c .before .get8) .ensures) in
-    slots-over (nodeAt s .held) n i (omega arith) (l .inv .1) noKept lt (ap (λ (j : ℕ). ltb j 8) e ∙ le-ltb _ _ ((c .if1) .taken))
+    let e : getD (nodeAt s .held) i noHeldRow .slot ≡ ((c .before .get8) .result) = ap (λ (x : HeldRow). x .slot) (row-at s n (the-pre) i noHeldRow lt) ∙ slot-is s (48 + 1280 * i) ∙ sym ((c .before .get8) .ensures) in
+    slots-over (nodeAt s .held) n i (omega arith) (l .inv .1) noHeldRow lt (ap (λ (j : ℕ). ltb j 8) e ∙ le-ltb _ _ ((c .if1) .taken))
 
 add-slot-after : tie.Need-add-slot-after Inv-loop μ-loop
 add-slot-after c = search needs
@@ -69,8 +69,8 @@ returns-2 c =
     let k = the-pre .1 in
     let g = held-long s in
     let lt = (c .before .before .before .before .loop-test) .taken in
-    let e : getD (nodeAt s .held) i noKept .slot ≡ (the-get8 .result) = ap (λ (x : Kept). x .slot) (row-at s n (the-pre) i noKept lt) ∙ slot-is s (48 + 1280 * i) ∙ sym (the-get8 .ensures) in
-    slots-twice (nodeAt s .held) n i (omega arith) (l .inv .1) noKept lt (ap (λ (j : ℕ). ltb j 8) e ∙ lt-ltb _ _ ((c .before .before .if1) .left)) (ap (λ (j : ℕ). any (onSlot j) (drop (i + 1) (take n (nodeAt s .held)))) e ∙ sym ((c .before .slot-after) .ensures) ∙ (c .if2) .taken)
+    let e : getD (nodeAt s .held) i noHeldRow .slot ≡ (the-get8 .result) = ap (λ (x : HeldRow). x .slot) (row-at s n (the-pre) i noHeldRow lt) ∙ slot-is s (48 + 1280 * i) ∙ sym (the-get8 .ensures) in
+    slots-twice (nodeAt s .held) n i (omega arith) (l .inv .1) noHeldRow lt (ap (λ (j : ℕ). ltb j 8) e ∙ lt-ltb _ _ ((c .before .before .if1) .left)) (ap (λ (j : ℕ). any (onSlot j) (drop (i + 1) (take n (nodeAt s .held)))) e ∙ sym ((c .before .slot-after) .ensures) ∙ (c .if2) .taken)
 
 add-i : tie.Need-add-i Inv-loop μ-loop
 add-i c = search needs
@@ -90,8 +90,8 @@ loop-again c =
     let k = the-pre .1 in
     let g = held-long s in
     let lt = (c .before .before .before .before .loop-test) .taken in
-    let e : getD (nodeAt s .held) i noKept .slot ≡ (the-get8 .result) = ap (λ (x : Kept). x .slot) (row-at s n (the-pre) i noKept lt) ∙ slot-is s (48 + 1280 * i) ∙ sym (the-get8 .ensures) in
-    (omega arith, slots-on (nodeAt s .held) n i (omega arith) (l .inv .1) noKept lt (ap (λ (j : ℕ). ltb j 8) e ∙ lt-ltb _ _ ((c .before .before .if1) .left)) (ap (λ (j : ℕ). any (onSlot j) (drop (i + 1) (take n (nodeAt s .held)))) e ∙ sym ((c .before .slot-after) .ensures) ∙ (c .if2) .left))
+    let e : getD (nodeAt s .held) i noHeldRow .slot ≡ (the-get8 .result) = ap (λ (x : HeldRow). x .slot) (row-at s n (the-pre) i noHeldRow lt) ∙ slot-is s (48 + 1280 * i) ∙ sym (the-get8 .ensures) in
+    (omega arith, slots-on (nodeAt s .held) n i (omega arith) (l .inv .1) noHeldRow lt (ap (λ (j : ℕ). ltb j 8) e ∙ lt-ltb _ _ ((c .before .before .if1) .left)) (ap (λ (j : ℕ). any (onSlot j) (drop (i + 1) (take n (nodeAt s .held)))) e ∙ sym ((c .before .slot-after) .ensures) ∙ (c .if2) .left))
 
 returns-3 : tie.Need-returns-3 Inv-loop μ-loop
 returns-3 c =

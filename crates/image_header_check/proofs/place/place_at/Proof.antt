@@ -8,11 +8,11 @@ use mathlib.Core.Bool.{not}
 use Rattle.spec.specs.Lists.{lead}
 use Rattle.spec.specs.Keys.{sameKey}
 use Rattle.map_tables.specs.Names.{viewKey}
-use Rattle.node_header.specs.View.{noKept, otherKey}
+use Rattle.node_header.specs.View.{noHeldRow, otherKey}
 use Rattle.node_shard.proofs.Loops.{lead-on, lead-stop, lead-end}
 use Rattle.image_parts.specs.Parts.{keyAt}
 use Rattle.image_header.specs.Image.{nodeAt}
-use Rattle.image_header_check.proofs.OfRows.{held-long, row-at, other-is}
+use Rattle.image_header_check.proofs.Rows.{held-long, row-at, other-is}
 use Rattle.image_header_check.proofs.place.place_at.Statement.{statement}
 use Rattle.image_header_check.proofs.place.place_at.Tie as tie
 
@@ -50,7 +50,7 @@ returns c =
     let g = held-long s in
     let lt = (c .before .before .before .loop-test) .taken in
     let r : ((c .before .same-key) .result) ≡ sameKey (viewKey (keyAt s (48 + 1280 * i))) (viewKey (a .key)) = (c .before .same-key) .ensures ∙ (rw ((c .before .before .key-at) .ensures)) in
-    lead-stop p (nodeAt s .held) n i (omega arith) (l .inv .1) noKept (ap p (row-at s n (the-pre) i noKept lt) ∙ other-is s (48 + 1280 * i) (viewKey (a .key)) ∙ ap not (sym r ∙ (c .if1) .taken)) lt
+    lead-stop p (nodeAt s .held) n i (omega arith) (l .inv .1) noHeldRow (ap p (row-at s n (the-pre) i noHeldRow lt) ∙ other-is s (48 + 1280 * i) (viewKey (a .key)) ∙ ap not (sym r ∙ (c .if1) .taken)) lt
 
 add-i : tie.Need-add-i Inv-loop μ-loop
 add-i c = search needs
@@ -71,7 +71,7 @@ loop-again c =
     let g = held-long s in
     let lt = (c .before .before .before .loop-test) .taken in
     let r : ((c .before .same-key) .result) ≡ sameKey (viewKey (keyAt s (48 + 1280 * i))) (viewKey (a .key)) = (c .before .same-key) .ensures ∙ (rw ((c .before .before .key-at) .ensures)) in
-    (omega arith, lead-on p (nodeAt s .held) n i (omega arith) (l .inv .1) noKept (ap p (row-at s n (the-pre) i noKept lt) ∙ other-is s (48 + 1280 * i) (viewKey (a .key)) ∙ ap not (sym r ∙ (c .if1) .left)) lt)
+    (omega arith, lead-on p (nodeAt s .held) n i (omega arith) (l .inv .1) noHeldRow (ap p (row-at s n (the-pre) i noHeldRow lt) ∙ other-is s (48 + 1280 * i) (viewKey (a .key)) ∙ ap not (sym r ∙ (c .if1) .left)) lt)
 
 returns-2 : tie.Need-returns-2 Inv-loop μ-loop
 returns-2 c =

@@ -15,9 +15,9 @@ use Rattle.image_parts.specs.Codes.{flagOf, flagCode}
 use Rattle.image_parts.specs.Parts.{noReplica}
 use Rattle.image_parts.specs.Canon.{padded, imageKey}
 use Rattle.image_parts.proofs.Images.{length-used}
-use Rattle.image_header_row.specs.Rows.{keptAt}
-use Rattle.image_header_check.proofs.OfRows.{slot-is, stored-is, last-is, holders-is, count-is, peers-is, peers-long}
-use Rattle.image_header_form.proofs.OfFront.{key-is, epoch-is, metric-is, own-is, role-is, replicas-is, replicas-long, front-as, stored-same}
+use Rattle.image_header_row.specs.Rows.{heldRowAt}
+use Rattle.image_header_check.proofs.Rows.{slot-is, stored-is, last-is, holders-is, count-is, peers-is, peers-long}
+use Rattle.image_header_form.proofs.FrontLaws.{key-is, epoch-is, metric-is, own-is, role-is, replicas-is, replicas-long, front-as, stored-same}
 use Rattle.image_header_form.proofs.front.front_tidied.Statement.{statement}
 use Rattle.image_header_form.proofs.front.front_tidied.Tie as tie
 
@@ -133,18 +133,18 @@ returns c =
     let s = a .out .now in
     let at = a .at in
     stored-same
-    (front-as (keptAt s at) (the-tidy-key .result) (the-get8 .result) (the-get82 .result) (the-get83 .result) (the-get84 .result) (the-in-use .result) (the-in-use2 .result) (the-metric-code .result) (the-flag-code .result) (the-role-at .result) (the-tidy-replicas .result)
+    (front-as (heldRowAt s at) (the-tidy-key .result) (the-get8 .result) (the-get82 .result) (the-get83 .result) (the-get84 .result) (the-in-use .result) (the-in-use2 .result) (the-metric-code .result) (the-flag-code .result) (the-role-at .result) (the-tidy-replicas .result)
     (the-tidy-key .ensures ∙ ap (λ (k : ShardKey). imageKey (viewKey k)) ((c .before .before .before .before .before .before .before .before .before .before .before .before .before .before .before .before .before .before .before .before .before .before .before .before .before .before .before .before .before .before .before .before .key-at) .ensures ∙ sym (key-is s at)))
     (the-get8 .ensures ∙ sym (slot-is s at))
     (the-get82 .ensures ∙ sym (stored-is s at))
     (the-get83 .ensures ∙ sym (epoch-is s at))
     (the-get84 .ensures ∙ sym (last-is s at))
-    (the-in-use .ensures .0 ∙ ap (inUse 8) (the-get85 .ensures ∙ sym (holders-is s at)) ∙ sym (length-used 8 (keptAt s at .held .holders) (keptAt s at .held .replicas) (replicas-long s at)))
-    (the-in-use2 .ensures .0 ∙ ap (inUse 32) ((c .before .before .before .before .before .before .before .before .before .before .before .before .before .before .before .before .before .before .get86) .ensures ∙ sym (count-is s at)) ∙ sym (length-used 32 (keptAt s at .held .count) (keptAt s at .held .peers) (ap (λ (l : List Peer). length l) (peers-is s at) ∙ peers-long s (at + 256))))
+    (the-in-use .ensures .0 ∙ ap (inUse 8) (the-get85 .ensures ∙ sym (holders-is s at)) ∙ sym (length-used 8 (heldRowAt s at .held .holders) (heldRowAt s at .held .replicas) (replicas-long s at)))
+    (the-in-use2 .ensures .0 ∙ ap (inUse 32) ((c .before .before .before .before .before .before .before .before .before .before .before .before .before .before .before .before .before .before .get86) .ensures ∙ sym (count-is s at)) ∙ sym (length-used 32 (heldRowAt s at .held .count) (heldRowAt s at .held .peers) (ap (λ (l : List Peer). length l) (peers-is s at) ∙ peers-long s (at + 256))))
     (the-metric-code .ensures ∙ ap metricCode ((c .before .before .before .before .before .before .before .before .before .before .before .before .before .before .metric-of) .ensures ∙ ap metricOf ((c .before .before .before .before .before .before .before .before .before .before .before .before .before .before .before .get4) .ensures) ∙ sym (metric-is s at)))
     (the-flag-code .ensures ∙ ap flagCode ((c .before .before .before .before .before .before .before .before .before .before .flag-of) .ensures ∙ ap flagOf ((c .before .before .before .before .before .before .before .before .before .before .before .get42) .ensures) ∙ sym (own-is s at)))
     (the-role-at .ensures ∙ sym (role-is s at))
-    (the-tidy-replicas .ensures ∙ ap (λ (k : ℕ). padded 8 noReplica (take k (the-replicas-at .result))) (the-get85 .ensures ∙ sym (holders-is s at)) ∙ ap (λ (l : List Replica). padded 8 noReplica (take (keptAt s at .held .holders) l)) (the-replicas-at .ensures ∙ sym (replicas-is s at))))
+    (the-tidy-replicas .ensures ∙ ap (λ (k : ℕ). padded 8 noReplica (take k (the-replicas-at .result))) (the-get85 .ensures ∙ sym (holders-is s at)) ∙ ap (λ (l : List Replica). padded 8 noReplica (take (heldRowAt s at .held .holders) l)) (the-replicas-at .ensures ∙ sym (replicas-is s at))))
     ((c .before .before .put-front) .ensures)
 
 pub front-tidied-spec : {M : Type 1} → statement M

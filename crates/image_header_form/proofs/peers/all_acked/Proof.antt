@@ -9,7 +9,7 @@ use Rattle.spec.specs.Lists.{every}
 use Rattle.spec.specs.Node.Client.{hasAcked}
 use Rattle.node_shard.proofs.Loops.{every-on, every-stop, every-end}
 use Rattle.image_header_row.specs.Rows.{noPeer, peersAt}
-use Rattle.image_header_check.proofs.OfRows.{peers-long, peer-row}
+use Rattle.image_header_check.proofs.Rows.{peers-long, peer-row}
 use Rattle.image_header_form.proofs.peers.all_acked.Statement.{statement}
 use Rattle.image_header_form.proofs.peers.all_acked.Tie as tie
 

@@ -11,7 +11,7 @@ use mathlib.Core.Path.{subst}
 use Rattle.spec.specs.Layout.Format.{concatMap}
 use Rattle.image_header_row.specs.Rows.{noPeer, peerBytes, peersAt}
 use Rattle.image_parts.specs.Canon.{padded}
-use Rattle.image_header_form.proofs.OfPeers.{Done, done-start, still, done-step, done-end, clear, clear-step, waited-long, waited-row, waited-tail}
+use Rattle.image_header_form.proofs.PeerLaws.{Done, done-start, still, done-step, done-end, clear, clear-step, waited-long, waited-row, waited-tail}
 use Rattle.image_header_form.proofs.peers.peers_waited.Statement.{statement}
 use Rattle.image_header_form.proofs.peers.peers_waited.Tie as tie
 

@@ -8,7 +8,7 @@ use Rattle.spec.specs.Lists.{collect}
 use Rattle.spec.specs.Node.Client.{toShrink, nodeOf}
 use Rattle.node_shard.proofs.Loops.{collect-on, collect-past}
 use Rattle.image_header_row.specs.Rows.{noPeer, peersAt}
-use Rattle.image_header_check.proofs.OfRows.{peers-long, peer-row}
+use Rattle.image_header_check.proofs.Rows.{peers-long, peer-row}
 use Rattle.image_header_form.proofs.peers.shrinks_of.Statement.{statement}
 use Rattle.image_header_form.proofs.peers.shrinks_of.Tie as tie
 

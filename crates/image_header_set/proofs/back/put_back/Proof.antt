@@ -5,7 +5,7 @@ use mathlib.Core.Path.{_≡_, refl, sym, _∙_, ap}
 use mathlib.Core.List.{List, [], _∷_, _++_}
 use Prim.Native.Nat.{ℕ, _+_, _-_, _*_, _≤_, _<_}
 use lib.ListN.{length, getD, take, drop, set}
-use Rattle.image_header_set.proofs.OfSet.{writes-same, same-end, end-kept, end-read}
+use Rattle.image_header_set.proofs.SetLaws.{writes-same, same-end, end-kept, end-read}
 use Rattle.image_header_set.proofs.back.put_back.Statement.{statement}
 use Rattle.image_header_set.proofs.back.put_back.Tie as tie
 

@@ -11,8 +11,8 @@ use Rattle.spec.specs.Lists.{lead}
 use Rattle.node_shard.specs.View.{others, noPeer}
 use Rattle.node_shard.proofs.Loops.{lead-on, lead-stop, lead-end}
 use Rattle.image_header_row.specs.Rows.{peersAt, peerAt}
-use Rattle.image_header_check.proofs.OfRows.{peers-long, peer-row}
-use Rattle.image_header_set.proofs.OfPlace.{node-at}
+use Rattle.image_header_check.proofs.Rows.{peers-long, peer-row}
+use Rattle.image_header_set.proofs.Place.{node-at}
 use Rattle.image_header_set.proofs.peers.place_of.Statement.{statement}
 use Rattle.image_header_set.proofs.peers.place_of.Tie as tie
 

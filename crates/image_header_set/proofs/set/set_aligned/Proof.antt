@@ -6,7 +6,7 @@ use mathlib.Core.List.{List, [], _∷_, _++_}
 use Prim.Native.Nat.{ℕ, _+_, _-_, _*_, _≤_, _<_}
 use lib.ListN.{length, getD, take, drop, set}
 use Rattle.image_parts.proofs.Images.{stored-word}
-use Rattle.image_header_set.proofs.OfSet.{aligned-set}
+use Rattle.image_header_set.proofs.SetLaws.{aligned-set}
 use Rattle.image_header_set.proofs.set.set_aligned.Statement.{statement}
 use Rattle.image_header_set.proofs.set.set_aligned.Tie as tie
 

@@ -8,7 +8,7 @@ use lib.ListN.{length, getD, take, drop, set}
 use Rattle.spec.specs.Layout.Format.{bytesOf}
 use Rattle.image_parts.proofs.Images.{stored-as}
 use Rattle.image_parts.specs.Codes.{flagCode}
-use Rattle.image_header_set.proofs.OfSet.{own-set}
+use Rattle.image_header_set.proofs.SetLaws.{own-set}
 use Rattle.image_header_set.proofs.set.set_own.Statement.{statement}
 use Rattle.image_header_set.proofs.set.set_own.Tie as tie
 

@@ -5,7 +5,7 @@ use mathlib.Core.Path.{_≡_, refl, sym, _∙_, ap}
 use mathlib.Core.List.{List, [], _∷_, _++_}
 use Prim.Native.Nat.{ℕ, _+_, _-_, _*_, _≤_, _<_}
 use lib.ListN.{length, getD, take, drop, set}
-use Rattle.image_header_set.proofs.OfSet.{peer-set, peer-typed}
+use Rattle.image_header_set.proofs.SetLaws.{peer-set, peer-typed}
 use Rattle.image_header_set.proofs.set.set_peer.Statement.{statement}
 use Rattle.image_header_set.proofs.set.set_peer.Tie as tie
 

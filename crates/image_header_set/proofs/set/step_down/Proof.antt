@@ -8,8 +8,8 @@ use lib.ListN.{length, getD, take, drop, set}
 use mathlib.Core.Bool.{false}
 use Rattle.spec.specs.declared.Role.the-variants.{Backup}
 use Rattle.image_parts.proofs.Images.{stored-word}
-use Rattle.image_header_row.specs.Rows.{keptAt}
-use Rattle.image_header_set.proofs.OfSet.{backup-set, count-set, stepped-down}
+use Rattle.image_header_row.specs.Rows.{heldRowAt}
+use Rattle.image_header_set.proofs.SetLaws.{backup-set, count-set, stepped-down}
 use Rattle.image_header_set.proofs.set.step_down.Statement.{statement}
 use Rattle.image_header_set.proofs.set.step_down.Tie as tie
 

@@ -6,7 +6,7 @@ use mathlib.Core.List.{List, [], _∷_, _++_}
 use Prim.Native.Nat.{ℕ, _+_, _-_, _*_, _≤_, _<_}
 use lib.ListN.{length, getD, take, drop, set}
 use Rattle.spec_laws.proofs.Wire.Bytes.{length-bytes}
-use Rattle.image_header_set.proofs.OfVersion.{version-counts, version-back}
+use Rattle.image_header_set.proofs.VersionLaws.{version-counts, version-back}
 use Rattle.image_header_set.proofs.version.put_version.Statement.{statement}
 use Rattle.image_header_set.proofs.version.put_version.Tie as tie
 

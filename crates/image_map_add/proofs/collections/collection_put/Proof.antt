@@ -6,8 +6,8 @@ use mathlib.Core.List.{List, [], _∷_, _++_}
 use Prim.Native.Nat.{ℕ, _+_, _-_, _*_, _≤_, _<_}
 use lib.ListN.{length, getD, take, drop, set}
 use Rattle.map_tables.specs.Names.{viewName}
-use Rattle.image_map_edit.proofs.OfTypes.{collection-good}
-use Rattle.image_map_add.proofs.OfCollections.{collection-within, collection-in}
+use Rattle.image_map_edit.proofs.Types.{collection-good}
+use Rattle.image_map_add.proofs.CollectionLaws.{collection-within, collection-in}
 use Rattle.image_map_add.proofs.collections.collection_put.Statement.{statement}
 use Rattle.image_map_add.proofs.collections.collection_put.Tie as tie
 

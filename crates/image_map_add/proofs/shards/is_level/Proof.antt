@@ -10,8 +10,8 @@ use Rattle.spec.specs.Keys.{keyBelow}
 use Rattle.map_tables.specs.Names.{viewKey}
 use Rattle.map_tables.specs.View.{viewShard}
 use Rattle.image_map_row.specs.Rows.{shardAt}
-use Rattle.image_map_edit.proofs.OfTables.{level-past, level-is}
-use Rattle.image_map_add.proofs.OfShards.{key-above}
+use Rattle.image_map_edit.proofs.Tables.{level-past, level-is}
+use Rattle.image_map_add.proofs.ShardLaws.{key-above}
 use Rattle.image_map_add.proofs.shards.is_level.Statement.{statement}
 use Rattle.image_map_add.proofs.shards.is_level.Tie as tie
 

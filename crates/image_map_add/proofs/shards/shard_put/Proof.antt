@@ -10,9 +10,9 @@ use Rattle.spec.specs.Keys.{keyBelow}
 use Rattle.map_tables.specs.Names.{viewKey}
 use Rattle.map_tables.specs.View.{viewShard}
 use Rattle.image_map_row.specs.Rows.{shardAt}
-use Rattle.image_map_edit.proofs.OfTypes.{shard-good}
-use Rattle.image_map_edit.proofs.OfTables.{level-there, level-not}
-use Rattle.image_map_add.proofs.OfShards.{shard-within, put-over, shard-room, shard-in}
+use Rattle.image_map_edit.proofs.Types.{shard-good}
+use Rattle.image_map_edit.proofs.Tables.{level-there, level-not}
+use Rattle.image_map_add.proofs.ShardLaws.{shard-within, put-over, shard-room, shard-in}
 use Rattle.image_map_add.proofs.shards.shard_put.Statement.{statement}
 use Rattle.image_map_add.proofs.shards.shard_put.Tie as tie
 

@@ -13,7 +13,7 @@ use Rattle.map_tables.specs.View.{viewCollection}
 use Rattle.image_map_row.specs.Rows.{collectionAt}
 use Rattle.map_check.specs.Rows.{collectionCounted}
 use Rattle.image_map.specs.Image.{noCollection}
-use Rattle.image_map_check.proofs.OfRows.{Left, pass-over, pass-start, pass-on, pass-stop, pass-end}
+use Rattle.image_map_check.proofs.RowLaws.{Left, pass-over, pass-start, pass-on, pass-stop, pass-end}
 use Rattle.image_map_check.proofs.formed.collections_fit.Statement.{statement}
 use Rattle.image_map_check.proofs.formed.collections_fit.Tie as tie
 

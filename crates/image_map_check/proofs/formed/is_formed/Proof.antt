@@ -9,7 +9,7 @@ use mathlib.Core.Bool.{Bool, true, false, not}
 use borrow.Author.Tests.{not-true, not-false}
 use Rattle.spec.specs.Lists.{_and_}
 use Rattle.image_map.specs.Image.{mapAt}
-use Rattle.image_map_check.proofs.OfFormed.{formed-none, formed-second, formed-third, formed-last}
+use Rattle.image_map_check.proofs.FormedLaws.{formed-none, formed-second, formed-third, formed-last}
 use Rattle.image_map_check.proofs.formed.is_formed.Statement.{statement}
 use Rattle.image_map_check.proofs.formed.is_formed.Tie as tie
 

@@ -13,7 +13,7 @@ use Rattle.map_tables.specs.View.{viewNode}
 use Rattle.image_map_row.specs.Rows.{nodeAt}
 use Rattle.map_check.specs.Rows.{nodeCounted}
 use Rattle.image_map.specs.Image.{noNode}
-use Rattle.image_map_check.proofs.OfRows.{Left, pass-over, pass-start, pass-on, pass-stop, pass-end}
+use Rattle.image_map_check.proofs.RowLaws.{Left, pass-over, pass-start, pass-on, pass-stop, pass-end}
 use Rattle.image_map_check.proofs.formed.nodes_fit.Statement.{statement}
 use Rattle.image_map_check.proofs.formed.nodes_fit.Tie as tie
 

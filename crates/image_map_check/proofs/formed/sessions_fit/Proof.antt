@@ -13,7 +13,7 @@ use Rattle.map_tables.specs.View.{viewSession}
 use Rattle.image_map_row.specs.Rows.{sessionAt}
 use Rattle.map_check.specs.Rows.{sessionCounted}
 use Rattle.image_map.specs.Image.{noSession}
-use Rattle.image_map_check.proofs.OfRows.{Left, pass-over, pass-start, pass-on, pass-stop, pass-end}
+use Rattle.image_map_check.proofs.RowLaws.{Left, pass-over, pass-start, pass-on, pass-stop, pass-end}
 use Rattle.image_map_check.proofs.formed.sessions_fit.Statement.{statement}
 use Rattle.image_map_check.proofs.formed.sessions_fit.Tie as tie
 

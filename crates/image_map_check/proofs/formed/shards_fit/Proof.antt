@@ -13,7 +13,7 @@ use Rattle.map_tables.specs.View.{viewShard}
 use Rattle.image_map_row.specs.Rows.{shardAt}
 use Rattle.map_check.specs.Rows.{shardCounted}
 use Rattle.image_map.specs.Image.{noShard}
-use Rattle.image_map_check.proofs.OfRows.{Left, pass-over, pass-start, pass-on, pass-stop, pass-end}
+use Rattle.image_map_check.proofs.RowLaws.{Left, pass-over, pass-start, pass-on, pass-stop, pass-end}
 use Rattle.image_map_check.proofs.formed.shards_fit.Statement.{statement}
 use Rattle.image_map_check.proofs.formed.shards_fit.Tie as tie
 

@@ -5,8 +5,8 @@ use mathlib.Core.Path.{_≡_, refl, sym, _∙_, ap}
 use mathlib.Core.List.{List, [], _∷_, _++_}
 use Prim.Native.Nat.{ℕ, _+_, _-_, _*_, _≤_, _<_}
 use lib.ListN.{length, getD, take, drop, set}
-use Rattle.image_map.proofs.OfImage.{lent-short}
-use Rattle.image_map_check.proofs.OfRows.{listed-lent}
+use Rattle.image_map.proofs.Image.{lent-short}
+use Rattle.image_map_check.proofs.RowLaws.{listed-lent}
 use Rattle.image_map_check.proofs.lent.is_lent.Statement.{statement}
 use Rattle.image_map_check.proofs.lent.is_lent.Tie as tie
 

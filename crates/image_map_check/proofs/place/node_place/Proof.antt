@@ -17,7 +17,7 @@ use Rattle.map_tables.specs.Names.{viewKey, viewName}
 use Rattle.map_tables.specs.View.{viewNode}
 use Rattle.image_map_row.specs.Rows.{nodeAt}
 use Rattle.image_map.specs.Image.{noNode}
-use Rattle.image_map_check.proofs.OfRows.{Scan, led-stop, led-on, led-end, client-is, node-is, key-hit, name-hit, name-low, key-low}
+use Rattle.image_map_check.proofs.RowLaws.{Scan, led-stop, led-on, led-end, client-is, node-is, key-hit, name-hit, name-low, key-low}
 use Rattle.image_map_check.proofs.place.node_place.Statement.{statement}
 use Rattle.image_map_check.proofs.place.node_place.Tie as tie
 

@@ -13,7 +13,7 @@ use Rattle.map_tables.specs.Names.{viewKey}
 use Rattle.map_tables.specs.View.{viewSession}
 use Rattle.image_map_row.specs.Rows.{sessionAt}
 use Rattle.image_map.specs.Image.{noSession}
-use Rattle.image_map_check.proofs.OfRows.{Scan, led-stop, led-on, led-end, client-is, key-hit}
+use Rattle.image_map_check.proofs.RowLaws.{Scan, led-stop, led-on, led-end, client-is, key-hit}
 use Rattle.image_map_check.proofs.place.session_place.Statement.{statement}
 use Rattle.image_map_check.proofs.place.session_place.Tie as tie
 

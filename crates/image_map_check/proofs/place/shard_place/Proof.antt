@@ -13,7 +13,7 @@ use Rattle.map_tables.specs.Names.{viewKey}
 use Rattle.map_tables.specs.View.{viewShard}
 use Rattle.image_map_row.specs.Rows.{shardAt}
 use Rattle.image_map.specs.Image.{noShard}
-use Rattle.image_map_check.proofs.OfRows.{Scan, led-stop, led-on, led-end, client-is, key-hit}
+use Rattle.image_map_check.proofs.RowLaws.{Scan, led-stop, led-on, led-end, client-is, key-hit}
 use Rattle.image_map_check.proofs.place.shard_place.Statement.{statement}
 use Rattle.image_map_check.proofs.place.shard_place.Tie as tie
 

@@ -5,7 +5,7 @@ use mathlib.Core.Path.{_≡_, refl, sym, _∙_, ap}
 use mathlib.Core.List.{List, [], _∷_, _++_}
 use Prim.Native.Nat.{ℕ, _+_, _-_, _*_, _≤_, _<_}
 use lib.ListN.{length, getD, take, drop, set}
-use Rattle.image_map_check.proofs.OfRows.{collection-over, collection-first, collection-after, name-under}
+use Rattle.image_map_check.proofs.RowLaws.{collection-over, collection-first, collection-after, name-under}
 use Rattle.spec.specs.Keys.{nameBelow}
 use Rattle.map_tables.specs.Names.{viewName}
 use Rattle.map_tables.specs.declared.Name.{Name}

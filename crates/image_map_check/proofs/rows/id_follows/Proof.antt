@@ -10,7 +10,7 @@ use Rattle.spec.specs.Map.Change.{idBelow, holds}
 use Rattle.spec.specs.declared.DataNodeId.{DataNodeId}
 use Rattle.image_parts.specs.Parts.{replicasAt}
 use Rattle.image_parts.specs.Codes.{idOf}
-use Rattle.map_check.proofs.OfRows.{first-row, low-row, risen-row}
+use Rattle.map_check.proofs.Rows.{first-row, low-row, risen-row}
 use mathlib.Core.Bool.{Bool}
 use Rattle.image_map_check.proofs.rows.id_follows.Statement.{statement}
 use Rattle.image_map_check.proofs.rows.id_follows.Tie as tie

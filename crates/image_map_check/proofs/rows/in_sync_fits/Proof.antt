@@ -12,7 +12,7 @@ use Rattle.image_parts.specs.Codes.{idOf}
 use Rattle.image_parts.specs.Parts.{replicasAt, idsAt}
 use Rattle.image_map_row.specs.Rows.{shardAt}
 use Rattle.map_check.specs.Rows.{inSyncFits}
-use Rattle.image_map_check.proofs.OfSync.{Synced, synced-start, synced-stop, synced-on, synced-end}
+use Rattle.image_map_check.proofs.Sync.{Synced, synced-start, synced-stop, synced-on, synced-end}
 use Rattle.image_map_check.proofs.rows.in_sync_fits.Statement.{statement}
 use Rattle.image_map_check.proofs.rows.in_sync_fits.Tie as tie
 

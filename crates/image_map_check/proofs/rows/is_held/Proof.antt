@@ -11,7 +11,7 @@ use Rattle.spec.specs.Map.Change.{holds, isOn}
 use Rattle.spec.specs.declared.Replica.{Replica}
 use Rattle.image_parts.specs.Parts.{replicasAt, noReplica}
 use Rattle.map_tables.proofs.Tables.{any-on, any-stop, any-end}
-use Rattle.image_map_check.proofs.OfRows.{replicas-long, replica-row}
+use Rattle.image_map_check.proofs.RowLaws.{replicas-long, replica-row}
 use Rattle.image_map_check.proofs.rows.is_held.Statement.{statement}
 use Rattle.image_map_check.proofs.rows.is_held.Tie as tie
 

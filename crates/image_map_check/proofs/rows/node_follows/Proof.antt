@@ -5,7 +5,7 @@ use mathlib.Core.Path.{_≡_, refl, sym, _∙_, ap}
 use mathlib.Core.List.{List, [], _∷_, _++_}
 use Prim.Native.Nat.{ℕ, _+_, _-_, _*_, _≤_, _<_}
 use lib.ListN.{length, getD, take, drop, set}
-use Rattle.image_map_check.proofs.OfRows.{node-over, node-first, node-after}
+use Rattle.image_map_check.proofs.RowLaws.{node-over, node-first, node-after}
 use Rattle.spec.specs.Layout.Format.{numberAt}
 use Rattle.image_map_check.proofs.rows.node_follows.Statement.{statement}
 use Rattle.image_map_check.proofs.rows.node_follows.Tie as tie

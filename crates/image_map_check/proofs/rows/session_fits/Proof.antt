@@ -8,7 +8,7 @@ use lib.ListN.{length, getD, take, drop, set}
 use mathlib.Core.Bool.{Bool, true, false}
 use lib.Dec.{leb}
 use Rattle.spec.specs.Layout.Format.{numberAt}
-use Rattle.image_map_check.proofs.OfRows.{codeOk, session-code, code-none, code-is, code-sized}
+use Rattle.image_map_check.proofs.RowLaws.{codeOk, session-code, code-none, code-is, code-sized}
 use Rattle.image_map_check.proofs.rows.session_fits.Statement.{statement}
 use Rattle.image_map_check.proofs.rows.session_fits.Tie as tie
 

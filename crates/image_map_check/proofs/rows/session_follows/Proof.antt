@@ -6,7 +6,7 @@ use mathlib.Core.List.{List, [], _∷_, _++_}
 use Prim.Native.Nat.{ℕ, _+_, _-_, _*_, _≤_, _<_}
 use lib.ListN.{length, getD, take, drop, set}
 use borrow.Author.Tests.{not-true, not-false}
-use Rattle.image_map_check.proofs.OfRows.{session-wrong, session-first, session-after}
+use Rattle.image_map_check.proofs.RowLaws.{session-wrong, session-first, session-after}
 use Rattle.image_map_check.proofs.rows.session_follows.Statement.{statement}
 use Rattle.image_map_check.proofs.rows.session_follows.Tie as tie
 

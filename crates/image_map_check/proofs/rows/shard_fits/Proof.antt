@@ -6,8 +6,8 @@ use mathlib.Core.List.{List, [], _∷_, _++_}
 use Prim.Native.Nat.{ℕ, _+_, _-_, _*_, _≤_, _<_}
 use lib.ListN.{length, getD, take, drop, set}
 use Rattle.image_map_row.specs.Rows.{shardAt}
-use Rattle.map_check.proofs.OfRows.{long-name, many-holders, many-synced, within-counts}
-use Rattle.image_map_check.proofs.OfRows.{name-is, held-is, synced-is}
+use Rattle.map_check.proofs.Rows.{long-name, many-holders, many-synced, within-counts}
+use Rattle.image_map_check.proofs.RowLaws.{name-is, held-is, synced-is}
 use Rattle.image_map_check.proofs.rows.shard_fits.Statement.{statement}
 use Rattle.image_map_check.proofs.rows.shard_fits.Tie as tie
 

@@ -10,7 +10,7 @@ use Rattle.spec.specs.Keys.{keyBelow}
 use Rattle.map_tables.specs.Names.{viewKey}
 use Rattle.map_tables.specs.declared.ShardKey.{ShardKey}
 use Rattle.image_parts.specs.Parts.{keyAt}
-use Rattle.image_map_check.proofs.OfRows.{shard-wrong, shard-first, shard-after, key-under}
+use Rattle.image_map_check.proofs.RowLaws.{shard-wrong, shard-first, shard-after, key-under}
 use Rattle.image_map_check.proofs.rows.shard_follows.Statement.{statement}
 use Rattle.image_map_check.proofs.rows.shard_follows.Tie as tie
 

@@ -7,7 +7,7 @@ use Prim.Native.Nat.{ℕ, _+_, _-_, _*_, _≤_, _<_}
 use lib.ListN.{length, getD, take, drop, set}
 use mathlib.Core.Bool.{Bool, true, false}
 use Rattle.spec_count.specs.Counts.{repeats}
-use Rattle.image_map_count.proofs.OfIds.{twice-goes, twice-stops, twice-ends}
+use Rattle.image_map_count.proofs.Ids.{twice-goes, twice-stops, twice-ends}
 use Rattle.image_map_count.proofs.given.given_twice.Statement.{statement}
 use Rattle.image_map_count.proofs.given.given_twice.Tie as tie
 

@@ -10,7 +10,7 @@ use lib.Dec.{eqb}
 use borrow.Author.Tests.{eq-eqb, ne-eqb}
 use Rattle.spec.specs.Lists.{any}
 use Rattle.map_tables.proofs.Tables.{of-field}
-use Rattle.image_map_count.proofs.OfIds.{any-goes, any-stops, any-ends}
+use Rattle.image_map_count.proofs.Ids.{any-goes, any-stops, any-ends}
 use Rattle.image_map_count.proofs.given.stands_from.Statement.{statement}
 use Rattle.image_map_count.proofs.given.stands_from.Tie as tie
 

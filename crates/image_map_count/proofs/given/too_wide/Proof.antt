@@ -9,7 +9,7 @@ use mathlib.Core.Bool.{true, false}
 use Rattle.image_map_count.specs.Read.{viewIds, wideLent}
 use Rattle.map_tables.proofs.Tables.{of-field}
 use lib.Seq.{length-take-le}
-use Rattle.image_map_count.proofs.OfIds.{wide-lists, wide-nodes, wide-twice, lent-count, lent-few}
+use Rattle.image_map_count.proofs.Ids.{wide-lists, wide-nodes, wide-twice, lent-count, lent-few}
 use Rattle.image_map_count.proofs.given.too_wide.Statement.{statement}
 use Rattle.image_map_count.proofs.given.too_wide.Tie as tie
 

@@ -8,7 +8,7 @@ use lib.ListN.{length, getD, take, drop, set}
 use Prim.Native.Nat.{min}
 use Rattle.spec.specs.Limits.{maxU64}
 use Rattle.image_map_count.specs.Read.{SumAs}
-use Rattle.image_map_count.proofs.OfSums.{listed-some, fitted}
+use Rattle.image_map_count.proofs.SumLaws.{listed-some, fitted}
 use Rattle.image_map_count.proofs.six.fitting.Statement.{statement}
 use Rattle.image_map_count.proofs.six.fitting.Tie as tie
 

@@ -10,7 +10,7 @@ use mathlib.Core.Bool.{true, false}
 use Rattle.map_tables.specs.Names.{viewName}
 use Rattle.map_tables.specs.View.{viewMap, viewSpec, viewNodes}
 use Rattle.image_map_count.specs.Read.{viewIds}
-use Rattle.image_map_count.proofs.OfSix.{six-taken, six-zero, six-few, six-room, six-full, given-asks, alive-asks, fit-most, live-most}
+use Rattle.image_map_count.proofs.SixLaws.{six-taken, six-zero, six-few, six-room, six-full, given-asks, alive-asks, fit-most, live-most}
 use Rattle.image_map_count.proofs.six.six_of.Statement.{statement}
 use Rattle.image_map_count.proofs.six.six_of.Tie as tie
 

@@ -12,7 +12,7 @@ use native.Mathlib.Nat.{pow-zero}
 use borrow.Author.Tests.{not-true, not-false, le-leb, leb-true}
 use Rattle.spec.specs.Limits.{maxU64}
 use Rattle.spec_count.specs.Closed.{geometric}
-use Rattle.image_map_count.proofs.OfSums.{next-sum, next-last, sum-rises, summed-beyond, summed}
+use Rattle.image_map_count.proofs.SumLaws.{next-sum, next-last, sum-rises, summed-beyond, summed}
 use Rattle.image_map_count.proofs.sums.geometric.Statement.{statement}
 use Rattle.image_map_count.proofs.sums.geometric.Tie as tie
 

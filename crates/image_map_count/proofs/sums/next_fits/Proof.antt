@@ -5,7 +5,7 @@ use mathlib.Core.Path.{_≡_, refl, sym, _∙_, ap}
 use mathlib.Core.List.{List, [], _∷_, _++_}
 use Prim.Native.Nat.{ℕ, _+_, _-_, _*_, _≤_, _<_}
 use lib.ListN.{length, getD, take, drop, set}
-use Rattle.image_map_count.proofs.OfSums.{step-zero, step-fits}
+use Rattle.image_map_count.proofs.SumLaws.{step-zero, step-fits}
 use Rattle.image_map_count.proofs.sums.next_fits.Statement.{statement}
 use Rattle.image_map_count.proofs.sums.next_fits.Tie as tie
 

@@ -9,8 +9,8 @@ use Rattle.spec.specs.Map.Create.{nodeAt, isAlive}
 use Rattle.spec_count.specs.Closed.{aliveAmong}
 use Rattle.map_tables.specs.View.{viewMap}
 use Rattle.image_map.specs.Image.{mapAt}
-use Rattle.image_map_count.proofs.OfIds.{many-goes, many-adds, many-ends}
-use Rattle.image_map_count.proofs.OfTests.{nodes-few}
+use Rattle.image_map_count.proofs.Ids.{many-goes, many-adds, many-ends}
+use Rattle.image_map_count.proofs.TestLaws.{nodes-few}
 use Rattle.image_map_count.proofs.tests.alive_among.Statement.{statement}
 use Rattle.image_map_count.proofs.tests.alive_among.Tie as tie
 

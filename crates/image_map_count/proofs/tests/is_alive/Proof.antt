@@ -5,7 +5,7 @@ use mathlib.Core.Path.{_≡_, refl, sym, _∙_, ap}
 use mathlib.Core.List.{List, [], _∷_, _++_}
 use Prim.Native.Nat.{ℕ, _+_, _-_, _*_, _≤_, _<_}
 use lib.ListN.{length, getD, take, drop, set}
-use Rattle.image_map_count.proofs.OfTests.{unknown-dead, known-alive}
+use Rattle.image_map_count.proofs.TestLaws.{unknown-dead, known-alive}
 use Rattle.image_map_count.proofs.tests.is_alive.Statement.{statement}
 use Rattle.image_map_count.proofs.tests.is_alive.Tie as tie
 

@@ -6,7 +6,7 @@ use mathlib.Core.List.{List, [], _∷_, _++_}
 use Prim.Native.Nat.{ℕ, _+_, _-_, _*_, _≤_, _<_}
 use lib.ListN.{length, getD, take, drop, set}
 use Rattle.map_tables.specs.Names.{viewName}
-use Rattle.image_map_count.proofs.OfTests.{collections-few, name-taken}
+use Rattle.image_map_count.proofs.TestLaws.{collections-few, name-taken}
 use Rattle.image_map_count.proofs.tests.is_taken.Statement.{statement}
 use Rattle.image_map_count.proofs.tests.is_taken.Tie as tie
 

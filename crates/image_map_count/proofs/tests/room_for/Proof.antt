@@ -8,8 +8,8 @@ use lib.ListN.{length, getD, take, drop, set}
 use Rattle.map_tables.specs.Names.{viewName}
 use Rattle.map_tables.specs.View.{viewMap}
 use Rattle.image_map.specs.Image.{mapAt}
-use Rattle.image_map_count.proofs.OfRoom.{newFrom, keyOf, no-collection-left, room-left, key-counts, key-stands, keys-start, keys-end}
-use Rattle.image_map_count.proofs.OfTests.{shards-few, collections-many, shards-many, shards-rise, shard-there, shard-new}
+use Rattle.image_map_count.proofs.Room.{newFrom, keyOf, no-collection-left, room-left, key-counts, key-stands, keys-start, keys-end}
+use Rattle.image_map_count.proofs.TestLaws.{shards-few, collections-many, shards-many, shards-rise, shard-there, shard-new}
 use Rattle.image_map_count.proofs.tests.room_for.Statement.{statement}
 use Rattle.image_map_count.proofs.tests.room_for.Tie as tie
 

@@ -12,9 +12,9 @@ use mathlib.Core.Option.{none}
 use Rattle.map_tables.specs.Names.{viewName}
 use Rattle.map_tables.specs.View.{viewSpec, viewList, viewPlacement}
 use Rattle.map_tables.proofs.Tables.{used-size, of-field}
-use Rattle.map_create.proofs.OfCreate.{walked-some, walked-none, other-count, other-lists, all-match, exists-answer, zero-answer, mismatch-answer, dead-answer, full-answer, room-answer}
+use Rattle.map_create.proofs.Create.{walked-some, walked-none, other-count, other-lists, all-match, exists-answer, zero-answer, mismatch-answer, dead-answer, full-answer, room-answer}
 use Rattle.image_map_put.specs.Rows.{readAs}
-use Rattle.image_map_drop.proofs.OfDrop.{has-it, has-not}
+use Rattle.image_map_drop.proofs.Drop.{has-it, has-not}
 use Rattle.image_map_create.proofs.answer.create_answer.Statement.{statement}
 use Rattle.image_map_create.proofs.answer.create_answer.Tie as tie
 

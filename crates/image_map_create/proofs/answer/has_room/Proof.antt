@@ -6,7 +6,7 @@ use mathlib.Core.List.{List, [], _∷_, _++_}
 use Prim.Native.Nat.{ℕ, _+_, _-_, _*_, _≤_, _<_}
 use lib.ListN.{length, getD, take, drop, set}
 use Rattle.map_tables.specs.Names.{viewName}
-use Rattle.image_map_create.proofs.OfRoom.{room-none, room-is}
+use Rattle.image_map_create.proofs.RoomLaws.{room-none, room-is}
 use Rattle.image_map_create.proofs.answer.has_room.Statement.{statement}
 use Rattle.image_map_create.proofs.answer.has_room.Tie as tie
 

@@ -14,9 +14,9 @@ use Rattle.spec.specs.declared.DataNodeId.{DataNodeId}
 use Rattle.map_tables.specs.View.{viewList, viewPlacement}
 use Rattle.map_create.specs.Walk.{walkedOf}
 use Rattle.map_tables.proofs.Defaults.{noList, noId}
-use Rattle.image_map_create.proofs.OfLists.{ends}
-use Rattle.map_create.proofs.OfWalk.{open-list, no-list, node-on, node-stop, nodes-end}
-use Rattle.map_create.proofs.OfList.{list-row}
+use Rattle.image_map_create.proofs.ListLaws.{ends}
+use Rattle.map_create.proofs.Walk.{open-list, no-list, node-on, node-stop, nodes-end}
+use Rattle.map_create.proofs.List.{list-row}
 use Rattle.map_tables.proofs.Tables.{used-size, used-row, of-field}
 use Rattle.image_map_create.proofs.lists.walk.Statement.{statement}
 use Rattle.image_map_create.proofs.lists.walk.Tie as tie

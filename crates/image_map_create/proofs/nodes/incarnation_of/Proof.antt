@@ -5,7 +5,7 @@ use mathlib.Core.Path.{_≡_, refl, sym, _∙_, ap}
 use mathlib.Core.List.{List, [], _∷_, _++_}
 use Prim.Native.Nat.{ℕ, _+_, _-_, _*_, _≤_, _<_}
 use lib.ListN.{length, getD, take, drop, set}
-use Rattle.image_map_create.proofs.OfNodes.{incarnation-none, incarnation-some}
+use Rattle.image_map_create.proofs.NodeLaws.{incarnation-none, incarnation-some}
 use Rattle.image_map_create.proofs.nodes.incarnation_of.Statement.{statement}
 use Rattle.image_map_create.proofs.nodes.incarnation_of.Tie as tie
 

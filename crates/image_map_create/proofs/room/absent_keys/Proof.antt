@@ -9,7 +9,7 @@ use Rattle.spec.specs.Layout.Format.{numberAt}
 use Rattle.map_tables.specs.Names.{viewName}
 use Rattle.image_map_put.specs.Rows.{readAs}
 use Rattle.image_map_create.specs.Absent.{absent}
-use Rattle.image_map_create.proofs.OfRoom.{absent-start, absent-there, absent-free, absent-end, key-absent, key-there}
+use Rattle.image_map_create.proofs.RoomLaws.{absent-start, absent-there, absent-free, absent-end, key-absent, key-there}
 use Rattle.image_map_create.proofs.room.absent_keys.Statement.{statement}
 use Rattle.image_map_create.proofs.room.absent_keys.Tie as tie
 

@@ -12,7 +12,7 @@ use Rattle.spec.specs.declared.DataNodeId.{DataNodeId}
 use Rattle.spec.specs.declared.Replica.{Replica}
 use Rattle.map_tables.specs.View.{viewList, viewHolders}
 use Rattle.map_tables.proofs.Defaults.{noId}
-use Rattle.map_create.proofs.OfList.{list-row, more-holders}
+use Rattle.map_create.proofs.List.{list-row, more-holders}
 use Rattle.image_map_put.specs.Rows.{readAs}
 use Rattle.image_map_create.proofs.shards.listed_holders.Statement.{statement}
 use Rattle.image_map_create.proofs.shards.listed_holders.Tie as tie

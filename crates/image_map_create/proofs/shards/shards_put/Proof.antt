@@ -9,7 +9,7 @@ use Rattle.map_tables.specs.Names.{viewName}
 use Rattle.map_tables.specs.View.{viewList, viewPlacement, viewShard}
 use Rattle.map_tables.proofs.Defaults.{noList}
 use Rattle.map_tables.proofs.Tables.{used-size, used-row, of-field}
-use Rattle.image_map_create.proofs.OfGrown.{Grown, grown-start, grown-room, grown-step, grown-end}
+use Rattle.image_map_create.proofs.Grown.{Grown, grown-start, grown-room, grown-step, grown-end}
 use Rattle.image_map_create.proofs.shards.shards_put.Statement.{statement}
 use Rattle.image_map_create.proofs.shards.shards_put.Tie as tie
 

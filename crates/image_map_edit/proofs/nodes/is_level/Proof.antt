@@ -10,9 +10,9 @@ use borrow.Author.Tests.{lt-ltb, le-ltb}
 use Rattle.spec.specs.Layout.Format.{numberAt}
 use Rattle.map_tables.specs.View.{viewNode}
 use Rattle.image_map_row.specs.Rows.{nodeAt}
-use Rattle.image_map_check.proofs.OfRows.{node-is}
+use Rattle.image_map_check.proofs.RowLaws.{node-is}
 use mathlib.Core.Bool.{true, false}
-use Rattle.image_map_edit.proofs.OfTables.{level-past, level-is}
+use Rattle.image_map_edit.proofs.Tables.{level-past, level-is}
 use Rattle.image_map_edit.proofs.nodes.is_level.Statement.{statement}
 use Rattle.image_map_edit.proofs.nodes.is_level.Tie as tie
 

@@ -8,9 +8,9 @@ use lib.ListN.{length, getD, take, drop, set}
 use lib.Dec.{ltb}
 use Rattle.map_tables.specs.View.{viewNode}
 use Rattle.image_map_row.specs.Rows.{nodeAt}
-use Rattle.image_map_edit.proofs.OfTypes.{node-good}
-use Rattle.image_map_edit.proofs.OfTables.{level-there, level-not}
-use Rattle.image_map_edit.proofs.OfNodes.{node-within, node-over, node-room, node-in}
+use Rattle.image_map_edit.proofs.Types.{node-good}
+use Rattle.image_map_edit.proofs.Tables.{level-there, level-not}
+use Rattle.image_map_edit.proofs.NodeLaws.{node-within, node-over, node-room, node-in}
 use Rattle.image_map_edit.proofs.nodes.node_put.Statement.{statement}
 use Rattle.image_map_edit.proofs.nodes.node_put.Tie as tie
 

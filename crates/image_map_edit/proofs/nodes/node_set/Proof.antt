@@ -5,8 +5,8 @@ use mathlib.Core.Path.{_≡_, refl, sym, _∙_, ap}
 use mathlib.Core.List.{List, [], _∷_, _++_}
 use Prim.Native.Nat.{ℕ, _+_, _-_, _*_, _≤_, _<_}
 use lib.ListN.{length, getD, take, drop, set}
-use Rattle.image_map_edit.proofs.OfTypes.{node-good}
-use Rattle.image_map_edit.proofs.OfNodes.{node-set-at}
+use Rattle.image_map_edit.proofs.Types.{node-good}
+use Rattle.image_map_edit.proofs.NodeLaws.{node-set-at}
 use Rattle.image_map_edit.proofs.nodes.node_set.Statement.{statement}
 use Rattle.image_map_edit.proofs.nodes.node_set.Tie as tie
 

@@ -10,9 +10,9 @@ use borrow.Author.Tests.{lt-ltb, le-ltb}
 use Rattle.spec.specs.Layout.Format.{numberAt}
 use Rattle.map_tables.specs.View.{viewSession}
 use Rattle.image_map_row.specs.Rows.{sessionAt}
-use Rattle.image_map_check.proofs.OfRows.{client-is}
+use Rattle.image_map_check.proofs.RowLaws.{client-is}
 use mathlib.Core.Bool.{true, false}
-use Rattle.image_map_edit.proofs.OfTables.{level-past, level-is}
+use Rattle.image_map_edit.proofs.Tables.{level-past, level-is}
 use Rattle.image_map_edit.proofs.sessions.is_level.Statement.{statement}
 use Rattle.image_map_edit.proofs.sessions.is_level.Tie as tie
 

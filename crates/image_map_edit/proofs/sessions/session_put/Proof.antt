@@ -8,8 +8,8 @@ use lib.ListN.{length, getD, take, drop, set}
 use lib.Dec.{ltb}
 use Rattle.map_tables.specs.View.{viewSession}
 use Rattle.image_map_row.specs.Rows.{sessionAt}
-use Rattle.image_map_edit.proofs.OfTypes.{session-good}
-use Rattle.image_map_edit.proofs.OfTables.{level-there, level-not, session-within, session-over, session-room, session-in}
+use Rattle.image_map_edit.proofs.Types.{session-good}
+use Rattle.image_map_edit.proofs.Tables.{level-there, level-not, session-within, session-over, session-room, session-in}
 use Rattle.image_map_edit.proofs.sessions.session_put.Statement.{statement}
 use Rattle.image_map_edit.proofs.sessions.session_put.Tie as tie
 

@@ -5,8 +5,8 @@ use mathlib.Core.Path.{_≡_, refl, sym, _∙_, ap}
 use mathlib.Core.List.{List, [], _∷_, _++_}
 use Prim.Native.Nat.{ℕ, _+_, _-_, _*_, _≤_, _<_}
 use lib.ListN.{length, getD, take, drop, set}
-use Rattle.image_map_edit.proofs.OfTypes.{shard-good}
-use Rattle.image_map_edit.proofs.OfTables.{shard-over}
+use Rattle.image_map_edit.proofs.Types.{shard-good}
+use Rattle.image_map_edit.proofs.Tables.{shard-over}
 use Rattle.image_map_edit.proofs.shards.shard_set.Statement.{statement}
 use Rattle.image_map_edit.proofs.shards.shard_set.Tie as tie
 

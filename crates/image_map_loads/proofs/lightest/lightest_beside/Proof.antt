@@ -9,7 +9,7 @@ use mathlib.Core.Option.{none}
 use Rattle.spec.specs.Layout.Format.{numberAt}
 use Rattle.image_parts.specs.Parts.{replicasAt}
 use Rattle.map_place.specs.Read.{bestOf}
-use Rattle.image_map_loads.proofs.OfLoads.{Held, held-take, held-skip, held-end, load-is}
+use Rattle.image_map_loads.proofs.Loads.{Held, held-take, held-skip, held-end, load-is}
 use Rattle.image_map_loads.proofs.lightest.lightest_beside.Statement.{statement}
 use Rattle.image_map_loads.proofs.lightest.lightest_beside.Tie as tie
 

@@ -12,7 +12,7 @@ use Rattle.spec.specs.Lists.{_and_}
 use Rattle.spec.specs.Map.Place.{onNode}
 use Rattle.spec.specs.Map.Change.{holds}
 use Rattle.image_parts.specs.Parts.{replicasAt}
-use Rattle.image_map_loads.proofs.OfLoads.{none-held, node-id}
+use Rattle.image_map_loads.proofs.Loads.{none-held, node-id}
 use Rattle.image_map_loads.proofs.lightest.may_take.Statement.{statement}
 use Rattle.image_map_loads.proofs.lightest.may_take.Tie as tie
 

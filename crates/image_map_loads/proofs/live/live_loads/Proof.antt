@@ -6,7 +6,7 @@ use mathlib.Core.List.{List, [], _∷_, _++_}
 use Prim.Native.Nat.{ℕ, _+_, _-_, _*_, _≤_, _<_}
 use lib.ListN.{length, getD, take, drop, set}
 use Rattle.spec.specs.Layout.Format.{numberAt}
-use Rattle.image_map_loads.proofs.OfLoads.{Filled, filled-start, filled-take, filled-skip, filled-end, load-is}
+use Rattle.image_map_loads.proofs.Loads.{Filled, filled-start, filled-take, filled-skip, filled-end, load-is}
 use Rattle.image_map_loads.proofs.live.live_loads.Statement.{statement}
 use Rattle.image_map_loads.proofs.live.live_loads.Tie as tie
 

@@ -9,8 +9,8 @@ use Rattle.spec.specs.Layout.Format.{numberAt}
 use Rattle.spec.specs.Map.Place.{replicasOf}
 use Rattle.map_tables.specs.View.{viewShards}
 use Rattle.image_map.specs.Image.{shardsAt}
-use Rattle.image_map_loads.proofs.OfRows.{held-few}
-use Rattle.image_map_loads.proofs.OfLoads.{shard-more, shards-all}
+use Rattle.image_map_loads.proofs.Rows.{held-few}
+use Rattle.image_map_loads.proofs.Loads.{shard-more, shards-all}
 use Rattle.image_map_loads.proofs.replicas.replicas_of.Statement.{statement}
 use Rattle.image_map_loads.proofs.replicas.replicas_of.Tie as tie
 

@@ -8,7 +8,7 @@ use lib.ListN.{length, getD, take, drop, set}
 use borrow.Author.Tests.{eq-eqb, ne-eqb}
 use Rattle.spec.specs.Map.Place.{onNode}
 use Rattle.image_parts.specs.Parts.{replicasAt, noReplica}
-use Rattle.image_map_check.proofs.OfRows.{replicas-long, replica-row}
+use Rattle.image_map_check.proofs.RowLaws.{replicas-long, replica-row}
 use Rattle.map_place.proofs.Weighing.{count-on, count-past, count-end}
 use Rattle.image_map_loads.proofs.replicas.replicas_on.Statement.{statement}
 use Rattle.image_map_loads.proofs.replicas.replicas_on.Tie as tie

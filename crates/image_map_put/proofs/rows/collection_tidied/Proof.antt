@@ -10,7 +10,7 @@ use Rattle.map_tables.specs.declared.CollectionRow.{CollectionRow}
 use Rattle.image_parts.specs.Shape.{Stored}
 use Rattle.image_map_row.specs.Rows.{collectionBytes}
 use Rattle.image_map_form.specs.Canon.{imageCollection}
-use Rattle.image_map_put.proofs.OfTidy.{stored-row}
+use Rattle.image_map_put.proofs.Tidy.{stored-row}
 use Rattle.image_map_put.proofs.rows.collection_tidied.Statement.{statement}
 use Rattle.image_map_put.proofs.rows.collection_tidied.Tie as tie
 

@@ -10,7 +10,7 @@ use Rattle.map_tables.specs.declared.NodeRow.{NodeRow}
 use Rattle.image_parts.specs.Shape.{Stored}
 use Rattle.image_map_row.specs.Rows.{nodeBytes}
 use Rattle.image_map_form.specs.Canon.{imageNode}
-use Rattle.image_map_put.proofs.OfTidy.{stored-row}
+use Rattle.image_map_put.proofs.Tidy.{stored-row}
 use Rattle.image_map_put.proofs.rows.node_tidied.Statement.{statement}
 use Rattle.image_map_put.proofs.rows.node_tidied.Tie as tie
 

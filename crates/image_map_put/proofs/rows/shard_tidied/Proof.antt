@@ -10,7 +10,7 @@ use Rattle.map_tables.specs.declared.ShardRow.{ShardRow}
 use Rattle.image_parts.specs.Shape.{Stored}
 use Rattle.image_map_row.specs.Rows.{shardBytes}
 use Rattle.image_map_form.specs.Canon.{imageShard}
-use Rattle.image_map_put.proofs.OfTidy.{stored-row}
+use Rattle.image_map_put.proofs.Tidy.{stored-row}
 use Rattle.image_map_put.proofs.rows.shard_tidied.Statement.{statement}
 use Rattle.image_map_put.proofs.rows.shard_tidied.Tie as tie
 

@@ -10,7 +10,7 @@ use Rattle.spec.specs.Layout.Format.{numberAt}
 use Rattle.map_tables.specs.View.{viewNode}
 use Rattle.image_map_row.specs.Rows.{nodeAt}
 use Rattle.image_map.specs.Image.{noNode, nodesAt}
-use Rattle.image_map_check.proofs.OfRows.{rows-long}
+use Rattle.image_map_check.proofs.RowLaws.{rows-long}
 use Rattle.image_map_sheet.proofs.Counting.{known-as}
 use lib.Dec.{ltb}
 use Rattle.image_map_sheet.proofs.holders.is_known.Statement.{statement}

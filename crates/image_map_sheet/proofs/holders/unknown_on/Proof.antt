@@ -12,7 +12,7 @@ use Rattle.spec_sheet.specs.Sheet.{isUnknown, unknownOn}
 use Rattle.map_tables.specs.View.{viewNodes}
 use Rattle.image_parts.specs.Parts.{replicasAt, noReplica}
 use Rattle.image_map.specs.Image.{nodesAt}
-use Rattle.image_map_check.proofs.OfRows.{replicas-long, replica-row}
+use Rattle.image_map_check.proofs.RowLaws.{replicas-long, replica-row}
 use Rattle.image_map_sheet.proofs.Counting.{count-on, count-past, count-end}
 use Rattle.image_map_sheet.proofs.holders.unknown_on.Statement.{statement}
 use Rattle.image_map_sheet.proofs.holders.unknown_on.Tie as tie

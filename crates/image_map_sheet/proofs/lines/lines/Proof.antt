@@ -16,7 +16,7 @@ use Rattle.map_tables.specs.declared.NodeRow.{NodeRow}
 use Rattle.map_tables.proofs.Tables.{used-size}
 use Rattle.image_map_row.specs.Rows.{nodeAt}
 use Rattle.image_map.specs.Image.{noNode, nodesAt, shardsAt}
-use Rattle.image_map_check.proofs.OfRows.{rows-long, rows-row, node-is}
+use Rattle.image_map_check.proofs.RowLaws.{rows-long, rows-row, node-is}
 use Rattle.image_map_sheet.specs.Answers.{viewLoad}
 use Rattle.image_map_sheet.proofs.Counting.{line-next}
 use Rattle.image_map_sheet.proofs.lines.lines.Statement.{statement}

@@ -10,7 +10,7 @@ use Rattle.spec.specs.declared.Replica.{Replica}
 use Rattle.spec_sheet.specs.Sheet.{recordsIn}
 use Rattle.map_tables.specs.View.{viewShards}
 use Rattle.image_map.specs.Image.{shardsAt}
-use Rattle.image_map_sheet.proofs.OfShards.{shard-more, shards-all, held-long}
+use Rattle.image_map_sheet.proofs.ShardLaws.{shard-more, shards-all, held-long}
 use Rattle.image_map_sheet.proofs.shards.records_in.Statement.{statement}
 use Rattle.image_map_sheet.proofs.shards.records_in.Tie as tie
 

@@ -9,8 +9,8 @@ use Rattle.spec.specs.Layout.Format.{numberAt}
 use Rattle.spec_sheet.specs.Sheet.{unknownOn, unknownIn}
 use Rattle.map_tables.specs.View.{viewNodes, viewShards}
 use Rattle.image_map.specs.Image.{nodesAt, shardsAt}
-use Rattle.image_map_loads.proofs.OfRows.{held-few}
-use Rattle.image_map_sheet.proofs.OfShards.{shard-more, shards-all}
+use Rattle.image_map_loads.proofs.Rows.{held-few}
+use Rattle.image_map_sheet.proofs.ShardLaws.{shard-more, shards-all}
 use Rattle.image_map_sheet.proofs.shards.unknown_in.Statement.{statement}
 use Rattle.image_map_sheet.proofs.shards.unknown_in.Tie as tie
 

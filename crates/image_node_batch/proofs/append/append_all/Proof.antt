@@ -13,8 +13,8 @@ use Rattle.spec.specs.Node.Wire.{entryInDomain, storedEntry}
 use Rattle.wire_read.specs.Shown.{part}
 use Rattle.log_domain.specs.Parts.{entriesIn, EntriesThere}
 use Rattle.log_domain.proofs.InMessage.{entries-start, entries-all, entries-first, entry-op, entries-rest, domain-first, domain-rest}
-use Rattle.image_node_batch.proofs.OfGrown.{at-most}
-use Rattle.image_node_batch.proofs.OfBatch.{Going, begun-in, gone-in, free-in, turn-in}
+use Rattle.image_node_batch.proofs.Grown.{at-most}
+use Rattle.image_node_batch.proofs.Batch.{Going, begun-in, gone-in, free-in, turn-in}
 use Rattle.image_node_batch.proofs.append.append_all.Statement.{statement}
 use Rattle.image_node_batch.proofs.append.append_all.Tie as tie
 

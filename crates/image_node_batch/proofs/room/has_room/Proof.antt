@@ -5,7 +5,7 @@ use mathlib.Core.Path.{_≡_, refl, sym, _∙_, ap}
 use mathlib.Core.List.{List, [], _∷_, _++_}
 use Prim.Native.Nat.{ℕ, _+_, _-_, _*_, _≤_, _<_}
 use lib.ListN.{length, getD, take, drop, set}
-use Rattle.image_node_batch.proofs.OfRoom.{room-free, room-grown}
+use Rattle.image_node_batch.proofs.RoomLaws.{room-free, room-grown}
 use Rattle.image_node_batch.proofs.room.has_room.Statement.{statement}
 use Rattle.image_node_batch.proofs.room.has_room.Tie as tie
 

@@ -1,6 +1,6 @@
 -- `codes::metric_of` meets its contract. Assumes nothing.
 use mathlib.Core.Path.{refl}
-use Rattle.image_parts.proofs.OfCodes.{angular}
+use Rattle.image_parts.proofs.CodeLaws.{angular}
 use Rattle.image_parts.proofs.codes.metric_of.Statement.{statement}
 use Rattle.image_parts.proofs.codes.metric_of.Tie as tie
 

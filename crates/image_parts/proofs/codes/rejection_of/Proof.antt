@@ -1,7 +1,7 @@
 -- `codes::rejection_of` meets its contract. Assumes nothing.
 use mathlib.Core.Path.{refl}
 use Rattle.image_parts.specs.Codes.{rejectionOf}
-use Rattle.image_parts.proofs.OfCodes.{unlisted}
+use Rattle.image_parts.proofs.CodeLaws.{unlisted}
 use Rattle.image_parts.proofs.codes.rejection_of.Statement.{statement}
 use Rattle.image_parts.proofs.codes.rejection_of.Tie as tie
 

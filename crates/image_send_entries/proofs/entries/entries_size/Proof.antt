@@ -8,7 +8,7 @@ use lib.ListN.{length, getD, take, drop, set}
 use native.Mathlib.Nat.{zero-add}
 use Rattle.wire_write.specs.Rows.{rowsSize}
 use Rattle.image_store.specs.Read.{codesIn, lengthsIn}
-use Rattle.image_send_entries.proofs.OfStore.{size-next}
+use Rattle.image_send_entries.proofs.Store.{size-next}
 use Rattle.image_send_entries.proofs.entries.entries_size.Statement.{statement}
 use Rattle.image_send_entries.proofs.entries.entries_size.Tie as tie
 

@@ -9,9 +9,9 @@ use lib.Seq.{sets}
 use Rattle.wire_write.specs.Rows.{rowsSize}
 use Rattle.image_store.specs.Read.{codesIn, lengthsIn}
 use Rattle.node_send_entries.specs.Sent.{entriesAt, entriesSent}
-use Rattle.node_send_entries.proofs.OfEntries.{sent-step}
+use Rattle.node_send_entries.proofs.EntriesLaws.{sent-step}
 use Rattle.image_send_entries.specs.Store.{storeColumns}
-use Rattle.image_send_entries.proofs.OfStore.{size-is, size-next}
+use Rattle.image_send_entries.proofs.Store.{size-is, size-next}
 use Rattle.image_send_entries.proofs.entries.put_entries.Statement.{statement}
 use Rattle.image_send_entries.proofs.entries.put_entries.Tie as tie
 

@@ -9,7 +9,7 @@ use lib.Seq.{sets}
 use mathlib.Core.Bool.{true}
 use Rattle.wire_write.specs.Written.{opBytes}
 use Rattle.image_store.specs.Image.{words}
-use Rattle.image_send_entries.proofs.OfStore.{few, short, op-set-sent, op-drop-sent, upsert-room, delete-room}
+use Rattle.image_send_entries.proofs.Store.{few, short, op-set-sent, op-drop-sent, upsert-room, delete-room}
 use Rattle.image_send_entries.proofs.entries.put_op.Statement.{statement}
 use Rattle.image_send_entries.proofs.entries.put_op.Tie as tie
 

@@ -5,7 +5,7 @@ use mathlib.Core.Path.{_≡_, refl, sym, _∙_, ap}
 use mathlib.Core.List.{List, [], _∷_, _++_}
 use Prim.Native.Nat.{ℕ, _+_, _-_, _*_, _≤_, _<_}
 use lib.ListN.{length, getD, take, drop, set}
-use Rattle.image_send_entries.proofs.OfRuns.{pairsFrom, pairs-none, pairs-same, pairs-next}
+use Rattle.image_send_entries.proofs.Runs.{pairsFrom, pairs-none, pairs-same, pairs-next}
 use Rattle.image_send_entries.proofs.table.pairs_of.Statement.{statement}
 use Rattle.image_send_entries.proofs.table.pairs_of.Tie as tie
 

@@ -9,7 +9,7 @@ use lib.Seq.{sets}
 use Rattle.image_store.specs.Image.{entryAt}
 use Rattle.image_send_entries.specs.Store.{pairsBytes}
 use Rattle.spec.specs.Log.{End}
-use Rattle.image_send_entries.proofs.OfRuns.{pairsFrom, pairs-none, pairs-same, pairs-next, pair-at}
+use Rattle.image_send_entries.proofs.Runs.{pairsFrom, pairs-none, pairs-same, pairs-next, pair-at}
 use Rattle.image_send_entries.proofs.table.put_pairs.Statement.{statement}
 use Rattle.image_send_entries.proofs.table.put_pairs.Tie as tie
 

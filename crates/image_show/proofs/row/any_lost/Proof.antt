@@ -8,7 +8,7 @@ use lib.ListN.{length, getD, take, drop, set}
 use Rattle.spec.specs.Lists.{any}
 use Rattle.node_shard.proofs.Loops.{any-on, any-stop, any-end}
 use Rattle.image_header_row.specs.Rows.{noPeer, peersAt}
-use Rattle.image_header_check.proofs.OfRows.{peers-long, peer-row}
+use Rattle.image_header_check.proofs.Rows.{peers-long, peer-row}
 use Rattle.image_show.specs.Quiet.{lost}
 use Rattle.image_show.proofs.row.any_lost.Statement.{statement}
 use Rattle.image_show.proofs.row.any_lost.Tie as tie

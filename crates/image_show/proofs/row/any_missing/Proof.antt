@@ -9,10 +9,10 @@ use mathlib.Core.Bool.{true, false}
 use Rattle.spec.specs.Node.Shown.{withRows}
 use Rattle.spec.specs.declared.Replica.{Replica}
 use Rattle.spec_laws.proofs.Lists.{not-both}
-use Rattle.node_show_shard.proofs.OfGrow.{grow-end, grow-me, grow-has}
+use Rattle.node_show_shard.proofs.Grow.{grow-end, grow-me, grow-has}
 use Rattle.image_header_row.specs.Rows.{peersAt}
-use Rattle.image_header_check.proofs.OfRows.{peers-long}
-use Rattle.image_show.proofs.OfRow.{noCopy}
+use Rattle.image_header_check.proofs.Rows.{peers-long}
+use Rattle.image_show.proofs.RowLaws.{noCopy}
 use Rattle.image_show.proofs.row.any_missing.Statement.{statement}
 use Rattle.image_show.proofs.row.any_missing.Tie as tie
 

@@ -7,7 +7,7 @@ use Prim.Native.Nat.{ℕ, _+_, _-_, _*_, _≤_, _<_}
 use lib.ListN.{length, getD, take, drop, set}
 use mathlib.Core.Bool.{true, false}
 use Rattle.spec_laws.proofs.Lists.{not-both}
-use Rattle.image_show.proofs.OfRow.{holds-made}
+use Rattle.image_show.proofs.RowLaws.{holds-made}
 use Rattle.image_show.proofs.row.holds_as.Statement.{statement}
 use Rattle.image_show.proofs.row.holds_as.Tie as tie
 

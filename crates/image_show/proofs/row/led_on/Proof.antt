@@ -8,7 +8,7 @@ use lib.ListN.{length, getD, take, drop, set}
 use mathlib.Core.Bool.{true, false}
 use borrow.Author.Tests.{not-true}
 use Rattle.spec_laws.proofs.Lists.{not-both}
-use Rattle.image_show.proofs.OfRow.{led-made}
+use Rattle.image_show.proofs.RowLaws.{led-made}
 use Rattle.image_show.proofs.row.led_on.Statement.{statement}
 use Rattle.image_show.proofs.row.led_on.Tie as tie
 

@@ -8,9 +8,9 @@ use lib.ListN.{length, getD, take, drop, set}
 use mathlib.Core.Bool.{true, false}
 use borrow.Author.Tests.{eqb-true, not-true, not-false}
 use Rattle.spec_laws.proofs.Lists.{not-both}
-use Rattle.image_header_check.proofs.OfRows.{count-is}
+use Rattle.image_header_check.proofs.Rows.{count-is}
 use Rattle.image_parts.specs.Codes.{flagOf}
-use Rattle.image_header_form.proofs.OfFront.{role-is, own-is}
+use Rattle.image_header_form.proofs.FrontLaws.{role-is, own-is}
 use Rattle.image_show.proofs.row.left_on.Statement.{statement}
 use Rattle.image_show.proofs.row.left_on.Tie as tie
 

@@ -10,7 +10,7 @@ use borrow.Author.Tests.{eqb-true, not-true, not-false}
 use lib.Dec.{eqb}
 use Rattle.spec.specs.Lists.{_and_}
 use Rattle.spec_laws.proofs.Lists.{not-both, and-left, and-right}
-use Rattle.image_show.proofs.OfRow.{noCopy, copies-on}
+use Rattle.image_show.proofs.RowLaws.{noCopy, copies-on}
 use Rattle.image_show.proofs.row.same_replicas.Statement.{statement}
 use Rattle.image_show.proofs.row.same_replicas.Tie as tie
 

@@ -6,7 +6,7 @@ use mathlib.Core.List.{List, [], _∷_, _++_}
 use Prim.Native.Nat.{ℕ, _+_, _-_, _*_, _≤_, _<_}
 use lib.ListN.{length, getD, take, drop, set}
 use Rattle.image_store_append.specs.Put.{deleteAt}
-use Rattle.image_store_append.proofs.OfEntries.{delete-fits, stored-few, keys-rise-on, grown, as-delete}
+use Rattle.image_store_append.proofs.EntryLaws.{delete-fits, stored-few, keys-rise-on, grown, as-delete}
 use Rattle.image_store_append.proofs.entries.append_delete.Statement.{statement}
 use Rattle.image_store_append.proofs.entries.append_delete.Tie as tie
 

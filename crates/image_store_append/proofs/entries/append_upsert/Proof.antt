@@ -8,7 +8,7 @@ use lib.ListN.{length, getD, take, drop, set}
 use Rattle.spec.specs.Node.Wire.{floatsOf}
 use Rattle.image_store.specs.Image.{words}
 use Rattle.image_store_append.specs.Put.{upsertAt}
-use Rattle.image_store_append.proofs.OfEntries.{upsert-fits, stored-few, keys-rise-on, grown, as-upsert}
+use Rattle.image_store_append.proofs.EntryLaws.{upsert-fits, stored-few, keys-rise-on, grown, as-upsert}
 use Rattle.image_store_append.proofs.entries.append_upsert.Statement.{statement}
 use Rattle.image_store_append.proofs.entries.append_upsert.Tie as tie
 

@@ -9,7 +9,7 @@ use native.Mathlib.Nat.{add-zero}
 use lib.Seq.{sets}
 use Rattle.spec.specs.Layout.Format.{bytesOf, concatMap}
 use Rattle.image_store.specs.Image.{words}
-use Rattle.image_store_append.proofs.OfEntries.{patterns-step, patterns-end}
+use Rattle.image_store_append.proofs.EntryLaws.{patterns-step, patterns-end}
 use Rattle.image_store_append.proofs.entries.put_patterns.Statement.{statement}
 use Rattle.image_store_append.proofs.entries.put_patterns.Tie as tie
 

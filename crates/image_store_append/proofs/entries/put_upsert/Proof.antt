@@ -5,7 +5,7 @@ use mathlib.Core.Path.{_≡_, refl, sym, _∙_, ap}
 use mathlib.Core.List.{List, [], _∷_, _++_}
 use Prim.Native.Nat.{ℕ, _+_, _-_, _*_, _≤_, _<_}
 use lib.ListN.{length, getD, take, drop, set}
-use Rattle.image_store_append.proofs.OfEntries.{upsert-put}
+use Rattle.image_store_append.proofs.EntryLaws.{upsert-put}
 use Rattle.image_store_append.proofs.entries.put_upsert.Statement.{statement}
 use Rattle.image_store_append.proofs.entries.put_upsert.Tie as tie
 

@@ -5,7 +5,7 @@ use mathlib.Core.Path.{_≡_, refl, sym, _∙_, ap}
 use mathlib.Core.List.{List, [], _∷_, _++_}
 use Prim.Native.Nat.{ℕ, _+_, _-_, _*_, _≤_, _<_}
 use lib.ListN.{length, getD, take, drop, set}
-use Rattle.image_store_append.proofs.OfOps.{vector-there, ends-inside, vector-is, upsert-grown, delete-grown}
+use Rattle.image_store_append.proofs.OpLaws.{vector-there, ends-inside, vector-is, upsert-grown, delete-grown}
 use Rattle.image_store_append.proofs.ops.append_op.Statement.{statement}
 use Rattle.image_store_append.proofs.ops.append_op.Tie as tie
 

@@ -6,7 +6,7 @@ use mathlib.Core.List.{List, [], _∷_, _++_}
 use Prim.Native.Nat.{ℕ, _+_, _-_, _*_, _≤_, _<_}
 use lib.ListN.{length, getD, take, drop, set}
 use borrow.Author.Tests.{not-true, not-false}
-use Rattle.image_store_append.proofs.OfRows.{put-level, put-between}
+use Rattle.image_store_append.proofs.RowLaws.{put-level, put-between}
 use Rattle.image_store_append.proofs.rows.put_row.Statement.{statement}
 use Rattle.image_store_append.proofs.rows.put_row.Tie as tie
 

@@ -6,7 +6,7 @@ use mathlib.Core.List.{List, [], _∷_, _++_}
 use Prim.Native.Nat.{ℕ, _+_, _-_, _*_, _≤_, _<_}
 use lib.ListN.{length, getD, take, drop, set}
 use borrow.Author.Tests.{not-true, not-false}
-use Rattle.image_store_check.proofs.OfEntries.{no-numbers, by-shapes}
+use Rattle.image_store_check.proofs.EntryLaws.{no-numbers, by-shapes}
 use Rattle.image_store_check.proofs.entries.entries_fit.Statement.{statement}
 use Rattle.image_store_check.proofs.entries.entries_fit.Tie as tie
 

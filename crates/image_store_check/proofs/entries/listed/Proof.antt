@@ -11,7 +11,7 @@ use Rattle.log_store.specs.Store.{everyBelow}
 use Rattle.log_check.specs.Entries.{shapeAt}
 use Rattle.log_check.proofs.Domain.{column-on, column-out}
 use Rattle.image_store.specs.Read.{codesIn, lengthsIn}
-use Rattle.image_store_check.proofs.OfEntries.{shape-in}
+use Rattle.image_store_check.proofs.EntryLaws.{shape-in}
 use Rattle.image_store_check.proofs.entries.listed.Statement.{statement}
 use Rattle.image_store_check.proofs.entries.listed.Tie as tie
 

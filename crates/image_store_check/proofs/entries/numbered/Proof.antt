@@ -11,7 +11,7 @@ use Rattle.log_store.specs.Store.{everyBelow}
 use Rattle.log_check.specs.Entries.{numberFits}
 use Rattle.log_check.proofs.Domain.{column-on, column-out}
 use Rattle.image_store_check.specs.Test.{offsetsIn}
-use Rattle.image_store_check.proofs.OfEntries.{word-in}
+use Rattle.image_store_check.proofs.EntryLaws.{word-in}
 use Rattle.image_store_check.proofs.entries.numbered.Statement.{statement}
 use Rattle.image_store_check.proofs.entries.numbered.Tie as tie
 

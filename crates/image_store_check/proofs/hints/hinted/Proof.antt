@@ -6,7 +6,7 @@ use mathlib.Core.List.{List, [], _∷_, _++_}
 use Prim.Native.Nat.{ℕ, _+_, _-_, _*_, _≤_, _<_}
 use lib.ListN.{length, getD, take, drop, set}
 use Rattle.log_check.proofs.Walking.{no-hint}
-use Rattle.image_store_check.proofs.OfTable.{ids-same}
+use Rattle.image_store_check.proofs.Table.{ids-same}
 use Rattle.image_store_check.proofs.hints.hinted.Statement.{statement}
 use Rattle.image_store_check.proofs.hints.hinted.Tie as tie
 

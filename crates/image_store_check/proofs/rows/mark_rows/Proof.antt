@@ -13,7 +13,7 @@ use Rattle.log_check.proofs.Walking.{unmarked, mark-on, fit-on, rows-stop, rows
 use Rattle.image_store.specs.Image.{keysIn, placesIn}
 use Rattle.image_store.specs.Read.{codesIn}
 use Rattle.image_store_check.specs.Test.{idsIn, RowsFitIn}
-use Rattle.image_store_check.proofs.OfEntries.{word-in}
+use Rattle.image_store_check.proofs.EntryLaws.{word-in}
 use Rattle.image_store_check.proofs.rows.mark_rows.Statement.{statement}
 use Rattle.image_store_check.proofs.rows.mark_rows.Tie as tie
 

@@ -5,7 +5,7 @@ use mathlib.Core.Path.{_≡_, refl, sym, _∙_, ap}
 use mathlib.Core.List.{List, [], _∷_, _++_}
 use Prim.Native.Nat.{ℕ, _+_, _-_, _*_, _≤_, _<_}
 use lib.ListN.{length, getD, take, drop, set}
-use Rattle.image_store_check.proofs.OfTable.{zero-row, far-row, other-row, delete-row, top-row, next-row}
+use Rattle.image_store_check.proofs.Table.{zero-row, far-row, other-row, delete-row, top-row, next-row}
 use Rattle.image_store_check.proofs.rows.row_fits.Statement.{statement}
 use Rattle.image_store_check.proofs.rows.row_fits.Tie as tie
 

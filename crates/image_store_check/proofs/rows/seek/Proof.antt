@@ -8,7 +8,7 @@ use lib.ListN.{length, getD, take, drop, set}
 use Prim.Native.Nat.{_/_}
 use Rattle.log_check.proofs.Walking.{seek-up, seek-down}
 use Rattle.image_store.specs.Image.{keysIn}
-use Rattle.image_store_check.proofs.OfEntries.{word-in}
+use Rattle.image_store_check.proofs.EntryLaws.{word-in}
 use Rattle.image_store_check.proofs.rows.seek.Statement.{statement}
 use Rattle.image_store_check.proofs.rows.seek.Tie as tie
 

@@ -5,7 +5,7 @@ use mathlib.Core.Path.{_≡_, refl, sym, _∙_, ap}
 use mathlib.Core.List.{List, [], _∷_, _++_}
 use Prim.Native.Nat.{ℕ, _+_, _-_, _*_, _≤_, _<_}
 use lib.ListN.{length, getD, take, drop, set}
-use Rattle.image_store_check.proofs.OfTable.{past-agrees, other-agrees, same-agrees}
+use Rattle.image_store_check.proofs.Table.{past-agrees, other-agrees, same-agrees}
 use Rattle.image_store_check.proofs.settled.agrees.Statement.{statement}
 use Rattle.image_store_check.proofs.settled.agrees.Tie as tie
 

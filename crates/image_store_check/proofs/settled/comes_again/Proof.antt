@@ -8,7 +8,7 @@ use lib.ListN.{length, getD, take, drop, set}
 use Rattle.log_check.proofs.Answers.{grant, deny}
 use Rattle.log_check.proofs.Walking.{not-again}
 use Rattle.image_store_check.specs.Test.{idsIn}
-use Rattle.image_store_check.proofs.OfTable.{ids-same, ids-other}
+use Rattle.image_store_check.proofs.Table.{ids-same, ids-other}
 use Rattle.image_store_check.proofs.settled.comes_again.Statement.{statement}
 use Rattle.image_store_check.proofs.settled.comes_again.Tie as tie
 

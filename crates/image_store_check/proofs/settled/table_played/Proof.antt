@@ -9,7 +9,7 @@ use Rattle.image_store.specs.Image.{keysIn, placesIn}
 use Rattle.image_store.specs.Read.{codesIn}
 use Rattle.image_store.proofs.Words.{words-length}
 use Rattle.image_store_check.specs.Test.{offsetsIn, idsIn}
-use Rattle.image_store_check.proofs.OfTable.{whole-answered}
+use Rattle.image_store_check.proofs.Table.{whole-answered}
 use Rattle.image_store_check.proofs.settled.table_played.Statement.{statement}
 use Rattle.image_store_check.proofs.settled.table_played.Tie as tie
 

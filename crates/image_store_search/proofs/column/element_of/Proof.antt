@@ -6,7 +6,7 @@ use mathlib.Core.List.{List, [], _∷_, _++_}
 use Prim.Native.Nat.{ℕ, _+_, _-_, _*_, _≤_, _<_}
 use lib.ListN.{length, getD, take, drop, set}
 use Rattle.float_distance.specs.Halves.{elementOf}
-use Rattle.image_store_search.proofs.OfColumn.{row-patterns, row-vector}
+use Rattle.image_store_search.proofs.ColumnLaws.{row-patterns, row-vector}
 use Rattle.image_store_search.proofs.column.element_of.Statement.{statement}
 use Rattle.image_store_search.proofs.column.element_of.Tie as tie
 

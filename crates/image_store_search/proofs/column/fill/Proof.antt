@@ -9,7 +9,7 @@ use lib.ListN.{length-set}
 use lib.Ieee.{Float}
 use Rattle.float_distance.specs.Halves.{elementOf}
 use Rattle.image_store_search.specs.Column.{Filled}
-use Rattle.image_store_search.proofs.OfColumn.{row-patterns, row-vector, filled-on, filled-four}
+use Rattle.image_store_search.proofs.ColumnLaws.{row-patterns, row-vector, filled-on, filled-four}
 use Rattle.image_store_search.proofs.column.fill.Statement.{statement}
 use Rattle.image_store_search.proofs.column.fill.Tie as tie
 

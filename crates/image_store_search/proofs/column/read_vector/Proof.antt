@@ -12,7 +12,7 @@ use Rattle.image_store.specs.Image.{words}
 use Rattle.image_store.proofs.Words.{words-length, words-at}
 use Rattle.log_store.proofs.Bits.{write-on}
 use Rattle.image_store_search.specs.Four.{vectorAt}
-use Rattle.image_store_search.proofs.OfFour.{vector-length}
+use Rattle.image_store_search.proofs.FourLaws.{vector-length}
 use lib.Ieee.{Float}
 use Rattle.image_store_search.proofs.column.read_vector.Statement.{statement}
 use Rattle.image_store_search.proofs.column.read_vector.Tie as tie

@@ -5,7 +5,7 @@ use mathlib.Core.Path.{_≡_, refl, sym, _∙_, ap}
 use mathlib.Core.List.{List, [], _∷_, _++_}
 use Prim.Native.Nat.{ℕ, _+_, _-_, _*_, _≤_, _<_}
 use lib.ListN.{length, getD, take, drop, set}
-use Rattle.image_store_search.proofs.OfStore.{named, bytes-selectable, bytes-nearest}
+use Rattle.image_store_search.proofs.Store.{named, bytes-selectable, bytes-nearest}
 use Rattle.image_store_search.proofs.first.nearest.Statement.{statement}
 use Rattle.image_store_search.proofs.first.nearest.Tie as tie
 

@@ -5,7 +5,7 @@ use mathlib.Core.Path.{_≡_, refl, sym, _∙_, ap}
 use mathlib.Core.List.{List, [], _∷_, _++_}
 use Prim.Native.Nat.{ℕ, _+_, _-_, _*_, _≤_, _<_}
 use lib.ListN.{length, getD, take, drop, set}
-use Rattle.image_store_search.proofs.OfFour.{squares-elements, angular}
+use Rattle.image_store_search.proofs.FourLaws.{squares-elements, angular}
 use Rattle.image_store_search.proofs.four.elements_four.Statement.{statement}
 use Rattle.image_store_search.proofs.four.elements_four.Tie as tie
 

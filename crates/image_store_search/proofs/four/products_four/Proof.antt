@@ -10,7 +10,7 @@ use lib.Ieee.{ofBits, binary32, mul}
 use mathlib.Core.Path.{subst}
 use Rattle.float_distance.specs.declared.four.Products.{Products}
 use Rattle.image_store_search.specs.Four.{Sums, OwnSums}
-use Rattle.image_store_search.proofs.OfFour.{reaches, four-steps}
+use Rattle.image_store_search.proofs.FourLaws.{reaches, four-steps}
 use Rattle.image_store_search.proofs.four.products_four.Statement.{statement}
 use Rattle.image_store_search.proofs.four.products_four.Tie as tie
 

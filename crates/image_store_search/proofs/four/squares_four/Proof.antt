@@ -11,7 +11,7 @@ use mathlib.Core.Path.{subst}
 use Rattle.float_distance.specs.declared.four.Four.{Four}
 use Rattle.spec.specs.Nearest.Distance.{square}
 use Rattle.image_store_search.specs.Four.{Sums}
-use Rattle.image_store_search.proofs.OfFour.{reaches, four-steps}
+use Rattle.image_store_search.proofs.FourLaws.{reaches, four-steps}
 use Rattle.image_store_search.proofs.four.squares_four.Statement.{statement}
 use Rattle.image_store_search.proofs.four.squares_four.Tie as tie
 

@@ -6,7 +6,7 @@ use mathlib.Core.List.{List, [], _∷_, _++_}
 use Prim.Native.Nat.{ℕ, _+_, _-_, _*_, _≤_, _<_}
 use lib.ListN.{length, getD, take, drop, set}
 use Rattle.spec.specs.Nearest.Distance.{square}
-use Rattle.image_store_search.proofs.OfFour.{lane-on}
+use Rattle.image_store_search.proofs.FourLaws.{lane-on}
 use Rattle.image_store_search.proofs.four.squares_on.Statement.{statement}
 use Rattle.image_store_search.proofs.four.squares_on.Tie as tie
 

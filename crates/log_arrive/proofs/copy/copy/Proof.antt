@@ -3,7 +3,7 @@ use borrow.Author.Needs.{needs}
 use mathlib.Core.Path.{refl}
 use Rattle.log_store.proofs.Arrived.{count-most}
 use Rattle.log_arrive.specs.Parts.{entriesIn}
-use Rattle.log_arrive.proofs.OfBatch.{grows-last, fitting, overflowing, batch-none, batch-some, copies-none, copies-stale, copies-full, copies-all}
+use Rattle.log_arrive.proofs.Batch.{grows-last, fitting, overflowing, batch-none, batch-some, copies-none, copies-stale, copies-full, copies-all}
 use Rattle.log_arrive.proofs.copy.copy.Statement.{statement}
 use Rattle.log_arrive.proofs.copy.copy.Tie as tie
 

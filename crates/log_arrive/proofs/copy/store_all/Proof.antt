@@ -13,7 +13,7 @@ use Rattle.log_store.specs.View.{columns}
 use Rattle.log_store.specs.Store.{lent}
 use Rattle.log_arrive.specs.Parts.{entriesIn, EntriesThere}
 use Rattle.log_domain.proofs.InMessage.{entries-start, entries-all, entries-first, entry-op, entries-rest, domain-first, domain-rest}
-use Rattle.log_arrive.proofs.OfBatch.{OnWay, on-begin, on-turn, on-done}
+use Rattle.log_arrive.proofs.Batch.{OnWay, on-begin, on-turn, on-done}
 use Rattle.log_arrive.proofs.copy.store_all.Statement.{statement}
 use Rattle.log_arrive.proofs.copy.store_all.Tie as tie
 

@@ -6,7 +6,7 @@ use native.Mathlib.Omega.{arith}
 use lib.ListN.{length, take, length-set}
 use Rattle.log_arrive.specs.Parts.{bitsIn}
 use Rattle.log_domain.proofs.InMessage.{bits-length, bits-item, bits-within}
-use Rattle.log_arrive.proofs.OfOps.{column-on, column-end}
+use Rattle.log_arrive.proofs.OpLaws.{column-on, column-end}
 use Rattle.log_arrive.proofs.ops.read_bits.Statement.{statement}
 use Rattle.log_arrive.proofs.ops.read_bits.Tie as tie
 

@@ -7,7 +7,7 @@ use lib.ListN.{length}
 use Rattle.wire_read.specs.declared.OpPart.{OpPart}
 use Rattle.log_arrive.specs.Parts.{opIn, OpThere}
 use Rattle.log_arrive.specs.Arrivals.{Reads}
-use Rattle.log_arrive.proofs.OfOps.{reads-upsert, reads-delete}
+use Rattle.log_arrive.proofs.OpLaws.{reads-upsert, reads-delete}
 use Rattle.log_arrive.proofs.ops.read_op.Statement.{statement}
 use Rattle.log_arrive.proofs.ops.read_op.Tie as tie
 

@@ -1,5 +1,5 @@
 -- Both tests hold, or the first one fails. Assumes nothing.
-use Rattle.log_arrive.proofs.OfStores.{over-and, over-not}
+use Rattle.log_arrive.proofs.Stores.{over-and, over-not}
 use Rattle.log_arrive.proofs.store.is_over.Statement.{statement}
 use Rattle.log_arrive.proofs.store.is_over.Tie as tie
 

@@ -3,7 +3,7 @@ use borrow.Author.Needs.{needs}
 use mathlib.Core.Path.{refl, sym, _∙_}
 use native.Mathlib.Omega.{arith}
 use lib.Seq.{length-take-le}
-use Rattle.log_arrive.proofs.OfStores.{arrives-stale, arrives-full, arrives-read}
+use Rattle.log_arrive.proofs.Stores.{arrives-stale, arrives-full, arrives-read}
 use Rattle.log_arrive.proofs.store.store_under.Statement.{statement}
 use Rattle.log_arrive.proofs.store.store_under.Tie as tie
 

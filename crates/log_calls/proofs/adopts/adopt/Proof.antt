@@ -4,9 +4,9 @@ use borrow.Author.Tests.{not-true, not-false}
 use mathlib.Core.Path.{sym, _∙_}
 use mathlib.Core.List.{[], _∷_}
 use types.Run.{miss}
-use Rattle.log_arrive.proofs.OfMessages.{new-epoch-there}
-use Rattle.log_calls.proofs.OfFits.{fits-sized, fits-well}
-use Rattle.log_calls.proofs.OfAdopts.{adopts-unread, adopts-malformed, adopts-older, adopts-taken}
+use Rattle.log_arrive.proofs.Messages.{new-epoch-there}
+use Rattle.log_calls.proofs.FitLaws.{fits-sized, fits-well}
+use Rattle.log_calls.proofs.AdoptLaws.{adopts-unread, adopts-malformed, adopts-older, adopts-taken}
 use Rattle.log_calls.proofs.adopts.adopt.Statement.{statement}
 use Rattle.log_calls.proofs.adopts.adopt.Tie as tie
 

@@ -6,9 +6,9 @@ use mathlib.Core.Path.{refl, sym, _∙_}
 use mathlib.Core.List.{[], _∷_}
 use lib.Seq.{length-take-le}
 use types.Run.{miss}
-use Rattle.log_arrive.proofs.OfMessages.{write-there}
-use Rattle.log_calls.proofs.OfFits.{fits-sized, fits-well, count-room}
-use Rattle.log_calls.proofs.OfAppends.{appends-unread, appends-outside, appends-malformed, appends-full, appends-pushed}
+use Rattle.log_arrive.proofs.Messages.{write-there}
+use Rattle.log_calls.proofs.FitLaws.{fits-sized, fits-well, count-room}
+use Rattle.log_calls.proofs.AppendLaws.{appends-unread, appends-outside, appends-malformed, appends-full, appends-pushed}
 use Rattle.log_calls.proofs.appends.append.Statement.{statement}
 use Rattle.log_calls.proofs.appends.append.Tie as tie
 

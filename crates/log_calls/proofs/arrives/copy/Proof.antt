@@ -4,9 +4,9 @@ use borrow.Author.Tests.{not-true, not-false}
 use mathlib.Core.Path.{sym, _∙_}
 use mathlib.Core.List.{[], _∷_}
 use types.Run.{miss}
-use Rattle.log_arrive.proofs.OfMessages.{copy-there}
-use Rattle.log_calls.proofs.OfFits.{fits-sized, fits-well}
-use Rattle.log_calls.proofs.OfCopies.{copies-unread, copies-outside, copies-malformed, copies-taken}
+use Rattle.log_arrive.proofs.Messages.{copy-there}
+use Rattle.log_calls.proofs.FitLaws.{fits-sized, fits-well}
+use Rattle.log_calls.proofs.Copies.{copies-unread, copies-outside, copies-malformed, copies-taken}
 use Rattle.log_calls.proofs.arrives.copy.Statement.{statement}
 use Rattle.log_calls.proofs.arrives.copy.Tie as tie
 

@@ -4,9 +4,9 @@ use borrow.Author.Tests.{not-true, not-false}
 use mathlib.Core.Path.{sym, _∙_}
 use mathlib.Core.List.{[], _∷_}
 use types.Run.{miss}
-use Rattle.log_arrive.proofs.OfMessages.{replicate-there}
-use Rattle.log_calls.proofs.OfFits.{fits-sized, fits-well}
-use Rattle.log_calls.proofs.OfArrives.{stores-unread, stores-outside, stores-malformed, stores-taken}
+use Rattle.log_arrive.proofs.Messages.{replicate-there}
+use Rattle.log_calls.proofs.FitLaws.{fits-sized, fits-well}
+use Rattle.log_calls.proofs.ArriveLaws.{stores-unread, stores-outside, stores-malformed, stores-taken}
 use Rattle.log_calls.proofs.arrives.store.Statement.{statement}
 use Rattle.log_calls.proofs.arrives.store.Tie as tie
 

@@ -1,6 +1,6 @@
 -- Each length in turn decides, or leaves the rest to. Assumes nothing.
 use mathlib.Core.Path.{refl}
-use Rattle.log_calls.proofs.OfFits.{whole-step, whole-stop}
+use Rattle.log_calls.proofs.FitLaws.{whole-step, whole-stop}
 use Rattle.log_calls.proofs.fits.all_whole.Statement.{statement}
 use Rattle.log_calls.proofs.fits.all_whole.Tie as tie
 

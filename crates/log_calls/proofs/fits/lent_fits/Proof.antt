@@ -2,7 +2,7 @@
 use borrow.Author.Needs.{needs}
 use borrow.Author.Tests.{not-true, not-false}
 use mathlib.Core.Path.{sym, _∙_}
-use Rattle.log_calls.proofs.OfFits.{whole-sized, fits-not, fits-so}
+use Rattle.log_calls.proofs.FitLaws.{whole-sized, fits-not, fits-so}
 use Rattle.log_calls.proofs.fits.lent_fits.Statement.{statement}
 use Rattle.log_calls.proofs.fits.lent_fits.Tie as tie
 

@@ -3,7 +3,7 @@ use borrow.Author.Needs.{needs}
 use borrow.Author.Tests.{not-true, not-false}
 use mathlib.Core.Path.{sym, _∙_}
 use lib.Seq.{length-take-le}
-use Rattle.log_calls.proofs.OfFits.{stored-fits, ids-there, ids-none}
+use Rattle.log_calls.proofs.FitLaws.{stored-fits, ids-there, ids-none}
 use Rattle.log_calls.proofs.reads.ids.Statement.{statement}
 use Rattle.log_calls.proofs.reads.ids.Tie as tie
 

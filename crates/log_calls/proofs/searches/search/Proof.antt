@@ -2,7 +2,7 @@
 use borrow.Author.Needs.{needs}
 use borrow.Author.Tests.{not-true, not-false}
 use mathlib.Core.Path.{sym, _∙_}
-use Rattle.log_calls.proofs.OfFits.{fits-sized, fits-well, search-outside, search-malformed, search-same}
+use Rattle.log_calls.proofs.FitLaws.{fits-sized, fits-well, search-outside, search-malformed, search-same}
 use Rattle.log_calls.proofs.searches.search.Statement.{statement}
 use Rattle.log_calls.proofs.searches.search.Tie as tie
 

@@ -10,7 +10,7 @@ use Rattle.spec.specs.Node.Wire.{patternsInDomain}
 use Rattle.spec_laws.proofs.Wire.Tests.{and-true}
 use Rattle.log_domain.specs.Parts.{bitsIn}
 use Rattle.log_domain.proofs.InMessage.{bits-length, bits-within}
-use Rattle.log_domain.proofs.OfBits.{bit-in, tested-on, tested-out, tested-end}
+use Rattle.log_domain.proofs.Bits.{bit-in, tested-on, tested-out, tested-end}
 use Rattle.log_domain.proofs.domain.vector_in_domain.Statement.{statement}
 use Rattle.log_domain.proofs.domain.vector_in_domain.Tie as tie
 

@@ -6,7 +6,7 @@ use native.Mathlib.Omega.{arith}
 use Rattle.wire_read.specs.Shown.{part}
 use Rattle.log_domain.specs.Parts.{entriesIn, EntriesThere}
 use Rattle.log_domain.proofs.InMessage.{entries-start, entries-all, entries-first, entries-rest}
-use Rattle.log_domain.proofs.OfGrowth.{grown, grown-on, grown-end, grows, after-most}
+use Rattle.log_domain.proofs.GrowthLaws.{grown, grown-on, grown-end, grows, after-most}
 use Rattle.log_domain.proofs.growth.grows_to.Statement.{statement}
 use Rattle.log_domain.proofs.growth.grows_to.Tie as tie
 

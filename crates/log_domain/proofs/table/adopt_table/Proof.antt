@@ -2,7 +2,7 @@
 use borrow.Author.Needs.{needs}
 use mathlib.Core.Path.{refl}
 use native.Mathlib.Omega.{arith}
-use Rattle.log_domain.proofs.OfTables.{aligned-by}
+use Rattle.log_domain.proofs.Tables.{aligned-by}
 use Rattle.log_domain.proofs.table.adopt_table.Statement.{statement}
 use Rattle.log_domain.proofs.table.adopt_table.Tie as tie
 

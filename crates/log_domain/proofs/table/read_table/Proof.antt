@@ -4,7 +4,7 @@ use mathlib.Core.Path.{_≡_, refl, sym, _∙_, subst}
 use Prim.Native.Nat.{_-_, _≤_, _<_}
 use native.Mathlib.Omega.{arith}
 use lib.ListN.{length, length-set}
-use Rattle.log_domain.proofs.OfTables.{PairsFrom, pairs-none, pairs-on, table-read}
+use Rattle.log_domain.proofs.Tables.{PairsFrom, pairs-none, pairs-on, table-read}
 use Rattle.log_domain.proofs.table.read_table.Statement.{statement}
 use Rattle.log_domain.proofs.table.read_table.Tie as tie
 

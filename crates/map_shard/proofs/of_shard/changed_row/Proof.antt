@@ -8,7 +8,7 @@ use Rattle.spec.specs.Map.Change.{decideChange, changed}
 use Rattle.spec_laws.proofs.Map.Shards.{promote-taken}
 use Rattle.map_tables.specs.View.{viewShard, changeOf}
 use Rattle.map_tables.specs.declared.Change.{Change}
-use Rattle.map_shard.proofs.OfChange.{add-room, expand-room}
+use Rattle.map_shard.proofs.Change.{add-room, expand-room}
 use Rattle.map_tables.proofs.Tables.{of-field}
 use lib.Seq.{length-take-le}
 use Rattle.map_shard.proofs.of_shard.changed_row.Statement.{statement}

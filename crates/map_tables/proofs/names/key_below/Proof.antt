@@ -5,7 +5,7 @@ use mathlib.Core.List.{List, [], _∷_, _++_}
 use Prim.Native.Nat.{ℕ, _+_, _-_, _*_, _≤_, _<_}
 use lib.ListN.{length, getD, take, drop, set}
 use Rattle.map_tables.specs.Names.{viewKey}
-use Rattle.map_tables.proofs.OfNames.{below-name, above-shard, below-shard}
+use Rattle.map_tables.proofs.NameLaws.{below-name, above-shard, below-shard}
 use Rattle.map_tables.proofs.names.key_below.Statement.{statement}
 use Rattle.map_tables.proofs.names.key_below.Tie as tie
 use Rattle.map_tables.proofs.names.key_below.Reads as reads

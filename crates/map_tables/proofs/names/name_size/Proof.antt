@@ -4,7 +4,7 @@ use mathlib.Core.Path.{_≡_, refl, sym, _∙_, ap}
 use mathlib.Core.List.{List, [], _∷_, _++_}
 use Prim.Native.Nat.{ℕ, _+_, _-_, _*_, _≤_, _<_}
 use lib.ListN.{length, getD, take, drop, set}
-use Rattle.map_tables.proofs.OfNames.{short, long}
+use Rattle.map_tables.proofs.NameLaws.{short, long}
 use Rattle.map_tables.proofs.names.name_size.Statement.{statement}
 use Rattle.map_tables.proofs.names.name_size.Tie as tie
 use Rattle.map_tables.proofs.names.name_size.Reads as reads

@@ -5,7 +5,7 @@ use mathlib.Core.List.{List, [], _∷_, _++_}
 use Prim.Native.Nat.{ℕ, _+_, _-_, _*_, _≤_, _<_}
 use lib.ListN.{length, getD, take, drop, set}
 use Rattle.map_tables.specs.Names.{viewKey}
-use Rattle.map_tables.proofs.OfNames.{other-shard, equal-shard}
+use Rattle.map_tables.proofs.NameLaws.{other-shard, equal-shard}
 use Rattle.map_tables.proofs.names.same_key.Statement.{statement}
 use Rattle.map_tables.proofs.names.same_key.Tie as tie
 use Rattle.map_tables.proofs.names.same_key.Reads as reads

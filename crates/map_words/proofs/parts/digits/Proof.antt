@@ -8,7 +8,7 @@ use lib.ListN.{length, getD, take, drop, set}
 use mathlib.Core.List.{append-nil}
 use lib.ListN.{length-set}
 use Rattle.spec_words.specs.Decimal.{decimal}
-use Rattle.map_words.proofs.OfDigits.{place-left, next-digit, last-digit}
+use Rattle.map_words.proofs.DigitLaws.{place-left, next-digit, last-digit}
 use Rattle.map_words.proofs.parts.digits.Statement.{statement}
 use Rattle.map_words.proofs.parts.digits.Tie as tie
 

@@ -7,7 +7,7 @@ use Prim.Native.Nat.{ℕ, _+_, _-_, _*_, _≤_, _<_}
 use lib.ListN.{length, getD, take, drop, set}
 use Rattle.spec_words.specs.Words.{keyWords}
 use Rattle.map_tables.specs.Names.{viewKey}
-use Rattle.map_words.proofs.OfParts.{then, length-key}
+use Rattle.map_words.proofs.PartLaws.{then, length-key}
 use Rattle.map_words.proofs.parts.put_key.Statement.{statement}
 use Rattle.map_words.proofs.parts.put_key.Tie as tie
 

@@ -6,7 +6,7 @@ use mathlib.Core.List.{List, [], _∷_, _++_}
 use Prim.Native.Nat.{ℕ, _+_, _-_, _*_, _≤_, _<_}
 use lib.ListN.{length, getD, take, drop, set}
 use lib.Seq.{length-take-le}
-use Rattle.map_words.proofs.OfParts.{puts-as, first-of}
+use Rattle.map_words.proofs.PartLaws.{puts-as, first-of}
 use Rattle.map_words.proofs.parts.put_name.Statement.{statement}
 use Rattle.map_words.proofs.parts.put_name.Tie as tie
 

@@ -5,7 +5,7 @@ use mathlib.Core.Path.{_≡_, refl, sym, _∙_, ap}
 use mathlib.Core.List.{List, [], _∷_, _++_}
 use Prim.Native.Nat.{ℕ, _+_, _-_, _*_, _≤_, _<_}
 use lib.ListN.{length, getD, take, drop, set}
-use Rattle.map_words.proofs.OfParts.{puts-as, rest-of}
+use Rattle.map_words.proofs.PartLaws.{puts-as, rest-of}
 use Rattle.map_words.proofs.parts.put_number.Statement.{statement}
 use Rattle.map_words.proofs.parts.put_number.Tie as tie
 

@@ -10,8 +10,8 @@ use Rattle.map_tables.specs.Names.{viewKey}
 use Rattle.spec_words.specs.Decimal.{decimal}
 use Rattle.spec_words.specs.Texts.{saysShard, saysEpoch, saysNot}
 use Rattle.spec_words.specs.Words.{keyWords, words}
-use Rattle.spec_words.proofs.OfDecimal.{decimal-64}
-use Rattle.map_words.proofs.OfParts.{then, puts-as}
+use Rattle.spec_words.proofs.Decimal.{decimal-64}
+use Rattle.map_words.proofs.PartLaws.{then, puts-as}
 use Prim.Native.Nat.{_^_}
 use Rattle.map_words.proofs.rejections.put_epochs.Statement.{statement}
 use Rattle.map_words.proofs.rejections.put_epochs.Tie as tie

@@ -6,7 +6,7 @@ use mathlib.Core.List.{List, [], _∷_, _++_}
 use Prim.Native.Nat.{ℕ, _+_, _-_, _*_, _≤_, _<_}
 use lib.ListN.{length, getD, take, drop, set}
 use Rattle.spec_words.specs.Words.{words}
-use Rattle.map_words.proofs.OfParts.{then, key-most}
+use Rattle.map_words.proofs.PartLaws.{then, key-most}
 use Prim.Native.Nat.{_^_}
 use Rattle.map_words.proofs.rejections.put_no_shard.Statement.{statement}
 use Rattle.map_words.proofs.rejections.put_no_shard.Tie as tie

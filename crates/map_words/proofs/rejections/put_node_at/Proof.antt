@@ -7,10 +7,10 @@ use Prim.Native.Nat.{ℕ, _+_, _-_, _*_, _≤_, _<_}
 use lib.ListN.{length, getD, take, drop, set}
 use mathlib.Core.List.{append-assoc}
 use lib.ListN.{length-append}
-use Rattle.map_words.proofs.OfParts.{then, puts-as}
+use Rattle.map_words.proofs.PartLaws.{then, puts-as}
 use Rattle.spec_words.specs.Decimal.{decimal}
 use Rattle.spec_words.specs.Texts.{saysNode}
-use Rattle.spec_words.proofs.OfDecimal.{decimal-64}
+use Rattle.spec_words.proofs.Decimal.{decimal-64}
 use Prim.Native.Nat.{_^_}
 use Rattle.map_words.proofs.rejections.put_node_at.Statement.{statement}
 use Rattle.map_words.proofs.rejections.put_node_at.Tie as tie

@@ -5,8 +5,8 @@ use mathlib.Core.Path.{_≡_, refl, sym, _∙_, ap}
 use mathlib.Core.List.{List, [], _∷_, _++_}
 use Prim.Native.Nat.{ℕ, _+_, _-_, _*_, _≤_, _<_}
 use lib.ListN.{length, getD, take, drop, set}
-use Rattle.spec_words.proofs.OfDecimal.{decimal-64}
-use Rattle.map_words.proofs.OfParts.{then, key-most}
+use Rattle.spec_words.proofs.Decimal.{decimal-64}
+use Rattle.map_words.proofs.PartLaws.{then, key-most}
 use Prim.Native.Nat.{_^_}
 use Rattle.map_words.proofs.rejections.put_own_epoch.Statement.{statement}
 use Rattle.map_words.proofs.rejections.put_own_epoch.Tie as tie

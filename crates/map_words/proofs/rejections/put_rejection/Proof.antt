@@ -9,7 +9,7 @@ use Rattle.spec_words.specs.Words.{words}
 use Rattle.map_tables.specs.Names.{viewKey}
 use Rattle.map_tables.specs.View.{rejectionOf}
 use Rattle.map_tables.specs.declared.Rejection.{Rejection}
-use Rattle.map_words.proofs.OfParts.{puts-as}
+use Rattle.map_words.proofs.PartLaws.{puts-as}
 use Rattle.map_words.proofs.rejections.put_rejection.Statement.{statement}
 use Rattle.map_words.proofs.rejections.put_rejection.Tie as tie
 

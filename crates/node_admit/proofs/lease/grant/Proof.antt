@@ -1,5 +1,5 @@
 use borrow.Author.Needs.{needs}
-use Rattle.node_admit.proofs.OfLease.{grants-own, grants-other}
+use Rattle.node_admit.proofs.LeaseLaws.{grants-own, grants-other}
 use native.Mathlib.Omega.{arith}
 use mathlib.Core.Path.{_≡_, refl, sym, _∙_, ap}
 use mathlib.Core.List.{List, [], _∷_, _++_}

@@ -3,7 +3,7 @@ use mathlib.Core.Path.{sym, _∙_}
 use mathlib.Core.List.{[], _∷_}
 use types.Run.{miss}
 use Rattle.wire_read.proofs.Decoded.{stored-decoded, gap-decoded, stale-decoded, adopted-decoded}
-use Rattle.node_hear.proofs.OfHears.{reply-heard, reply-unheard}
+use Rattle.node_hear.proofs.Hears.{reply-heard, reply-unheard}
 use Rattle.node_hear.proofs.ack.reply_of.Statement.{statement}
 use Rattle.node_hear.proofs.ack.reply_of.Tie as tie
 

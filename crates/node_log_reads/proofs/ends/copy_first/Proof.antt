@@ -5,7 +5,7 @@ use mathlib.Core.Path.{_≡_, refl, ap, _∙_}
 use mathlib.Core.List.{List, _++_}
 use Prim.Native.Nat.{ℕ, _-_, _≤_}
 use lib.ListN.{length, take, drop, getD, set, length-set}
-use Rattle.node_log_reads.proofs.OfEnds.{copied-on}
+use Rattle.node_log_reads.proofs.EndLaws.{copied-on}
 use Rattle.node_log_reads.proofs.ends.copy_first.Statement.{statement}
 use Rattle.node_log_reads.proofs.ends.copy_first.Tie as tie
 

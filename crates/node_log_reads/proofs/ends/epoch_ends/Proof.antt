@@ -4,8 +4,8 @@ use borrow.Author.Tests.{not-true, not-false}
 use native.Mathlib.Omega.{arith}
 use mathlib.Core.Path.{sym, _∙_}
 use Rattle.log_store.proofs.Facts.{facts}
-use Rattle.log_calls.proofs.OfFits.{fits-sized, fits-well}
-use Rattle.node_log_reads.proofs.OfEnds.{ends-malformed, ends-short, ends-told}
+use Rattle.log_calls.proofs.FitLaws.{fits-sized, fits-well}
+use Rattle.node_log_reads.proofs.EndLaws.{ends-malformed, ends-short, ends-told}
 use Rattle.node_log_reads.proofs.ends.epoch_ends.Statement.{statement}
 use Rattle.node_log_reads.proofs.ends.epoch_ends.Tie as tie
 

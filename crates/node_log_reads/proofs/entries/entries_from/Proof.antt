@@ -3,9 +3,9 @@ use borrow.Author.Needs.{needs}
 use borrow.Author.Tests.{not-true, not-false}
 use native.Mathlib.Omega.{arith}
 use mathlib.Core.Path.{sym, _∙_}
-use Rattle.log_calls.proofs.OfFits.{fits-sized, fits-well}
-use Rattle.node_send.proofs.OfEntry.{sendable}
-use Rattle.node_log_reads.proofs.OfEntries.{name-short, from-unnamed, from-malformed, from-many, from-written}
+use Rattle.log_calls.proofs.FitLaws.{fits-sized, fits-well}
+use Rattle.node_send.proofs.Entry.{sendable}
+use Rattle.node_log_reads.proofs.EntryLaws.{name-short, from-unnamed, from-malformed, from-many, from-written}
 use Rattle.node_log_reads.proofs.entries.entries_from.Statement.{statement}
 use Rattle.node_log_reads.proofs.entries.entries_from.Tie as tie
 

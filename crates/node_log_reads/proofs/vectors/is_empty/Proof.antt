@@ -2,7 +2,7 @@
 use borrow.Author.Needs.{needs}
 use borrow.Author.Tests.{not-true, not-false}
 use mathlib.Core.Path.{sym, _∙_}
-use Rattle.node_log_reads.proofs.OfVectors.{empty-malformed, empty-told, empty-filled}
+use Rattle.node_log_reads.proofs.VectorLaws.{empty-malformed, empty-told, empty-filled}
 use Rattle.node_log_reads.proofs.vectors.is_empty.Statement.{statement}
 use Rattle.node_log_reads.proofs.vectors.is_empty.Tie as tie
 

@@ -2,7 +2,7 @@
 use borrow.Author.Needs.{needs}
 use borrow.Author.Tests.{not-true, not-false}
 use mathlib.Core.Path.{sym, _∙_}
-use Rattle.node_log_reads.proofs.OfVectors.{len-malformed, len-told}
+use Rattle.node_log_reads.proofs.VectorLaws.{len-malformed, len-told}
 use Rattle.node_log_reads.proofs.vectors.len.Statement.{statement}
 use Rattle.node_log_reads.proofs.vectors.len.Tie as tie
 

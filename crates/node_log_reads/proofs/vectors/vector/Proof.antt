@@ -4,7 +4,7 @@ use mathlib.Core.Path.{subst, _∙_}
 use mathlib.Core.List.{[], _∷_}
 use types.Run.{miss}
 use Rattle.node_log_reads.specs.Vectors.{Stands}
-use Rattle.node_log_reads.proofs.OfVectors.{vector-none, vector-there}
+use Rattle.node_log_reads.proofs.VectorLaws.{vector-none, vector-there}
 use Rattle.node_log_reads.proofs.vectors.vector.Statement.{statement}
 use Rattle.node_log_reads.proofs.vectors.vector.Tie as tie
 

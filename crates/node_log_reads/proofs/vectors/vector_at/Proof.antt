@@ -5,8 +5,8 @@ use native.Mathlib.Omega.{arith}
 use mathlib.Core.Path.{sym, _∙_}
 use Rattle.log_store.proofs.Facts.{facts}
 use Rattle.log_store.proofs.Tabled.{here}
-use Rattle.log_calls.proofs.OfFits.{fits-sized, fits-well}
-use Rattle.node_log_reads.proofs.OfVectors.{stands-malformed, stands-at, stands-missing}
+use Rattle.log_calls.proofs.FitLaws.{fits-sized, fits-well}
+use Rattle.node_log_reads.proofs.VectorLaws.{stands-malformed, stands-at, stands-missing}
 use Rattle.node_log_reads.proofs.vectors.vector_at.Statement.{statement}
 use Rattle.node_log_reads.proofs.vectors.vector_at.Tie as tie
 

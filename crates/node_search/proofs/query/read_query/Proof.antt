@@ -11,8 +11,8 @@ use Rattle.spec.specs.Node.Wire.{floatsOf}
 use Rattle.log_store.proofs.Bits.{domain-number}
 use Rattle.log_arrive.specs.Parts.{bitsIn}
 use Rattle.log_arrive.proofs.InMessage.{bits-length, bits-item}
-use Rattle.log_arrive.proofs.OfOps.{bit-in}
-use Rattle.node_search.proofs.OfQuery.{query-out, query-on, query-write, query-all}
+use Rattle.log_arrive.proofs.OpLaws.{bit-in}
+use Rattle.node_search.proofs.QueryLaws.{query-out, query-on, query-write, query-all}
 use Rattle.node_search.proofs.query.read_query.Statement.{statement}
 use Rattle.node_search.proofs.query.read_query.Tie as tie
 

@@ -7,7 +7,7 @@ use Rattle.spec.specs.Log.{Log}
 use Rattle.spec.specs.Node.Worker.{copyOf}
 use Rattle.log_store.specs.View.{columns}
 use Rattle.node_send.specs.Requested.{keyNamed, Requested}
-use Rattle.node_send_entries.proofs.OfEntries.{from-some}
+use Rattle.node_send_entries.proofs.EntriesLaws.{from-some}
 use Rattle.node_send.proofs.entries.entries_from.Statement.{statement}
 use Rattle.node_send.proofs.entries.entries_from.Tie as tie
 

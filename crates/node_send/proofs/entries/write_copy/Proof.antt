@@ -7,8 +7,8 @@ use Rattle.spec.specs.Node.Worker.{copyOf}
 use Rattle.log_store.specs.View.{columns}
 use Rattle.node_send.specs.Requested.{keyNamed}
 use Rattle.node_send.specs.Sent.{entriesAt}
-use Rattle.node_send.proofs.OfAnswer.{short, wrote}
-use Rattle.node_send_entries.proofs.OfEntries.{copy-put, copy-length}
+use Rattle.node_send.proofs.Answer.{short, wrote}
+use Rattle.node_send_entries.proofs.EntriesLaws.{copy-put, copy-length}
 use Rattle.node_send.proofs.entries.write_copy.Statement.{statement}
 use Rattle.node_send.proofs.entries.write_copy.Tie as tie
 

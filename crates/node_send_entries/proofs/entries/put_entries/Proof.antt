@@ -9,7 +9,7 @@ use Rattle.wire_write.specs.Rows.{rowsSize}
 use Rattle.wire_write.proofs.Rows.{size-step}
 use Rattle.log_store.specs.View.{columns}
 use Rattle.node_send_entries.specs.Sent.{entriesAt, entriesSent}
-use Rattle.node_send_entries.proofs.OfEntries.{sent-step}
+use Rattle.node_send_entries.proofs.EntriesLaws.{sent-step}
 use Rattle.node_send_entries.proofs.entries.put_entries.Statement.{statement}
 use Rattle.node_send_entries.proofs.entries.put_entries.Tie as tie
 

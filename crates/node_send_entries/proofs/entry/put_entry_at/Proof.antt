@@ -9,7 +9,7 @@ use lib.Seq.{sets}
 use Rattle.spec.specs.Node.Wire.{bitsOf}
 use Rattle.wire_write.proofs.Entries.{entry-put}
 use Rattle.log_store.specs.View.{columns}
-use Rattle.node_send_entries.proofs.OfEntry.{upserts, vector, op-length, op-fits, op-domain, entry-bytes}
+use Rattle.node_send_entries.proofs.EntryLaws.{upserts, vector, op-length, op-fits, op-domain, entry-bytes}
 use Rattle.node_send_entries.proofs.entry.put_entry_at.Statement.{statement}
 use Rattle.node_send_entries.proofs.entry.put_entry_at.Tie as tie
 

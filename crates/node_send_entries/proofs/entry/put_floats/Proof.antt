@@ -11,7 +11,7 @@ use Rattle.spec.specs.Layout.Format.{bytesOf, concatMap}
 use Rattle.spec.specs.Node.Wire.{bitsOf}
 use Rattle.spec.specs.Node.WellFormed.{component}
 use Rattle.log_store.proofs.Bits.{every-at}
-use Rattle.node_send_entries.proofs.OfEntry.{component-number, floats-step}
+use Rattle.node_send_entries.proofs.EntryLaws.{component-number, floats-step}
 use Rattle.node_send_entries.proofs.entry.put_floats.Statement.{statement}
 use Rattle.node_send_entries.proofs.entry.put_floats.Tie as tie
 

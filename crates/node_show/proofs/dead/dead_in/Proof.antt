@@ -9,7 +9,7 @@ use Rattle.spec.specs.Lists.{any}
 use Rattle.node_shard.proofs.Loops.{any-on, any-stop, any-end}
 use Rattle.image_map.specs.Image.{noNode, nodesAt}
 use Rattle.node_show_row.specs.Rows.{deadAt}
-use Rattle.node_show.proofs.OfBytes.{nodes-fit, node-row}
+use Rattle.node_show.proofs.Bytes.{nodes-fit, node-row}
 use Rattle.node_show.proofs.dead.dead_in.Statement.{statement}
 use Rattle.node_show.proofs.dead.dead_in.Tie as tie
 

@@ -1,7 +1,7 @@
 -- `float_of` meets its contract: 0.0 less a float is its negation, and plus zero of zero. Assumes nothing.
 use native.Mathlib.Omega.{arith}
 use mathlib.Core.Path.{refl}
-use Rattle.num_position.proofs.OfFloats.{small, zero-less}
+use Rattle.num_position.proofs.FloatsLaws.{small, zero-less}
 use Rattle.num_position.proofs.floats.float_of.Statement.{statement}
 use Rattle.num_position.proofs.floats.float_of.Tie as tie
 

@@ -1,6 +1,6 @@
 -- `fields_of` meets its contract: a sign is 1 or 0. Assumes nothing.
 use borrow.Author.Needs.{needs}
-use Rattle.num_position.proofs.OfSigned.{sign-of}
+use Rattle.num_position.proofs.SignedLaws.{sign-of}
 use mathlib.Core.Path.{refl}
 use Rattle.num_position.proofs.parts.fields_of.Statement.{statement}
 use Rattle.num_position.proofs.parts.fields_of.Tie as tie

@@ -1,6 +1,6 @@
 -- `negated` meets its contract: 32 bits are below the sign. Assumes nothing.
 use borrow.Author.Needs.{needs}
-use Rattle.num_position.proofs.OfSigned.{negated-fits, negated-is}
+use Rattle.num_position.proofs.SignedLaws.{negated-fits, negated-is}
 use Rattle.num_position.proofs.signed.negated.Statement.{statement}
 use Rattle.num_position.proofs.signed.negated.Tie as tie
 

@@ -1,6 +1,6 @@
 -- `plain` meets its contract: 32 bits are below the sign. Assumes nothing.
 use borrow.Author.Needs.{needs}
-use Rattle.num_position.proofs.OfSigned.{plus-is}
+use Rattle.num_position.proofs.SignedLaws.{plus-is}
 use Rattle.num_position.proofs.signed.plain.Statement.{statement}
 use Rattle.num_position.proofs.signed.plain.Tie as tie
 

@@ -1,7 +1,7 @@
 -- `sizes_of` meets its contract: what the machine reads back from a field's bits is the field. Assumes nothing.
 use borrow.Author.Needs.{needs}
 use borrow.Author.Tests.{not-true, not-false}
-use Rattle.num_position.proofs.OfSizes.{sized-out, sized-in, ra-fits, dec-fits}
+use Rattle.num_position.proofs.Sizes.{sized-out, sized-in, ra-fits, dec-fits}
 use Rattle.num_position.proofs.signed.sizes_of.Statement.{statement}
 use Rattle.num_position.proofs.signed.sizes_of.Tie as tie
 

@@ -1,5 +1,5 @@
--- `split` meets its contract, by the laws of OfSigned. Assumes nothing.
-use Rattle.num_position.proofs.OfSigned.{less-fits, less-cast, size-fits, with-minus, plus-cast, with-plus}
+-- `split` meets its contract, by the laws of Signed. Assumes nothing.
+use Rattle.num_position.proofs.SignedLaws.{less-fits, less-cast, size-fits, with-minus, plus-cast, with-plus}
 use Rattle.num_position.proofs.signed.split.Statement.{statement}
 use Rattle.num_position.proofs.signed.split.Tie as tie
 

@@ -5,7 +5,7 @@ use mathlib.Core.Path.{_≡_, refl, sym, _∙_, ap}
 use mathlib.Core.List.{List, [], _∷_, _++_}
 use Prim.Native.Nat.{ℕ, _+_, _-_, _*_, _≤_, _<_}
 use lib.ListN.{length, getD, take, drop, set}
-use Rattle.test_input.proofs.OfStep.{starts-empty}
+use Rattle.test_input.proofs.StepLaws.{starts-empty}
 use Rattle.test_input.proofs.start.start.Statement.{statement}
 use Rattle.test_input.proofs.start.start.Tie as tie
 

@@ -5,8 +5,8 @@ use mathlib.Core.Path.{_≡_, refl, sym, _∙_, ap}
 use mathlib.Core.List.{List, [], _∷_, _++_}
 use Prim.Native.Nat.{ℕ, _+_, _-_, _*_, _≤_, _<_}
 use lib.ListN.{length, getD, take, drop, set}
-use Rattle.test_input.proofs.OfStep.{room-after, stepped}
-use Rattle.calls_apply.proofs.OfCall.{ready}
+use Rattle.test_input.proofs.StepLaws.{room-after, stepped}
+use Rattle.calls_apply.proofs.Call.{ready}
 use Rattle.test_input.proofs.step.step.Statement.{statement}
 use Rattle.test_input.proofs.step.step.Tie as tie
 

@@ -5,7 +5,7 @@ use mathlib.Core.Path.{_≡_, refl, sym, _∙_, ap}
 use mathlib.Core.List.{List, [], _∷_, _++_}
 use Prim.Native.Nat.{ℕ, _+_, _-_, _*_, _≤_, _<_}
 use lib.ListN.{length, getD, take, drop, set}
-use Rattle.image_map_loads.proofs.OfRows.{lent-long}
+use Rattle.image_map_loads.proofs.Rows.{lent-long}
 use Rattle.test_map.proofs.Stays.{stays}
 use Rattle.test_map.proofs.says.says.Statement.{statement}
 use Rattle.test_map.proofs.says.says.Tie as tie

@@ -6,7 +6,7 @@ use mathlib.Core.List.{List, [], _∷_, _++_}
 use Prim.Native.Nat.{ℕ, _+_, _-_, _*_, _≤_, _<_}
 use lib.ListN.{length, getD, take, drop, set}
 use borrow.Author.Tests.{not-true, not-false}
-use Rattle.image_map_loads.proofs.OfRows.{lent-long}
+use Rattle.image_map_loads.proofs.Rows.{lent-long}
 use Rattle.test_place.proofs.counts.walked.Statement.{statement}
 use Rattle.test_place.proofs.counts.walked.Tie as tie
 
