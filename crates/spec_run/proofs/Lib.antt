@@ -1,9 +1,3 @@
-pub mod Cases
 pub mod Ids
 pub mod Created
-pub mod Protocol
-pub mod Simulation
-pub mod Demand3
-pub mod Entries
-pub mod Paper
-pub mod Instance
+pub mod Cases

@@ -35,8 +35,8 @@ use Rattle.spec_run.specs.Rules.{allowed, allowedRun}
 use Rattle.spec_run.specs.Step.{step, run, onRequestLost, doubled, onRequestRepeats, onReplyLost, replyDoubled, onReplyRepeats, onOfferLost, givenUp, onOfferTimeout, onOutcomeLost, late, onOutcomeTimeout}
 use Rattle.spec_run.specs.Fresh.{Fresh}
 use Rattle.spec_run.specs.Claim.{Durable, Alike, Written}
-use Rattle.spec_run.proofs.Demand3 as model
-use Rattle.spec_run.proofs.Entries as entries
+use Rattle.thm_run.proofs.Demand3 as model
+use Rattle.thm_run.proofs.Entries as entries
 use Rattle.thm_durable.specs.Engine.{Engine, seen, host}
 use Rattle.thm_durable.specs.Calls.{Called, Calls}
 use Rattle.thm_durable.proofs.Simulated.{Simulated, nothing, one, then}

@@ -34,8 +34,8 @@ use Rattle.spec_run.specs.Rules.{allowed, allowedRun}
 use Rattle.spec_run.specs.Step.{step, run, onRequestLost, onRequestRepeats, onReplyLost, onReplyRepeats, onOfferLost, onOfferTimeout, onOutcomeLost, onOutcomeTimeout}
 use Rattle.spec_run.specs.Fresh.{Fresh}
 use Rattle.spec_run.specs.Claim.{Durable, Alike, Written}
-use Rattle.spec_run.proofs.Demand3 as model
-use Rattle.spec_run.proofs.Entries as entries
+use Rattle.thm_run.proofs.Demand3 as model
+use Rattle.thm_run.proofs.Entries as entries
 use Rattle.thm_durable.proofs.Simulated.{Simulated, nothing, one, then}
 use Rattle.thm_durable.proofs.Seen.{Beside}
 use Rattle.thm_durable.proofs.Durable.{given-beside, doubled-beside, reply-doubled-beside, late-beside}

@@ -7,7 +7,7 @@ use mathlib.Core.List.{List, [], _∷_}
 use Rattle.spec.specs.Layout.Format.{Bytes, All}
 use Rattle.spec_laws.proofs.Lists.{and-true}
 use Rattle.spec_run.proofs.Cases.Opened.{opened}
-use Rattle.spec_run.proofs.Simulation.Client.{are-bytes}
+use Rattle.thm_run.proofs.Simulation.Client.{are-bytes}
 use Rattle.map_check.specs.Lent.{wellFormedLent}
 use Rattle.image_map.specs.Image.{mapAt, mapLent}
 use Rattle.thm_one_node.specs.Images.{mapBytes, unused, new, shown, leased, written, stores, room, offset, count}

@@ -11,7 +11,7 @@ use Rattle.spec.specs.declared.DataNodeId.{DataNodeId}
 use Rattle.spec.specs.declared.Metric.the-variants.{Euclidean}
 use Rattle.spec.specs.declared.Role.the-variants.{Primary}
 use Rattle.spec_run.proofs.Cases.Opened.{opened}
-use Rattle.spec_run.proofs.Simulation.Client.{are-bytes}
+use Rattle.thm_run.proofs.Simulation.Client.{are-bytes}
 use Rattle.map_tables.specs.declared.Name.{Name}
 use Rattle.map_tables.specs.declared.ShardKey.{ShardKey}
 use Rattle.node_shard.specs.declared.Held.{Held}

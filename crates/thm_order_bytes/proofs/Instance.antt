@@ -18,7 +18,7 @@ use Rattle.spec.specs.Node.Shards.{heldShard}
 use Rattle.spec_laws.proofs.Lists.{some-same}
 use Rattle.spec_laws.proofs.Log.Edits.{opId}
 use Rattle.spec_run.proofs.Cases.Opened.{opened}
-use Rattle.spec_run.proofs.Simulation.Client.{are-bytes}
+use Rattle.thm_run.proofs.Simulation.Client.{are-bytes}
 use Rattle.log_store.specs.Table as table
 use Rattle.node_admit.specs.declared.Expiry.the-variants.{At}
 use Rattle.node_header.specs.declared.Node.{Node}

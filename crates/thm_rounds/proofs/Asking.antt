@@ -39,15 +39,15 @@ use Rattle.spec_run.specs.Rules.{allowedRun}
 use Rattle.spec_run.specs.Event.{Event}
 use Rattle.spec_run.specs.Fresh.{Fresh}
 use Rattle.spec_run.specs.Claim.{logIn, logOf}
-use Rattle.spec_run.proofs.Protocol.Base.{all-nth}
-use Rattle.spec_run.proofs.Protocol.State as proto
-use Rattle.spec_run.proofs.Protocol.State.{Lead, lead, Request, align, send, State, arrival}
-use Rattle.spec_run.proofs.Protocol.Run as protocol
-use Rattle.spec_run.proofs.Protocol.Run.{Inv}
-use Rattle.spec_run.proofs.Simulation.Relation.{World, AlignSim, SendSim, RequestSim, RequestAt, Sim}
-use Rattle.spec_run.proofs.Simulation.AtNode.{shard-found, held-facts, leads}
-use Rattle.spec_run.proofs.Simulation.Work as work
-use Rattle.spec_run.proofs.Demand3.{Invariant, worldOf, invariant}
+use Rattle.thm_run.proofs.Protocol.Base.{all-nth}
+use Rattle.thm_run.proofs.Protocol.State as proto
+use Rattle.thm_run.proofs.Protocol.State.{Lead, lead, Request, align, send, State, arrival}
+use Rattle.thm_run.proofs.Protocol.Run as protocol
+use Rattle.thm_run.proofs.Protocol.Run.{Inv}
+use Rattle.thm_run.proofs.Simulation.Relation.{World, AlignSim, SendSim, RequestSim, RequestAt, Sim}
+use Rattle.thm_run.proofs.Simulation.AtNode.{shard-found, held-facts, leads}
+use Rattle.thm_run.proofs.Simulation.Work as work
+use Rattle.thm_run.proofs.Demand3.{Invariant, worldOf, invariant}
 use Rattle.thm_rounds.specs.Rounds.{Leads, Still, holdersIn, isHolder, inRound, roomFor, stepsFor, Round, Rounds, runRounds, CaughtUp, Enough}
 use Rattle.thm_rounds.proofs.Steady.{Scene, Steady, SteadyAt, Closed, steady-run, p-follows}
 use Rattle.thm_rounds.proofs.Forget.{forget, forget-inv, forget-sim}

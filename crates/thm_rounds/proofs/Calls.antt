@@ -40,12 +40,12 @@ use Rattle.spec_laws.proofs.Log.Store.{store-answer}
 use Rattle.spec_laws.proofs.Map.Rows.{every-tail, find-true, find-update}
 use Rattle.spec_run.specs.State as real
 use Rattle.spec_run.specs.Step as step
-use Rattle.spec_run.proofs.Protocol.State as proto
-use Rattle.spec_run.proofs.Protocol.State.{Lead, Role, lead, Node, State}
-use Rattle.spec_run.proofs.Simulation.Lists.{any-find}
-use Rattle.spec_run.proofs.Simulation.Rows.{or-no, or-yes}
-use Rattle.spec_run.proofs.Simulation.Relation.{World, RoleSim, LeadSim, HeldSim, NodeSim, AlignSim, CopySim, LoneSim, SendSim, Sim}
-use Rattle.spec_run.proofs.Simulation.AtNode.{at-own, shard-found, held-facts, header}
+use Rattle.thm_run.proofs.Protocol.State as proto
+use Rattle.thm_run.proofs.Protocol.State.{Lead, Role, lead, Node, State}
+use Rattle.thm_run.proofs.Simulation.Lists.{any-find}
+use Rattle.thm_run.proofs.Simulation.Rows.{or-no, or-yes}
+use Rattle.thm_run.proofs.Simulation.Relation.{World, RoleSim, LeadSim, HeldSim, NodeSim, AlignSim, CopySim, LoneSim, SendSim, Sim}
+use Rattle.thm_run.proofs.Simulation.AtNode.{at-own, shard-found, held-facts, header}
 use Rattle.thm_rounds.specs.Rounds.{roomFor}
 
 -- the test of the lent state, of the run's own shard

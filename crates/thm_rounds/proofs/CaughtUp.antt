@@ -25,12 +25,12 @@ use Rattle.spec_run.specs.Rules.{allowed, allowedRun}
 use Rattle.spec_run.specs.Event.{Event}
 use Rattle.spec_run.specs.Fresh.{Fresh}
 use Rattle.spec_run.specs.Claim.{logIn, logOf}
-use Rattle.spec_run.proofs.Protocol.Base.{same-or}
-use Rattle.spec_run.proofs.Protocol.State as proto
-use Rattle.spec_run.proofs.Protocol.State.{Lead, lead}
-use Rattle.spec_run.proofs.Simulation.Relation.{World, HeldSim, Sim}
-use Rattle.spec_run.proofs.Simulation.AtNode.{shard-cases, shard-found, held-facts, leads}
-use Rattle.spec_run.proofs.Demand3.{Invariant, worldOf, invariant}
+use Rattle.thm_run.proofs.Protocol.Base.{same-or}
+use Rattle.thm_run.proofs.Protocol.State as proto
+use Rattle.thm_run.proofs.Protocol.State.{Lead, lead}
+use Rattle.thm_run.proofs.Simulation.Relation.{World, HeldSim, Sim}
+use Rattle.thm_run.proofs.Simulation.AtNode.{shard-cases, shard-found, held-facts, leads}
+use Rattle.thm_run.proofs.Demand3.{Invariant, worldOf, invariant}
 use Rattle.thm_rounds.specs.Rounds.{Leads, Still, holdersIn, isHolder, inRound, Round, Rounds, runRounds, CaughtUp, Enough}
 use Rattle.thm_rounds.proofs.Steady.{Scene, Steady, SteadyAt, Closed}
 use Rattle.thm_rounds.proofs.Forget.{forget, forget-inv, forget-sim}

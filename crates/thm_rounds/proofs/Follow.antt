@@ -50,11 +50,11 @@ use Rattle.spec_run.specs.Event.{
   outcomeLost,
   outcomeTimesOut,
 }
-use Rattle.spec_run.proofs.Protocol.State as proto
-use Rattle.spec_run.proofs.Protocol.State.{Lead, lead, State}
-use Rattle.spec_run.proofs.Protocol.Run.{Inv}
-use Rattle.spec_run.proofs.Simulation.Relation.{World, Sim, RoleSim, LeadSim}
-use Rattle.spec_run.proofs.Simulation.Steps.{Quiet, on-quiet}
+use Rattle.thm_run.proofs.Protocol.State as proto
+use Rattle.thm_run.proofs.Protocol.State.{Lead, lead, State}
+use Rattle.thm_run.proofs.Protocol.Run.{Inv}
+use Rattle.thm_run.proofs.Simulation.Relation.{World, Sim, RoleSim, LeadSim}
+use Rattle.thm_run.proofs.Simulation.Steps.{Quiet, on-quiet}
 use Rattle.thm_rounds.specs.Rounds.{Still, inRound, roomFor, stepFor, stepsFor}
 use Rattle.thm_rounds.proofs.Steady.{Scene, Steady, SteadyAt, Closed, steady-run}
 use Rattle.thm_rounds.proofs.Peer.{Far}

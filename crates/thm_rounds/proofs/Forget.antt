@@ -4,10 +4,10 @@ use Prim.Native.Nat.{ℕ}
 use mathlib.Core.Path.{_≡_, sym, subst}
 use mathlib.Core.List.{List, []}
 use Rattle.spec_run.specs.State as real
-use Rattle.spec_run.proofs.Protocol.Base.{All}
-use Rattle.spec_run.proofs.Protocol.State.{State}
-use Rattle.spec_run.proofs.Protocol.Run.{Inv}
-use Rattle.spec_run.proofs.Simulation.Relation.{World, RequestAt, ReplySim, Sim}
+use Rattle.thm_run.proofs.Protocol.Base.{All}
+use Rattle.thm_run.proofs.Protocol.State.{State}
+use Rattle.thm_run.proofs.Protocol.Run.{Inv}
+use Rattle.thm_run.proofs.Simulation.Relation.{World, RequestAt, ReplySim, Sim}
 use Rattle.thm_rounds.specs.Rounds.{Still}
 
 abbrev pub forget : State → State

@@ -22,8 +22,8 @@ use Rattle.spec_run.specs.Step.{run}
 use Rattle.spec_run.specs.Rules.{allowedRun}
 use Rattle.spec_run.specs.Claim.{logOf}
 use Rattle.spec_run.proofs.Created.{started}
-use Rattle.spec_run.proofs.Simulation.AtNode.{shard-cases}
-use Rattle.spec_run.proofs.Demand3.{worldOf, invariant}
+use Rattle.thm_run.proofs.Simulation.AtNode.{shard-cases}
+use Rattle.thm_run.proofs.Demand3.{worldOf, invariant}
 use Rattle.spec_run.proofs.Cases.Opened.{opened}
 use Rattle.spec_run.proofs.Cases.Start.{start, created, info, key}
 use Rattle.spec_run.proofs.Cases.Fresh.{start-fresh, start-shard}

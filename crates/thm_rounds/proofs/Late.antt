@@ -8,9 +8,9 @@ use lib.ListN.{length}
 use Rattle.spec.specs.Log.{delete}
 use Rattle.spec.specs.declared.Metric.the-variants.{Euclidean}
 use Rattle.spec.proofs.Opened as model
-use Rattle.spec_run.proofs.Protocol.Base.{upd, upd2}
-use Rattle.spec_run.proofs.Protocol.State as proto
-use Rattle.spec_run.proofs.Protocol.State.{State, Role, backup, lead, Move, writing, alignment, batch, arrival, counting, run, fresh}
+use Rattle.thm_run.proofs.Protocol.Base.{upd, upd2}
+use Rattle.thm_run.proofs.Protocol.State as proto
+use Rattle.thm_run.proofs.Protocol.State.{State, Role, backup, lead, Move, writing, alignment, batch, arrival, counting, run, fresh}
 
 -- so many Writes at node 1
 unfoldable pub many : ℕ → List Move

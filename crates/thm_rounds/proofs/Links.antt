@@ -18,7 +18,7 @@ use Rattle.spec.specs.declared.Metric.{Metric}
 use Rattle.spec_run.specs.State.{State, Request, Reply, setMap, setNode, setRequests, setReplies, setOffers, setWrites}
 use Rattle.spec_run.specs.Event.{Event, command, mapShown, leaseGranted, clientWrites, workerSteps, requestArrives, replyArrives}
 use Rattle.spec_run.specs.Step.{removed, sentOf, step, run, onShown, onCommand, onGrant, onWrite, recordWrite, onWork, posted, heard, answered, arrives, onArrival, acked, replies, onReply}
-use Rattle.spec_run.proofs.Protocol.Base.{All, at-pair}
+use Rattle.thm_run.proofs.Protocol.Base.{All, at-pair}
 use Rattle.thm_rounds.specs.Rounds.{Still}
 use Rattle.thm_rounds.proofs.UnderWay.{link}
 

@@ -13,14 +13,14 @@ use Rattle.spec.specs.Map.Change.{holds}
 use Rattle.spec_laws.proofs.Lists.{not-both, Within, within-length, within-same}
 use Rattle.spec_laws.proofs.Log.Numbered.{Numbered, numbered-within, from-at}
 use Rattle.spec_laws.proofs.Log.Store.{store-cases, store-epoch, push-length}
-use Rattle.spec_run.proofs.Protocol.Base.{upd-all, upd-same, upd-other}
-use Rattle.spec_run.proofs.Protocol.State.{Lead, lead, Node, State, withAck, withPeer}
-use Rattle.spec_run.proofs.Protocol.Ghost.{History}
-use Rattle.spec_run.proofs.Protocol.Inv.{Clauses}
-use Rattle.spec_run.proofs.Protocol.OnPropose.{lead-of}
-use Rattle.spec_run.proofs.Protocol.OnSend.{log-whole}
-use Rattle.spec_run.proofs.Protocol.Reached.{ReachedOk}
-use Rattle.spec_run.proofs.Protocol.Run.{Inv}
+use Rattle.thm_run.proofs.Protocol.Base.{upd-all, upd-same, upd-other}
+use Rattle.thm_run.proofs.Protocol.State.{Lead, lead, Node, State, withAck, withPeer}
+use Rattle.thm_run.proofs.Protocol.Ghost.{History}
+use Rattle.thm_run.proofs.Protocol.Inv.{Clauses}
+use Rattle.thm_run.proofs.Protocol.OnPropose.{lead-of}
+use Rattle.thm_run.proofs.Protocol.OnSend.{log-whole}
+use Rattle.thm_run.proofs.Protocol.Reached.{ReachedOk}
+use Rattle.thm_run.proofs.Protocol.Run.{Inv}
 use Rattle.thm_rounds.proofs.Steady.{Scene, Steady, SteadyAt, Closed, own-a}
 
 -- ---- entries that follow one another are all stored

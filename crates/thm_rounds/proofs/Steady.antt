@@ -15,20 +15,20 @@ use Rattle.spec.specs.Log.{Log, End, cutTo, storeAll, entriesFrom}
 use Rattle.spec.specs.Map.Change.{holds}
 use Rattle.spec_laws.proofs.Lists.{by-test, not-both}
 use Rattle.spec_laws.proofs.Log.Store.{store-all-epoch}
-use Rattle.spec_run.proofs.Protocol.Base.{All, all-map, all-snoc, all-nth, upd, upd-all, upd-same, upd-other, same-or, upd2, upd2-all, removeAt}
-use Rattle.spec_run.proofs.Protocol.Sets.{without}
-use Rattle.spec_run.proofs.Protocol.State.{Lead, Role, backup, lead, Node, Request, align, send, Answer, adopts, stores, staleAlign, staleSend, Reply, Proposal, Outcome, Accepted, State, setMap, setNode, setRequests, addReply, setProposals, setOutcomes, addAcknowledged}
-use Rattle.spec_run.proofs.Protocol.State.{Move, promotion, decision, rejection, outcome, silence, showing, writing, alignment, batch, arrival, counting, joining, suspicion, waiting, step, run}
-use Rattle.spec_run.proofs.Protocol.State.{withRole, withAck, withPeer, leadAt, expanded, shrunk, mayTake, takeAs, onTake, onForget, onUntell, suspectAs, onSuspect, allAcked, ackLead, ackAs, onAcknowledge, post, alignAs, onAlign, sendBatch, sendAs, onSend, leadsFrom, replied, adopting, storing, hearOne, hearAs, onHear, countedAs, countRole, countAs, onCount, mayJoin, joinLead, joinAs, onJoin, toldAs, tellAs, onTell}
-use Rattle.spec_run.proofs.Protocol.Ghost.{History}
-use Rattle.spec_run.proofs.Protocol.Inv.{LeadOk, RequestOk, Clauses}
-use Rattle.spec_run.proofs.Protocol.Frame.{is-lead, lead-same}
-use Rattle.spec_run.proofs.Protocol.OnPropose.{lead-of}
-use Rattle.spec_run.proofs.Protocol.Reached.{ReachedOk, Reached}
-use Rattle.spec_run.proofs.Protocol.Run as protocol
-use Rattle.spec_run.proofs.Protocol.Run.{Inv}
-use Rattle.spec_run.proofs.Simulation.Relation.{World}
-use Rattle.spec_run.proofs.Simulation.Frame.{Gentle}
+use Rattle.thm_run.proofs.Protocol.Base.{All, all-map, all-snoc, all-nth, upd, upd-all, upd-same, upd-other, same-or, upd2, upd2-all, removeAt}
+use Rattle.thm_run.proofs.Protocol.Sets.{without}
+use Rattle.thm_run.proofs.Protocol.State.{Lead, Role, backup, lead, Node, Request, align, send, Answer, adopts, stores, staleAlign, staleSend, Reply, Proposal, Outcome, Accepted, State, setMap, setNode, setRequests, addReply, setProposals, setOutcomes, addAcknowledged}
+use Rattle.thm_run.proofs.Protocol.State.{Move, promotion, decision, rejection, outcome, silence, showing, writing, alignment, batch, arrival, counting, joining, suspicion, waiting, step, run}
+use Rattle.thm_run.proofs.Protocol.State.{withRole, withAck, withPeer, leadAt, expanded, shrunk, mayTake, takeAs, onTake, onForget, onUntell, suspectAs, onSuspect, allAcked, ackLead, ackAs, onAcknowledge, post, alignAs, onAlign, sendBatch, sendAs, onSend, leadsFrom, replied, adopting, storing, hearOne, hearAs, onHear, countedAs, countRole, countAs, onCount, mayJoin, joinLead, joinAs, onJoin, toldAs, tellAs, onTell}
+use Rattle.thm_run.proofs.Protocol.Ghost.{History}
+use Rattle.thm_run.proofs.Protocol.Inv.{LeadOk, RequestOk, Clauses}
+use Rattle.thm_run.proofs.Protocol.Frame.{is-lead, lead-same}
+use Rattle.thm_run.proofs.Protocol.OnPropose.{lead-of}
+use Rattle.thm_run.proofs.Protocol.Reached.{ReachedOk, Reached}
+use Rattle.thm_run.proofs.Protocol.Run as protocol
+use Rattle.thm_run.proofs.Protocol.Run.{Inv}
+use Rattle.thm_run.proofs.Simulation.Relation.{World}
+use Rattle.thm_run.proofs.Simulation.Frame.{Gentle}
 
 -- `a` leads at `E` with `log`; `p` is the peer that is followed; `Aligning` says whether it may still be asked to align
 pub record Scene : Type 1 where

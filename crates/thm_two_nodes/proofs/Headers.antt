@@ -10,7 +10,7 @@ use Rattle.spec.specs.declared.Replica.{Replica}
 use Rattle.spec.specs.declared.Metric.the-variants.{Euclidean}
 use Rattle.spec.specs.declared.Role.the-variants.{Backup, Primary}
 use Rattle.spec_run.proofs.Cases.Opened.{opened}
-use Rattle.spec_run.proofs.Simulation.Client.{are-bytes}
+use Rattle.thm_run.proofs.Simulation.Client.{are-bytes}
 use Rattle.node_shard.specs.declared.Held.{Held}
 use Rattle.node_admit.specs.declared.Expiry.{Expiry}
 use Rattle.node_admit.specs.declared.Expiry.the-variants.{Never, At}
