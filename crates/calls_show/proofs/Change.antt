@@ -22,7 +22,7 @@ use Rattle.node_show.specs.declared.ShownAnswer.the-variants as S
 use Rattle.node_show.specs.Rows.{Taken, heldRowOf, startOf}
 use Rattle.node_show.specs.Shows.{viewStarts, TakesMap}
 use Rattle.node_show.proofs.Shown.{walked-open, walked-apart, walked-slots, taken-full, taken-whole}
-use Rattle.node_show.proofs.Bytes.{version-is, versioned}
+use Rattle.image_show.proofs.MapRows.{version-is, versioned}
 use Rattle.node_show_slots.specs.Slots.{openFits, Assigns}
 use Rattle.calls_parts.specs.Answer.{answerLent, numberPut}
 use Rattle.image_parts.proofs.Images.{length-items}

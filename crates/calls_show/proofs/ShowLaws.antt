@@ -17,7 +17,7 @@ use Rattle.node_show.specs.declared.NodeShown.{NodeShown}
 use Rattle.node_show.specs.declared.ShownAnswer.the-variants as S
 use Rattle.node_show.specs.Shows.{viewStarts, ShowsMap}
 use Rattle.node_show.proofs.Shown.{shown-malformed, shown-older, shown-dead, shown-taken}
-use Rattle.node_show.proofs.Bytes.{version-is, dead-is}
+use Rattle.image_show.proofs.MapRows.{version-is, dead-is}
 use Rattle.node_show_row.specs.Rows.{deadAt}
 use Rattle.node_hear.specs.Hears.{HearsMap}
 use Rattle.node_hear.proofs.Hears.{map-formed, map-malformed}

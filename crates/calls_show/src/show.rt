@@ -20,8 +20,8 @@ use image_header_set::back::put_back;
 use image_header_set::version::put_version;
 use image_map_check::layout::NODES_USED;
 use image_map_check::layout::VERSION;
+use image_show::dead::dead_in;
 use image_show::quiet::is_quiet;
-use node_show::dead::dead_in;
 use wire_put::put::put_bytes;
 
 // Where a header has them.

@@ -31,7 +31,7 @@ use Rattle.node_show.specs.declared.Start.{Start}
 use Rattle.node_show.specs.Rows.{Taken, viewStart, startOf, listedShown}
 use Rattle.node_show.specs.Shows.{viewStarts}
 use Rattle.node_show.proofs.Walk.{Walking, walk-start, walk-over, walk-ninth, noRow, walks-full, walks-whole, listed}
-use Rattle.node_show.proofs.Bytes.{shards-fit, shard-row, row-sized, turn-unlisted, turn-skip, turn-take}
+use Rattle.image_show.proofs.MapRows.{shards-fit, shard-row, row-sized, turn-unlisted, turn-skip, turn-take}
 use Rattle.calls_header.specs.Shows.{workerBytes, startBytes}
 use Rattle.calls_header.proofs.Starts.{noStart}
 use Rattle.calls_show_walk.specs.declared.RowMade.{RowMade}

@@ -1,2 +1,3 @@
+pub mod MapRows
 pub mod RowLaws
 pub mod QuietLaws

@@ -28,7 +28,7 @@ use Rattle.image_map_row.specs.Rows as rows
 use Rattle.image_map.specs.Image.{mapAt}
 use Rattle.node_show.specs.Walks.{shardsAfter}
 use Rattle.node_show.proofs.Walk.{noRow, sized-at, unlisted, listed}
-use Rattle.node_show.proofs.Bytes.{shards-fit, shard-row}
+use Rattle.image_show.proofs.MapRows.{shards-fit, shard-row}
 use Rattle.image_header_row.specs.Rows.{heldRowAt}
 use Rattle.image_header.specs.Image.{nodeAt}
 use Rattle.image_header_check.specs.Rows.{Counts}

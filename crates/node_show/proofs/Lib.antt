@@ -1,4 +1,3 @@
 pub mod Listed
 pub mod Walk
 pub mod Shown
-pub mod Bytes

@@ -6,8 +6,6 @@ use node_shard::Nodes;
 use spec::Epoch;
 use spec::Metric;
 
-pub mod dead;
-
 // The workers to start for one shard, by rising node: what each is started with, and its peers.
 pub struct Start {
     pub key: ShardKey,

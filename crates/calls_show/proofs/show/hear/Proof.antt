@@ -10,7 +10,7 @@ use Rattle.image_header.specs.Image.{nodeAt}
 use Rattle.image_header.proofs.Image.{lent-long}
 use Rattle.image_header_check.proofs.Rows.{counted}
 use Rattle.map_tables.specs.declared.Nodes.{Nodes}
-use Rattle.node_show.proofs.Bytes.{nodes-is}
+use Rattle.image_show.proofs.MapRows.{nodes-is}
 use Rattle.calls_show.proofs.ShowLaws.{hear-older, hear-dead, hear-taken}
 use Rattle.calls_show.proofs.show.hear.Statement.{statement}
 use Rattle.calls_show.proofs.show.hear.Tie as tie

@@ -8,7 +8,7 @@ use lib.ListN.{length, getD, take, drop, set}
 use Rattle.image_header.specs.Image.{nodeAt}
 use Rattle.image_header_set.specs.Version.{versionSet}
 use Rattle.image_map.specs.Image.{mapAt}
-use Rattle.node_show.proofs.Bytes.{version-is}
+use Rattle.image_show.proofs.MapRows.{version-is}
 use Rattle.calls_show.specs.Shown.{noStarts}
 use Rattle.calls_show.proofs.Quiet.{quiet-taken}
 use Rattle.calls_show.proofs.show.take.Statement.{statement}

@@ -9,7 +9,7 @@ use Rattle.map_tables.specs.declared.CollectionRow.{CollectionRow}
 use Rattle.image_header_set.proofs.Place.{place-is}
 use Rattle.image_map.specs.Image.{collectionsAt}
 use Rattle.node_show.proofs.Listed.{noCollection, metric-none, metric-some}
-use Rattle.node_show.proofs.Bytes.{collections-fit, collection-row}
+use Rattle.image_show.proofs.MapRows.{collections-fit, collection-row}
 use Rattle.calls_show_walk.proofs.row.take_row.Statement.{statement}
 use Rattle.calls_show_walk.proofs.row.take_row.Tie as tie
 

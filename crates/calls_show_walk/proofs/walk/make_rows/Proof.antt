@@ -8,7 +8,7 @@ use lib.ListN.{length, getD, take, drop, set}
 use mathlib.Core.Bool.{true, false}
 use Rattle.image_map.specs.Image.{mapAt}
 use Rattle.image_header.specs.Image.{nodeAt}
-use Rattle.node_show.proofs.Bytes.{shards-many, collections-many}
+use Rattle.image_show.proofs.MapRows.{shards-many, collections-many}
 use Rattle.calls_show_walk.proofs.WalkLaws.{Going, listed-by, going-sized, going-start, going-past, going-skip, going-full, going-take, going-end}
 use Rattle.calls_show_walk.proofs.walk.make_rows.Statement.{statement}
 use Rattle.calls_show_walk.proofs.walk.make_rows.Tie as tie

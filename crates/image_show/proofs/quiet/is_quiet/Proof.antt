@@ -10,7 +10,7 @@ use borrow.Author.Tests.{eqb-true, not-false}
 use Rattle.spec_laws.proofs.Lists.{not-both}
 use Rattle.image_map.specs.Image.{mapAt}
 use Rattle.image_header.specs.Image.{nodeAt}
-use Rattle.node_show.proofs.Bytes.{shards-many}
+use Rattle.image_show.proofs.MapRows.{shards-many}
 use Rattle.image_header_set.proofs.Place.{few-there}
 use Rattle.image_show.proofs.QuietLaws.{Quieting, quiet-start, quiet-sized, turn-past, turn-on, turn-end}
 use Rattle.image_show.proofs.quiet.is_quiet.Statement.{statement}

@@ -9,9 +9,9 @@ use Rattle.spec.specs.Lists.{any}
 use Rattle.node_shard.proofs.Loops.{any-on, any-stop, any-end}
 use Rattle.image_map.specs.Image.{noNode, nodesAt}
 use Rattle.node_show_row.specs.Rows.{deadAt}
-use Rattle.node_show.proofs.Bytes.{nodes-fit, node-row}
-use Rattle.node_show.proofs.dead.dead_in.Statement.{statement}
-use Rattle.node_show.proofs.dead.dead_in.Tie as tie
+use Rattle.image_show.proofs.MapRows.{nodes-fit, node-row}
+use Rattle.image_show.proofs.dead.dead_in.Statement.{statement}
+use Rattle.image_show.proofs.dead.dead_in.Tie as tie
 
 abbrev Inv-loop : tie.InvT-loop
 Inv-loop map count id incarnation i₀ i = (i ≤ count) × (any (deadAt id incarnation) (take (nodesAt map .count) (nodesAt map .items)) ≡ any (deadAt id incarnation) (drop i (take (nodesAt map .count) (nodesAt map .items))))
