@@ -13,15 +13,13 @@ ghost use Rattle.calls_ack.specs.Deeds.{deedHeld, deedAnswer};
 use image_header_row::peers::peer_at;
 use image_header_set::set::set_peer;
 use image_header_set::set::step_down;
+use image_layout::header::PEERS;
 use node_acks::joining;
 use node_acks::row_acked;
 use node_shard::Deed;
 use node_shard::Reply;
 use node_shard::Sent;
 use spec::Peer;
-
-// Where a row has its peers.
-const PEERS: usize = 256;
 
 // Internal: what a reply to that step asks for.
 pub fn asks(s: Sent, r: Reply, epoch: u64) -> Deed

@@ -8,13 +8,11 @@ use image_header_row::peers::peer_at;
 use image_header_set::peers::place_of;
 use image_header_set::set::set_own;
 use image_header_set::set::set_peer;
+use image_layout::header::PEERS;
 use image_parts::codes::flag_of;
 use node_outcomes::own_after;
 use node_outcomes::row_settled;
 use node_shard::rows::leads;
-
-// Where a row has its peers.
-const PEERS: usize = 256;
 
 // Internal: nothing without a primary at that epoch; the peer's row, if it has one, and whether the node stays in its own ack set.
 pub fn settle_row(out: &mut [u8], row: usize, me: u64, epoch: u64, peer: u64, left: bool)

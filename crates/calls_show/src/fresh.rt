@@ -4,9 +4,7 @@ ghost use lib.ListN.{length};
 ghost use Rattle.image_header.specs.Becomes.{HeaderWrites};
 ghost use Rattle.calls_header.specs.Fresh.{freshNode, Freshens};
 use image_header_put::put_head;
-
-// How long a header's image is.
-const IMAGE: usize = 10288;
+use image_layout::header::IMAGE;
 
 // Internal: no shard, no lease and no map known. The first bytes say so: rows past the count are not looked at.
 pub fn put_fresh(header: &mut [u8], id: u64, incarnation: u64)

@@ -18,20 +18,15 @@ use calls_show_walk::walk::make_rows;
 use image_header::is_lent;
 use image_header_set::back::put_back;
 use image_header_set::version::put_version;
+use image_layout::header::ID;
+use image_layout::header::INCARNATION;
+use image_layout::header::KNOWN;
+use image_layout::header::SHARDS;
 use image_map_check::layout::NODES_USED;
 use image_map_check::layout::VERSION;
 use image_show::dead::dead_in;
 use image_show::quiet::is_quiet;
 use wire_put::put::put_bytes;
-
-// Where a header has them.
-const ID: usize = 0;
-
-const INCARNATION: usize = 8;
-
-const KNOWN: usize = 16;
-
-const COUNT: usize = 24;
 
 // Internal: an older map is ignored: the rows in use are in their one form, and no worker starts; 23 without room to say so.
 fn ignore(header: &mut [u8], count: usize, answer: &mut [u8]) -> u32
@@ -117,7 +112,7 @@ fn hear(header: &mut [u8], map: &[u8], fresh: u64, starts: &mut [u8], answer: &m
     ensures { λ r. ⌜ ShowsAt (now (header .entry)) (now (header .exit)) (now (map .entry)) (now (starts .entry)) (now (starts .exit))
         (now (answer .entry)) (now (answer .exit)) fresh r ⌝ }
 {
-    let count = num::get8(header, COUNT) as usize;
+    let count = num::get8(header, SHARDS) as usize;
     if num::get8(map, VERSION) < num::get8(header, KNOWN) {
         return ignore(header, count, answer);
     }

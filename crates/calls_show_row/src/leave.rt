@@ -9,19 +9,15 @@ use crate::set::set_holders;
 use crate::set::set_record;
 use image_header_row::held::role_at;
 use image_header_set::set::step_down;
+use image_layout::header::COUNT;
+use image_layout::header::EPOCH;
+use image_layout::header::ROLE;
 use map_tables::ShardRow;
 use node_shard::rows::in_nodes;
 use node_show_row::rows::leader_of;
 use node_show_shard::is_leader;
 use node_show_shard::rising_to;
 use spec::Role;
-
-// Where a row has them.
-const EPOCH: usize = 64;
-
-const COUNT: usize = 88;
-
-const ROLE: usize = 108;
 
 // A new record: none of the peers was known. 33 where they do not fit.
 fn rise(out: &mut [u8], at: usize, me: u64, row: ShardRow) -> usize

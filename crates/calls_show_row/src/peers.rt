@@ -11,6 +11,7 @@ ghost use Rattle.calls_show_row.specs.Peers.{peersIn, PeersBecome, Peers
 use image_header_row::peers::peer_at;
 use image_header_set::peers::place_of;
 use image_header_set::set::set_peer;
+use image_layout::header::PEERS;
 use node_shard::rows::both;
 use node_shard::rows::in_nodes;
 use node_shard::rows::is_holder;
@@ -18,9 +19,6 @@ use node_show_shard::row_new;
 use spec::DataNodeId;
 use spec::Peer;
 use spec::Replica;
-
-// Where a row has them.
-const PEERS: usize = 256;
 
 // Where a row of `node` belongs.
 fn place_for(s: &[u8], at: usize, count: usize, node: u64) -> usize

@@ -5,14 +5,10 @@ use crate::leave::leave;
 use crate::news::copy_row;
 use crate::news::count_new;
 use crate::set::set_holders;
+use image_layout::header::COUNT;
+use image_layout::header::PEERS;
+use image_layout::header::ROW;
 use map_tables::ShardRow;
-
-// How long a row is, and where it has its peers and their number.
-const ROW: usize = 1280;
-
-const COUNT: usize = 88;
-
-const PEERS: usize = 256;
 
 // The replicas that the map lists, and nothing else: also of a shard whose collection the map lacks.
 pub fn refresh_row(out: &mut [u8], at: usize, row: ShardRow)

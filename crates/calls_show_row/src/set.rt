@@ -6,24 +6,17 @@ ghost use Rattle.image_header_set.specs.Row.{RowBecomes, countSet};
 ghost use Rattle.calls_show_row.specs.Set.{holdersSet, recordSet};
 use image_header_row::held::put_role;
 use image_header_set::set::set_own;
+use image_layout::header::COUNT;
+use image_layout::header::EPOCH;
+use image_layout::header::HOLDERS;
+use image_layout::header::LAST;
+use image_layout::header::REPLICAS;
+use image_layout::header::ROLE;
 use image_parts::replicas::put_replicas;
 use map_tables::Holders;
 use spec::Epoch;
 use spec::Offset;
 use spec::Role;
-
-// Where a row has them.
-const EPOCH: usize = 64;
-
-const LAST: usize = 72;
-
-const HOLDERS: usize = 80;
-
-const COUNT: usize = 88;
-
-const ROLE: usize = 108;
-
-const REPLICAS: usize = 128;
 
 // The replicas that the map lists.
 pub fn set_holders(out: &mut [u8], at: usize, list: Holders)

@@ -15,6 +15,10 @@ use crate::leave::leave;
 use crate::news::copy_row;
 use image_header_row::held::role_at;
 use image_header_set::peers::place_of;
+use image_layout::header::COUNT;
+use image_layout::header::PEERS;
+use image_layout::header::ROLE;
+use image_layout::header::ROW;
 use image_parts::bytes::in_use;
 use image_parts::keys::key_at;
 use map_tables::ShardKey;
@@ -23,15 +27,6 @@ use node_show_row::rows::epoch_of;
 use spec::Metric;
 use wire_write::put::put_byte;
 use wire_write::put::put_key;
-
-// How long a row is, and where it has these.
-const ROW: usize = 1280;
-
-const COUNT: usize = 88;
-
-const ROLE: usize = 108;
-
-const PEERS: usize = 256;
 
 // A key as on the wire.
 fn put_named(out: &mut [u8], at: usize, k: ShardKey)

@@ -20,6 +20,9 @@ use calls_show_row::row::workers_of;
 use calls_show_row::starts::put_workers;
 use image_header_begin::rows::set_begun;
 use image_header_check::place::place_at;
+use image_layout::header::ID;
+use image_layout::header::ROW;
+use image_layout::header::ROWS;
 use image_map_check::layout::COLLECTION;
 use image_map_check::layout::COLLECTIONS;
 use image_map_check::layout::COLLECTIONS_USED;
@@ -29,13 +32,6 @@ use map_tables::ShardKey;
 use map_tables::ShardRow;
 use spec::Metric;
 use wire_put::put::put_bytes;
-
-// Where the header has its id, its rows and the bytes of one.
-const ID: usize = 0;
-
-const ROWS: usize = 48;
-
-const ROW: usize = 1280;
 
 // As many shards as a node holds.
 const HELD: usize = 8;

@@ -8,11 +8,10 @@ ghost use Rattle.image_header_check.specs.Rows.{Counts};
 ghost use Rattle.node_show_slots.specs.Slots.{openFits};
 ghost use Rattle.calls_show_walk.specs.Slots.{SlotsGiven};
 use image_header_begin::places::free_slot;
+use image_layout::header::ROW;
 
 // Where a header has its rows, and a row its slot.
 const SLOTS: usize = 96;
-
-const ROW: usize = 1280;
 
 // Each shard that begins gets the lowest slot that no shard held after has: a freed place is used again.
 pub fn give_slots(out: &mut [u8], count: usize)

@@ -11,16 +11,13 @@ ghost use Rattle.image_header_check.specs.Rows.{Counts};
 ghost use Rattle.calls_show_walk.specs.Rows.{Made};
 use crate::RowsMade;
 use crate::row::take_row;
+use image_layout::header::ID;
+use image_layout::header::INCARNATION;
 use image_map_check::layout::SHARD;
 use image_map_check::layout::SHARDS;
 use image_map_check::layout::SHARDS_USED;
 use image_map_row::shards::shard_at;
 use node_show_row::rows::is_listed;
-
-// Where a header has them.
-const ID: usize = 0;
-
-const INCARNATION: usize = 8;
 
 // One that does not list this node under its incarnation is not held (any more). No lent byte is written.
 pub fn make_rows(

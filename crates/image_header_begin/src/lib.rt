@@ -9,19 +9,15 @@ use crate::places::key_place;
 use crate::rows::open_row;
 use crate::rows::set_begun;
 use image_header_set::back::put_back;
+use image_layout::header::ROW;
+use image_layout::header::ROWS;
+use image_layout::header::SHARDS;
 use map_tables::ShardKey;
 use spec::Epoch;
 use spec::Metric;
 
 pub mod places;
 pub mod rows;
-
-// Where the rows begin, the bytes of one, and where the header counts them (docs/IMAGES.md).
-const ROWS: usize = 48;
-
-const ROW: usize = 1280;
-
-const SHARDS: usize = 24;
 
 // By its key, in the lowest free slot, under the epoch, with no entries. 23 for a ninth is the caller's.
 pub fn begin(header: &mut [u8], key: ShardKey, epoch: Epoch, metric: Metric)

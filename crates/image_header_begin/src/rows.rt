@@ -6,26 +6,19 @@ ghost use Rattle.image_header_row.specs.Rows.{heldRowAt};
 ghost use Rattle.image_header_set.specs.Row.{RowBecomes};
 ghost use Rattle.image_header_begin.specs.Begun.{Opened, begunSet};
 use image_header_set::set::set_aligned;
+use image_layout::header::HOLDERS;
+use image_layout::header::METRIC;
+use image_layout::header::ROW;
+use image_layout::header::ROWS;
+use image_layout::header::SHARDS;
+use image_layout::header::SLOT;
 use image_move::move_up;
 use image_parts::codes::metric_code;
 use image_parts::keys::put_key;
 use map_tables::ShardKey;
 use spec::Metric;
 
-// Where the header counts its rows, where they begin, the bytes and the words of one, and where a row has its slot, how many replicas, and its metric.
-const SHARDS: usize = 24;
-
-const ROWS: usize = 48;
-
-const ROW: usize = 1280;
-
 const WORDS: usize = 160;
-
-const SLOT: usize = 48;
-
-const HOLDERS: usize = 80;
-
-const METRIC: usize = 96;
 
 // A row more, which is free at place `at`.
 pub fn open_row(out: &mut [u8], at: usize, count: usize)

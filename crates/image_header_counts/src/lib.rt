@@ -17,15 +17,10 @@ use image_header::expiry_of;
 use image_header::expiry_time;
 use image_header_put::put_head;
 use image_header_put::row_tidied;
-
-// Where the rows begin, the bytes of one, and where its two numbers stand (docs/IMAGES.md).
-const ROWS: usize = 48;
-
-const ROW: usize = 1280;
-
-const STORED: usize = 56;
-
-const LAST: usize = 72;
+use image_layout::header::LAST;
+use image_layout::header::ROW;
+use image_layout::header::ROWS;
+use image_layout::header::STORED;
 
 // The row at a position, tidied, with these numbers.
 fn row_counted(out: &mut [u8], at: usize, last: u64, stored: u64)

@@ -6,24 +6,16 @@ ghost use Rattle.image_header_row.specs.Rows.{heldRowAt};
 ghost use Rattle.image_header_set.specs.Row.{RowBecomes, peerSet, ownSet, steppedDown, alignedSet};
 use image_header_row::held::put_role;
 use image_header_row::peers::put_peer;
+use image_layout::header::COUNT;
+use image_layout::header::EPOCH;
+use image_layout::header::LAST;
+use image_layout::header::OWN;
+use image_layout::header::PEERS;
+use image_layout::header::ROLE;
+use image_layout::header::STORED;
 use image_parts::codes::flag_code;
 use spec::Peer;
 use spec::Role;
-
-// Where a row has them.
-const STORED: usize = 56;
-
-const EPOCH: usize = 64;
-
-const LAST: usize = 72;
-
-const COUNT: usize = 88;
-
-const OWN: usize = 100;
-
-const ROLE: usize = 108;
-
-const PEERS: usize = 256;
 
 // The row of the i-th peer.
 pub fn set_peer(out: &mut [u8], row: usize, i: usize, p: Peer)

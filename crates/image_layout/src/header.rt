@@ -1,4 +1,12 @@
-// A node's header: how many shards it holds, when its lease ends (its kind, then its time), and its rows.
+// A node's header, how long it is: whose it is, which map it knows, how many shards it holds, when its lease ends (its kind, then its time), its rows.
+pub const IMAGE: usize = 10288;
+
+pub const ID: usize = 0;
+
+pub const INCARNATION: usize = 8;
+
+pub const KNOWN: usize = 16;
+
 pub const SHARDS: usize = 24;
 
 pub const LEASE: usize = 36;

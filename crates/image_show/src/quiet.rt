@@ -11,20 +11,15 @@ ghost use Rattle.image_header_check.specs.Rows.{Counts};
 ghost use Rattle.image_show.specs.Quiet.{QuietMap};
 use crate::row::row_quiet;
 use image_header_check::place::place_at;
+use image_layout::header::ID;
+use image_layout::header::INCARNATION;
+use image_layout::header::ROW;
+use image_layout::header::ROWS;
 use image_map_check::layout::SHARD;
 use image_map_check::layout::SHARDS;
 use image_map_check::layout::SHARDS_USED;
 use image_map_row::shards::shard_at;
 use node_show_row::rows::is_listed;
-
-// Where a header has them.
-const ID: usize = 0;
-
-const INCARNATION: usize = 8;
-
-const ROWS: usize = 48;
-
-const ROW: usize = 1280;
 
 // The shards that list this node are those that are held, one after another, and each stays as it is.
 pub fn is_quiet(header: &[u8], count: usize, map: &[u8]) -> bool

@@ -15,6 +15,13 @@ ghost use Rattle.image_show.specs.Quiet.{lost, HoldsAs, LedOn, LeftOn, Q
 use image_header_row::held::role_at;
 use image_header_row::peers::peer_at;
 use image_header_set::peers::place_of;
+use image_layout::header::COUNT;
+use image_layout::header::EPOCH;
+use image_layout::header::HOLDERS;
+use image_layout::header::OWN;
+use image_layout::header::PEERS;
+use image_layout::header::REPLICAS;
+use image_layout::header::ROLE;
 use image_parts::codes::flag_of;
 use image_parts::replicas::replicas_at;
 use map_tables::Holders;
@@ -27,21 +34,6 @@ use node_show_shard::rising_to;
 use spec::Peer;
 use spec::Replica;
 use spec::Role;
-
-// Where a held shard's row has them.
-const EPOCH: usize = 64;
-
-const HOLDERS: usize = 80;
-
-const PEERS_USED: usize = 88;
-
-const OWN: usize = 100;
-
-const ROLE: usize = 108;
-
-const REPLICAS: usize = 128;
-
-const PEERS: usize = 256;
 
 // A peer that is in the ack set though the shard does not list it.
 fn is_lost(p: Peer, replicas: [Replica; 8], holders: usize) -> bool
@@ -139,7 +131,7 @@ fn led_on(s: &[u8], at: usize, me: u64, row: ShardRow) -> bool
     if rising_to(role, num::get8(s, at + EPOCH), to.0) {
         return false;
     }
-    let n = num::get8(s, at + PEERS_USED) as usize;
+    let n = num::get8(s, at + COUNT) as usize;
     if any_lost(s, at + PEERS, n, items, holders) {
         return false;
     }
@@ -167,7 +159,7 @@ fn left_on(s: &[u8], at: usize) -> bool
     if flag_of(num::get4(s, at + OWN)) {
         return false;
     }
-    num::get8(s, at + PEERS_USED) == 0
+    num::get8(s, at + COUNT) == 0
 }
 
 pub fn row_quiet(s: &[u8], at: usize, me: u64, row: ShardRow) -> bool
