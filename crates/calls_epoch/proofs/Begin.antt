@@ -37,7 +37,7 @@ use Rattle.image_node.proofs.Put.{puts-absent}
 use Rattle.node_replicate.specs.declared.PeerReply.the-variants as P
 use Rattle.node_replicate.specs.declared.PeerAnswer.{PeerAnswer}
 use Rattle.node_epoch.specs.NewEpochs.{NewEpochsAt, BeginsAt}
-use Rattle.node_epoch.proofs.Announces.{began}
+use Rattle.node_epoch.proofs.NewEpochs.{began}
 use Rattle.node_epoch.proofs.Begin.{ninth, begins}
 use Rattle.calls_peer_out.specs.Ends.{Buffers, buffers, Replies}
 use Rattle.calls_peer.specs.PeerCalls as calls

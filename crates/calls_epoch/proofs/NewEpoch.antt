@@ -52,7 +52,7 @@ use Rattle.node_replicate.specs.Peers.{word, turnedDown}
 use Rattle.node_replicate.proofs.Peers.{unfit, served}
 use Rattle.node_epoch.specs.NewEpochs.{NewEpochNames, NewEpochsAt}
 use Rattle.node_epoch.proofs.Named.{new-epoch-key}
-use Rattle.node_epoch.proofs.Announces.{reads, backs}
+use Rattle.node_epoch.proofs.NewEpochs.{reads, backs}
 use Rattle.calls_peer_out.specs.Ends.{Buffers, buffers, Replies, Finished}
 use Rattle.calls_peer_out.specs.declared.Outcome.the-variants as O
 use Rattle.calls_peer_out.proofs.Ends as ending

@@ -56,6 +56,6 @@ pub record OutcomesImage (s t name : List ℕ) (shard epoch peer command applied
   pub stays : isSettled (after .answer) ≡ false → Stays s t (λ st. settled s name shard epoch peer command applied st .after)
   pub formed : StaysFormed s t (λ st. settled s name shard epoch peer command applied st .after)
 
-abbrev pub Settles : (s t name : List ℕ) → (shard epoch peer command applied r : ℕ) → Type 0
-Settles s t name shard epoch peer command applied r =
+abbrev pub Outcomes : (s t name : List ℕ) → (shard epoch peer command applied r : ℕ) → Type 0
+Outcomes s t name shard epoch peer command applied r =
     Asked (unreadOutcome name command applied) (headerLent s) r (t ≡ s) (OutcomesImage s t name shard epoch peer command applied r)

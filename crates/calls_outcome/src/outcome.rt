@@ -1,6 +1,6 @@
 // Outcome of a proposal: the call.
 ghost use mathlib.Core.Path.{_≡_};
-ghost use Rattle.calls_header.specs.Outcomes.{unreadOutcome, proposalAt, Settles};
+ghost use Rattle.calls_header.specs.Outcomes.{unreadOutcome, proposalAt, Outcomes};
 use crate::settle::settle_row;
 use calls_parts::named::key_named;
 use image_header::is_lent;
@@ -48,7 +48,7 @@ pub fn outcome(
     command: u8,
     applied: u8,
 ) -> u32
-    ensures { λ r. ⌜ Settles (now (header .entry)) (now (header .exit)) (now (name .entry)) shard epoch peer command applied r ⌝ }
+    ensures { λ r. ⌜ Outcomes (now (header .entry)) (now (header .exit)) (now (name .entry)) shard epoch peer command applied r ⌝ }
 {
     if unread(name, command, applied) {
         return 21;

@@ -23,7 +23,7 @@ use Rattle.node_replicate.proofs.Named.{replicate-key, copy-key}
 use Rattle.node_epoch.specs.NewEpochs.{NewEpochsAt}
 use Rattle.node_epoch.proofs.Named.{new-epoch-key}
 use Rattle.calls_peer_out.specs.Ends.{Buffers}
-use Rattle.calls_peer.specs.PeerCalls.{AtShard, replicates, announces, copies, ReplicatesImage, AnnouncesImage, CopiesImage}
+use Rattle.calls_peer.specs.PeerCalls.{AtShard, replicates, announces, copies, ReplicatesImage, NewEpochsImage, CopiesImage}
 use Rattle.calls_peer.proofs.Serves.{outside, inside}
 
 -- ---- Replicate
@@ -55,7 +55,7 @@ module _ (m : List ℕ) (p : NewEpochPart) (i : messageOf m ≡ NewEpoch p) (b :
   announced-is : message.decodeNewEpoch m ≡ some announced
   announced-is = new-epoch-decoded m p i .decoded
 
-  pub new-epoch-inside : (k : Key) → k ≡ keyIn m (p .key) → (c : Buffers) (r : ℕ) → AtShard NewEpochsAt announces k m b c r → AnnouncesImage m b c r
+  pub new-epoch-inside : (k : Key) → k ≡ keyIn m (p .key) → (c : Buffers) (r : ℕ) → AtShard NewEpochsAt announces k m b c r → NewEpochsImage m b c r
   new-epoch-inside k named c r d =
       inside _ _ _ _ _ m b announced announced-is true refl refl k (named ∙ new-epoch-key m p i announced announced-is) c r d
 

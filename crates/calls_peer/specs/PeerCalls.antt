@@ -71,8 +71,8 @@ ReplicatesImage m = Serves message.Replicated (message.decodeReplicate m) (λ v.
 abbrev pub announces : Deed
 announces m lent v = calls.newEpochWith lent v m
 
-abbrev pub AnnouncesImage : List ℕ → (b c : Buffers) → ℕ → Type 0
-AnnouncesImage m = Serves message.NewEpoch (message.decodeNewEpoch m) (λ v. true) (λ v. v .key) NewEpochsAt announces m
+abbrev pub NewEpochsImage : List ℕ → (b c : Buffers) → ℕ → Type 0
+NewEpochsImage m = Serves message.NewEpoch (message.decodeNewEpoch m) (λ v. true) (λ v. v .key) NewEpochsAt announces m
 
 -- 22
 abbrev pub copies : Deed

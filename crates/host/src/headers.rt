@@ -2,7 +2,7 @@
 ghost use Rattle.calls_header.specs.Acks.{Acks};
 ghost use Rattle.calls_header.specs.Fresh.{Freshens};
 ghost use Rattle.calls_header.specs.Grants.{Grants};
-ghost use Rattle.calls_header.specs.Outcomes.{Settles};
+ghost use Rattle.calls_header.specs.Outcomes.{Outcomes};
 ghost use Rattle.calls_header.specs.Shows.{Shows};
 ghost use Rattle.calls_header.specs.Waits.{Waits};
 
@@ -87,7 +87,7 @@ pub extern "C" fn catalogue_outcome(
     command: u8,
     applied: u8,
 ) -> u32
-    ensures { λ r. ⌜ Settles (now (header .entry)) (now (header .exit)) (now (name .entry)) shard epoch peer command applied r ⌝ }
+    ensures { λ r. ⌜ Outcomes (now (header .entry)) (now (header .exit)) (now (name .entry)) shard epoch peer command applied r ⌝ }
 {
     calls_outcome::outcome::outcome(header, name, shard, epoch, peer, command, applied)
 }

@@ -1,5 +1,5 @@
 // What a primary sends to a node.
-ghost use Rattle.calls_peer.specs.PeerCalls.{buffers, ReplicatesImage, AnnouncesImage, CopiesImage};
+ghost use Rattle.calls_peer.specs.PeerCalls.{buffers, ReplicatesImage, NewEpochsImage, CopiesImage};
 
 #[no_mangle]
 pub extern "C" fn catalogue_replicate(
@@ -22,7 +22,7 @@ pub extern "C" fn catalogue_new_epoch(
     message: &[u8],
     reply: &mut [u8],
 ) -> u32
-    ensures { λ r. ⌜ AnnouncesImage (now (message .entry))
+    ensures { λ r. ⌜ NewEpochsImage (now (message .entry))
         (buffers (now (header .entry)) (now (stores .entry)) (now (reply .entry)))
         (buffers (now (header .exit)) (now (stores .exit)) (now (reply .exit))) r ⌝ }
 {

@@ -1,4 +1,4 @@
 pub mod Named
 pub mod Begin
 pub mod Slots
-pub mod Announces
+pub mod NewEpochs

@@ -32,7 +32,7 @@ use Rattle.node_header.specs.Formed.{lentNode}
 use Rattle.node_header.specs.Answers.{Answered, WaitAnswered, proposalOf}
 use Rattle.node_show.specs.Shows.{ShownAnswered}
 use Rattle.thm_durable.specs.Engine.{Engine, storesOf, seen}
-use Rattle.thm_durable.specs.Calls.{waitSaid, Waits, sentWord, ackSaid, Acks, proposalWord, Settles, Called}
+use Rattle.thm_durable.specs.Calls.{waitSaid, Waits, sentWord, ackSaid, Acks, proposalWord, Outcomes, Called}
 use Rattle.thm_durable.proofs.Simulated.{Simulated, nothing, one}
 use Rattle.thm_durable.proofs.Seen.{seen-node, Beside, given-node}
 use Rattle.thm_durable.proofs.Ways.{called}
@@ -177,7 +177,7 @@ module _ (e f : Engine) (i : ℕ) (may : allowed (seen e) (outcomeArrives i) ≡
   abbrev heard : State → State
   heard s = setOutcomes s (removed (s .outcomes) i)
 
-  settles : (o : Outcome) → nth (seen e .outcomes) i ≡ some o → Settles e i (some o) f → Simulated (seen e) (seen f)
+  settles : (o : Outcome) → nth (seen e .outcomes) i ≡ some o → Outcomes e i (some o) f → Simulated (seen e) (seen f)
   unfolding step onOutcome onOutcomeLost learnt seen setOutcomes setNode allowed
   settles o found c =
       let n = o .node in
@@ -196,6 +196,6 @@ module _ (e f : Engine) (i : ℕ) (may : allowed (seen e) (outcomeArrives i) ≡
   unfolding Called seen
   on-outcome c = go (nth (e .outcomes) i) refl c
     where
-      go : (o : Option Outcome) → nth (e .outcomes) i ≡ o → Settles e i o f → Simulated (seen e) (seen f)
+      go : (o : Option Outcome) → nth (e .outcomes) i ≡ o → Outcomes e i o f → Simulated (seen e) (seen f)
       go none q c = nothing (seen e) (seen f) (sym (ap seen c))
       go (some w) q c = settles w q c

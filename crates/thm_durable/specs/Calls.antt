@@ -190,9 +190,9 @@ proposalWord ack.shrink = P.Shrink
 proposalWord ack.grow = P.Grow
 
 -- `node_header::outcome::outcome`: an outcome that is told is under way no more
-abbrev pub Settles : Engine → (place : ℕ) → Option Outcome → Engine → Type 0
-Settles e i none f = f ≡ e
-Settles e i (some o) f =
+abbrev pub Outcomes : Engine → (place : ℕ) → Option Outcome → Engine → Type 0
+Outcomes e i none f = f ≡ e
+Outcomes e i (some o) f =
     (r : NodeSettled) × OutcomesNode (e .nodes (o .node)) (o .key) (o .epoch) (o .peer) (proposalWord (o .what)) (o .applied) r
     × (f ≡ host (withNode e (o .node) (r .node)) (λ s. setOutcomes s (removed (s .outcomes) i)))
 
@@ -213,7 +213,7 @@ Called e (workerSteps n k epoch peer metric space) f = Asks e n k epoch peer met
 Called e (requestArrives from to i) f = Arrives e from to i (nth (e .requests from to) i) f
 Called e (replyArrives i) f = Acks e i (nth (e .replies) i) f
 Called e (offerArrives i index seq) f = Offers e i index seq (nth (e .offers) i) f
-Called e (outcomeArrives i) f = Settles e i (nth (e .outcomes) i) f
+Called e (outcomeArrives i) f = Outcomes e i (nth (e .outcomes) i) f
 -- no calls: losses, repeats and timeouts, as in `spec_run`
 Called e (requestLost from to i) f = f ≡ host e (λ s. run.onRequestLost s from to i)
 Called e (requestRepeats from to i) f = f ≡ host e (λ s. run.onRequestRepeats s from to i)

@@ -40,7 +40,7 @@ use Rattle.thm_durable.proofs.Simulated.{Simulated, nothing, one}
 use Rattle.thm_durable.proofs.Seen.{Beside}
 use Rattle.thm_durable.proofs.Tested.{grant-as, outcome-as, ack-as, shown-as}
 use Rattle.thm_durable_bytes.specs.Cluster.{Cluster, seen}
-use Rattle.thm_durable_bytes.specs.Calls.{sentCode, ackSaid, Acks, proposalCode, appliedCode, Settles, Called}
+use Rattle.thm_durable_bytes.specs.Calls.{sentCode, ackSaid, Acks, proposalCode, appliedCode, Outcomes, Called}
 use Rattle.thm_durable_bytes.proofs.Asked.{asked}
 use Rattle.thm_durable_bytes.proofs.Numbers.{refusal-number}
 use Rattle.thm_durable_bytes.proofs.Seen.{seen-header, left-header}
@@ -179,7 +179,7 @@ module _ (d f : Cluster) (i : ℕ) (may : allowed (seen d) (outcomeArrives i) �
   abbrev heard : State → State
   heard s = setOutcomes s (removed (s .outcomes) i)
 
-  settles : (o : Outcome) → nth (seen d .outcomes) i ≡ some o → Settles d i (some o) f → Simulated (seen d) (seen f)
+  settles : (o : Outcome) → nth (seen d .outcomes) i ≡ some o → Outcomes d i (some o) f → Simulated (seen d) (seen f)
   unfolding step onOutcome onOutcomeLost learnt seen setOutcomes setNode allowed
   settles o found c =
       let n = o .node in
@@ -213,6 +213,6 @@ module _ (d f : Cluster) (i : ℕ) (may : allowed (seen d) (outcomeArrives i) �
   unfolding Called seen
   on-outcome c = go (nth (d .outcomes) i) refl c
     where
-      go : (o : Option Outcome) → nth (d .outcomes) i ≡ o → Settles d i o f → Simulated (seen d) (seen f)
+      go : (o : Option Outcome) → nth (d .outcomes) i ≡ o → Outcomes d i o f → Simulated (seen d) (seen f)
       go none q c = nothing (seen d) (seen f) (sym (ap seen c))
       go (some o) q c = settles o q c

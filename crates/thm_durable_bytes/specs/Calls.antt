@@ -55,7 +55,7 @@ use Rattle.calls_header.specs.Outcomes as settles
 use Rattle.calls_client.specs.Written as write
 use Rattle.calls_client.specs.Written.{WritesImages}
 use Rattle.calls_client.specs.Searched.{SearchesImages}
-use Rattle.calls_peer.specs.PeerCalls.{buffers, ReplicatesImage, AnnouncesImage, CopiesImage}
+use Rattle.calls_peer.specs.PeerCalls.{buffers, ReplicatesImage, NewEpochsImage, CopiesImage}
 use Rattle.calls_worker.specs.Steps.{asking, outputs, StepsImage}
 use Rattle.thm_durable_bytes.specs.Cluster.{Cluster, seen, InMemory, withMap, withHeader, withNode, host}
 
@@ -141,7 +141,7 @@ answered s from to q r reply = cond (eqb r 0) (replying s from to q (take 9 repl
 
 -- `catalogue_new_epoch`, `catalogue_replicate`, `catalogue_copy`: the call of the request's kind, with any `reply` (p, then q)
 abbrev pub Hears : ack.Sent → (header stores header′ stores′ p q m : List ℕ) → ℕ → Type 0
-Hears ack.sentAlign h s h′ s′ p q m r = AnnouncesImage m (buffers h s p) (buffers h′ s′ q) r
+Hears ack.sentAlign h s h′ s′ p q m r = NewEpochsImage m (buffers h s p) (buffers h′ s′ q) r
 Hears ack.sentReplicate h s h′ s′ p q m r = ReplicatesImage m (buffers h s p) (buffers h′ s′ q) r
 Hears ack.sentCopy h s h′ s′ p q m r = CopiesImage m (buffers h s p) (buffers h′ s′ q) r
 
@@ -191,11 +191,11 @@ appliedCode true = 1
 appliedCode false = 0
 
 -- `catalogue_outcome`: an outcome that is told is under way no more
-abbrev pub Settles : Cluster → (place : ℕ) → Option Outcome → Cluster → Type 0
-Settles d i none f = f ≡ d
-Settles d i (some o) f =
+abbrev pub Outcomes : Cluster → (place : ℕ) → Option Outcome → Cluster → Type 0
+Outcomes d i none f = f ≡ d
+Outcomes d i (some o) f =
     (h : List ℕ) × (r : ℕ)
-    × settles.Settles (d .headers (o .node)) h (o .key .collection) (o .key .shard) (o .epoch) (o .peer) (proposalCode (o .what)) (appliedCode (o .applied)) r
+    × settles.Outcomes (d .headers (o .node)) h (o .key .collection) (o .key .shard) (o .epoch) (o .peer) (proposalCode (o .what)) (appliedCode (o .applied)) r
     × (f ≡ host (withHeader d (o .node) h) (λ s. setOutcomes s (removed (s .outcomes) i)))
 
 -- ---- the run
@@ -216,7 +216,7 @@ Called d (workerSteps n k epoch peer metric space) f = Asks d n k epoch peer met
 Called d (requestArrives from to i) f = Arrives d from to i (nth (d .requests from to) i) f
 Called d (replyArrives i) f = Acks d i (nth (d .replies) i) f
 Called d (offerArrives i index seq) f = Offers d i index seq (nth (d .offers) i) f
-Called d (outcomeArrives i) f = Settles d i (nth (d .outcomes) i) f
+Called d (outcomeArrives i) f = Outcomes d i (nth (d .outcomes) i) f
 -- no calls: losses, repeats and timeouts, as in `spec_run`
 Called d (requestLost from to i) f = f ≡ host d (λ s. run.onRequestLost s from to i)
 Called d (requestRepeats from to i) f = f ≡ host d (λ s. run.onRequestRepeats s from to i)

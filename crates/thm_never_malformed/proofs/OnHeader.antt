@@ -38,7 +38,7 @@ use Rattle.calls_header.specs.Fresh.{FreshImage, Freshens}
 use Rattle.calls_header.specs.Grants.{grantNumber, isGranted, granted, Grants, GrantsImage}
 use Rattle.calls_header.specs.Waits.{Left, rowsRoom, idBytes, waitSaid, waitWrites, waited, Waits, WaitsImage}
 use Rattle.calls_header.specs.Acks.{sentAt, ackNumber, isAcked, acked, Acks, AcksImage}
-use Rattle.calls_header.specs.Outcomes.{proposalAt, outcomeNumber, isSettled, settled, Settles, OutcomesImage}
+use Rattle.calls_header.specs.Outcomes.{proposalAt, outcomeNumber, isSettled, settled, Outcomes, OutcomesImage}
 use Rattle.image_header.proofs.Image.{lent-long}
 use Rattle.calls_header.proofs.Kept.{wait-left}
 use Rattle.thm_never_malformed.specs.Intact.{Intact}
@@ -126,7 +126,7 @@ module _ (h s : List ℕ) (i : Intact h s) where
             (sym (ap (λ (x : Answered AckAnswer). ackNumber (x .answer)) (g .call st)) ∙ sym (g .answer) ∙ z);
       })
 
-  pub on-outcome : (h′ name : List ℕ) (shard epoch peer command applied r : ℕ) → Settles h h′ name shard epoch peer command applied r → Keeps true h′ s r
+  pub on-outcome : (h′ name : List ℕ) (shard epoch peer command applied r : ℕ) → Outcomes h h′ name shard epoch peer command applied r → Keeps true h′ s r
   on-outcome h′ name shard epoch peer command applied r a =
       asked h′ _ r (h′ ≡ h) (OutcomesImage h h′ name shard epoch peer command applied r) a (λ q. q)
       (λ g. record {

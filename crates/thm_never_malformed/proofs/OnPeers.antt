@@ -39,7 +39,7 @@ use Rattle.node_replicate.specs.Peers as peers
 use Rattle.node_replicate.specs.Peers.{word, turnedDown, ReplicatesAt, CopiesAt}
 use Rattle.node_epoch.specs.NewEpochs.{slotsThen, slotsWith, NewEpochsAt}
 use Rattle.calls_peer_out.specs.Ends.{Buffers, buffers, Ended, ended, sends, endedAs}
-use Rattle.calls_peer.specs.PeerCalls.{Deed, Passed, Serves, replicates, announces, copies, ReplicatesImage, AnnouncesImage, CopiesImage}
+use Rattle.calls_peer.specs.PeerCalls.{Deed, Passed, Serves, replicates, announces, copies, ReplicatesImage, NewEpochsImage, CopiesImage}
 use Rattle.thm_never_malformed.specs.Intact.{Intact}
 use Rattle.thm_never_malformed.proofs.Lent.{rows-inside, lends, lent-for, state-formed}
 use Rattle.thm_never_malformed.proofs.Changes.{replicate-changes, new-epoch-changes, copy-changes}
@@ -154,7 +154,7 @@ module _ (h s : List ℕ) (i : Intact h s) (h′ s′ m q q′ : List ℕ) (r : 
         ))
 
     -- the shard is held, or it begins
-    pub on-new-epoch : AnnouncesImage m (buffers h s q) (buffers h′ s′ q′) r → Keeps true h′ s′ r
+    pub on-new-epoch : NewEpochsImage m (buffers h s q) (buffers h′ s′ q′) r → Keeps true h′ s′ r
     unfolding slotsThen
     on-new-epoch =
         served message.NewEpoch (message.decodeNewEpoch m) (λ v. true) (λ v. v .key) NewEpochsAt announces

@@ -13,9 +13,9 @@ use Rattle.calls_header.specs.Shows.{Shows}
 use Rattle.calls_header.specs.Grants.{Grants}
 use Rattle.calls_header.specs.Waits.{Waits}
 use Rattle.calls_header.specs.Acks.{Acks}
-use Rattle.calls_header.specs.Outcomes.{Settles}
+use Rattle.calls_header.specs.Outcomes.{Outcomes}
 use Rattle.calls_peer.specs.PeerCalls as peer
-use Rattle.calls_peer.specs.PeerCalls.{ReplicatesImage, AnnouncesImage, CopiesImage}
+use Rattle.calls_peer.specs.PeerCalls.{ReplicatesImage, NewEpochsImage, CopiesImage}
 use Rattle.calls_client_out.specs.Count.{countLent}
 use Rattle.calls_client.specs.Written as client
 use Rattle.calls_client.specs.Written.{WritesImages}
@@ -61,9 +61,9 @@ Called (grant incarnation sent lease) h s h′ s′ r = Grants h h′ incarnatio
 Called (wait name p a shard epoch offset now timeout) h s h′ s′ r =
     (q b : List ℕ) × Waits h h′ p q a b name shard epoch offset now timeout r × (s′ ≡ s)
 Called (ack name reply shard epoch peer code) h s h′ s′ r = Acks h h′ name reply shard epoch peer code r × (s′ ≡ s)
-Called (outcome name shard epoch peer command applied) h s h′ s′ r = Settles h h′ name shard epoch peer command applied r × (s′ ≡ s)
+Called (outcome name shard epoch peer command applied) h s h′ s′ r = Outcomes h h′ name shard epoch peer command applied r × (s′ ≡ s)
 Called (replicate m w) h s h′ s′ r = (w′ : List ℕ) × Bytes m × ReplicatesImage m (peer.buffers h s w) (peer.buffers h′ s′ w′) r
-Called (newEpoch m w) h s h′ s′ r = (w′ : List ℕ) × Bytes m × AnnouncesImage m (peer.buffers h s w) (peer.buffers h′ s′ w′) r
+Called (newEpoch m w) h s h′ s′ r = (w′ : List ℕ) × Bytes m × NewEpochsImage m (peer.buffers h s w) (peer.buffers h′ s′ w′) r
 Called (copy m w) h s h′ s′ r = (w′ : List ℕ) × Bytes m × CopiesImage m (peer.buffers h s w) (peer.buffers h′ s′ w′) r
 Called (write m a c clock least) h s h′ s′ r =
     (a′ c′ : List ℕ) × Bytes m × WritesImages (client.buffers h s a) (client.buffers h′ s′ a′) c c′ clock least m r

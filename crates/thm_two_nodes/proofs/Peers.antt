@@ -39,7 +39,7 @@ use Rattle.node_replicate.specs.declared.PeerReply.the-variants as R
 use Rattle.node_replicate.specs.Peers.{word, SlotsGiven, ReplicateSlot, ReplicateNames, ReplicatesAt}
 use Rattle.node_epoch.specs.NewEpochs.{NewEpochSlot, NewEpochSlots, NewEpochNames, slotsThen, NewEpochsAt}
 use Rattle.calls_peer_out.specs.Ends.{Buffers, ended, endedAs}
-use Rattle.calls_peer.specs.PeerCalls.{buffers, replicates, announces, AtShard, ReplicatesImage, AnnouncesImage}
+use Rattle.calls_peer.specs.PeerCalls.{buffers, replicates, announces, AtShard, ReplicatesImage, NewEpochsImage}
 use Rattle.thm_one_node.specs.Images.{stores}
 use Rattle.thm_one_node.proofs.Map.{key}
 use Rattle.thm_one_node.proofs.Columns.{before, after, entry, row, log-after, rows-after, stored, stores-bytes, stored-bytes, is-put, puts, small}
@@ -121,7 +121,7 @@ adopt-facts = record {
 
 -- ---- a message that is read names the shard
 
-aligned-by : (b c : Buffers) → AtShard NewEpochsAt announces key alignBytes b c 0 → AnnouncesImage alignBytes b c 0
+aligned-by : (b c : Buffers) → AtShard NewEpochsAt announces key alignBytes b c 0 → NewEpochsImage alignBytes b c 0
 aligned-by b c d = record {
   undecoded = λ e. none-some (sym e ∙ align-decoded);
   outside = λ v e z. not-both true refl z;
@@ -135,7 +135,7 @@ adopt-ends : ended 0 (buffers adopted stores adoptReply) ≡ endedAs (buffers sh
 unfolding adoptReply
 adopt-ends = refl
 
-pub announces-first : AnnouncesImage alignBytes (buffers shownSecond stores reply) (buffers adopted stores adoptReply) 0
+pub announces-first : NewEpochsImage alignBytes (buffers shownSecond stores reply) (buffers adopted stores adoptReply) 0
 announces-first =
     aligned-by _ _
     (at-shard announces NewEpochSlot NewEpochNames NewEpochSlots alignBytes shownSecond stores reply adopted stores adoptReply before adopting (follows 0 0 0)
@@ -264,7 +264,7 @@ keep-ends : ended 0 (buffers holding again keepReply) ≡ endedAs (buffers holdi
 unfolding keepReply
 keep-ends = refl
 
-pub announces-late : AnnouncesImage alignBytes (buffers holding stored reply) (buffers holding again keepReply) 0
+pub announces-late : NewEpochsImage alignBytes (buffers holding stored reply) (buffers holding again keepReply) 0
 announces-late =
     aligned-by _ _
     (at-shard announces NewEpochSlot NewEpochNames NewEpochSlots alignBytes holding stored reply holding again keepReply after keeping (follows 1 1 1)
