@@ -96,7 +96,7 @@ module _ (h s a : List ℕ) (k : Key) (b : LentStore) (l : Picked) (d : Picks h 
       unlent = λ y. not-both _ lends y;
       lent = λ y. record {
         left = x;
-        answeredAs = w;
+        told = w;
         call = called;
         is =
             q .is

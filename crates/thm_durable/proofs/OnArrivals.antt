@@ -60,24 +60,24 @@ module _ (l : ℕ → LentStore) (n : Node) (slot : ℕ) (b : LentStore) (m : Li
 
   pub record Heard (sent : Sent) : Type 0 where
     pub result : Result BackupAnswer held.Node
-    pub answeredAs : viewPeer (storesOf (at l slot b)) r ≡ answeredAs word result
+    pub told : viewPeer (storesOf (at l slot b)) r ≡ answeredAs word result
     pub way : As backupRefused v result (heard v sent m)
 
   hears-as : (sent : Sent) → Hears sent n slot (l slot) b m r → Heard sent
   unfolding heard
   hears-as sentAlign c = record {
     result = newEpochWith lent v m;
-    answeredAs = c .1 .same (storesOf l) (storesOf (at l slot b)) slot (c .0) (stores-change l slot b);
+    told = c .1 .same (storesOf l) (storesOf (at l slot b)) slot (c .0) (stores-change l slot b);
     way = new-epoch-as v lent m (λ z d. lent-well (storesOf l) slot (l slot) n (z .key) (stores-lend l slot) (c .0 z d));
   }
   hears-as sentReplicate c = record {
     result = replicateWith lent v m;
-    answeredAs = c .1 .same (storesOf l) (storesOf (at l slot b)) slot (c .0) (stores-change l slot b);
+    told = c .1 .same (storesOf l) (storesOf (at l slot b)) slot (c .0) (stores-change l slot b);
     way = replicate-as v lent m (λ z d. lent-well (storesOf l) slot (l slot) n (z .key) (stores-lend l slot) (c .0 z d));
   }
   hears-as sentCopy c = record {
     result = copyWith lent v m;
-    answeredAs = c .1 .same (storesOf l) (storesOf (at l slot b)) slot (c .0) (stores-change l slot b);
+    told = c .1 .same (storesOf l) (storesOf (at l slot b)) slot (c .0) (stores-change l slot b);
     way = copy-as v lent m (λ z d. lent-well (storesOf l) slot (l slot) n (z .key) (stores-lend l slot) (c .0 z d));
   }
 
@@ -97,7 +97,7 @@ module _ (e f : Engine) (from to i : ℕ) (may : allowed (seen e) (requestArrive
       called backupRefused e f to z (heard x (q .sent) (q .bytes)) (λ a s. answered (gone s) from to q a)
       (given-store e f to (r .node) slot b (λ s. peerSaid (gone s) from to q (r .answer))
       (λ s. let d = peer-beside (gone s) from to q (r .answer) in record { map = d .map; nodes = d .nodes; clients = d .clients }) (c .4)
-      ∙ ap (λ (u : Answered PeerReply). peerSaid (gone (setNode (seen e) to (u .node))) from to q (u .answer)) (h .answeredAs)
+      ∙ ap (λ (u : Answered PeerReply). peerSaid (gone (setNode (seen e) to (u .node))) from to q (u .answer)) (h .told)
       ∙ peer-said (gone (setNode (seen e) to (z .after))) from to q (z .answer))
       (h .way) (requestArrives from to i) may (rw found)
       (λ r. one (seen e) (gone (seen e)) (requestLost from to i) refl refl)

@@ -147,7 +147,7 @@ module _ (h s h′ s′ a b m : List ℕ) (now least r : ℕ) (bytes : Bytes s) 
     k = v .key
 
     abbrev w : answer.WriteAnswer
-    w = d .answeredAs
+    w = d .told
 
     -- the definition's call with the contract's test, on the stores with the columns lent, and on the state that the bytes are
     abbrev lent : Result WriteAnswer held.Node
@@ -225,6 +225,6 @@ module _ (h s h′ s′ a b m : List ℕ) (now least r : ℕ) (bytes : Bytes s) 
           by-case (lendsCall c h s (v .key))
           (λ i.
           let g = w .lent f i in
-          told-as v e (and-right (countLent c) (lendsState h s (v .key)) i) g (g .answeredAs .answer) refl (g .is))
+          told-as v e (and-right (countLent c) (lendsState h s (v .key)) i) g (g .told .answer) refl (g .is))
           (λ i. stayed 24 refl a (w .unlent f i)))
           (λ f. stayed 22 refl a (w .outside f))

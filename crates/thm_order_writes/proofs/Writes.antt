@@ -64,7 +64,7 @@ module _ (u : Owned) (c : Moment) (m : List ℕ) (v : Owned) (w : WriteReply) (x
   abbrev pub does : Result client.WriteAnswer held.Node
   does = writeWith lent (nodeOf u) (c .clock) (c .least) m
 
-  is-told : record { answer = x .answeredAs .answer; node = nodeOf (record { header = x .answeredAs .node; lentStores = at (u .lentStores) (x .slot) (x .left) }) } ≡ answeredAs writeWord does
+  is-told : record { answer = x .told .answer; node = nodeOf (record { header = x .told .node; lentStores = at (u .lentStores) (x .slot) (x .left) }) } ≡ answeredAs writeWord does
   is-told =
       x .call .same (storesOf (u .lentStores)) (storesOf (at (u .lentStores) (x .slot) (x .left))) (x .slot) (x .named) (stores-change (u .lentStores) (x .slot) (x .left))
 
