@@ -5,7 +5,7 @@ use mathlib.Core.List.{List, [], _∷_}
 use borrow.Author.Tests.{le-leb, lt-leb}
 use lib.ListN.{length}
 use lib.Seq.{sets}
-use Rattle.num_position.specs.Positions.{Turned, turned, outOfRange, noThousandth}
+use Rattle.spec_position.specs.Positions.{Turned, turned, outOfRange, noThousandth}
 use Rattle.calls_position.specs.Calls.{written, Answers}
 
 module _ {A : Type 0} (f : A → List ℕ) (x : Turned A) (s : List ℕ) where

@@ -8,8 +8,8 @@ use lib.Ieee.{Float}
 use Rattle.spec.specs.Layout.Format.{bytesOf, concatMap, encode}
 use Rattle.spec.specs.Layout.Parts.{vectorF}
 use Rattle.spec.specs.Node.Wire.{bitsOf}
-use Rattle.num_position.specs.declared.Fields.{Fields}
-use Rattle.num_position.specs.declared.Position.{Position}
+use Rattle.spec_position.specs.declared.Fields.{Fields}
+use Rattle.spec_position.specs.declared.Position.{Position}
 use Rattle.calls_position.specs.Calls.{patternOf, positionBytes, fieldsBytes, vectorBytes}
 
 pub position-size : (p : Position) → length (positionBytes p) ≡ 16

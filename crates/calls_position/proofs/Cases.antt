@@ -7,7 +7,7 @@ use lib.IntN.{pos, negsuc}
 use lib.Ieee.{binary32, ofInt, round, toBits}
 use lib.ListN.{replicate}
 use Rattle.spec.specs.Lists.{_and_}
-use Rattle.num_position.specs.Positions.{Turned, turned, noRoom, inRange, raIn, decIn, signIn, within, positionOf, fieldsOf, floatsOf, toPosition, toFields, toVector}
+use Rattle.spec_position.specs.Positions.{Turned, turned, noRoom, inRange, raIn, decIn, signIn, within, positionOf, fieldsOf, floatsOf, toPosition, toFields, toVector}
 use Rattle.calls_position.specs.Calls.{positionBytes, fieldsBytes, vectorBytes, written, inRoom, typed, at}
 
 pub position-bytes : written positionBytes (toPosition (typed 0 0 100 1 0 0 500))

@@ -9,8 +9,8 @@ use lib.Signed.{natAbs-le}
 use mir.Syntax.{w64}
 use mir.Val.{SFits}
 use Rattle.spec_laws.proofs.Lists.{not-both}
-use Rattle.num_position.specs.Positions.{isMinus, toFields, toVector}
-use Rattle.num_position.specs.declared.Position.{Position}
+use Rattle.spec_position.specs.Positions.{isMinus, toFields, toVector}
+use Rattle.spec_position.specs.declared.Position.{Position}
 use Rattle.num_position.proofs.SignedLaws.{read, back}
 use Rattle.calls_position.specs.Calls.{patternOf, fieldsBytes, vectorBytes, at, written, Answers, Divides, Vectors}
 

@@ -7,9 +7,9 @@ use native.Mathlib.Omega.{arith}
 use lib.Dec.{T}
 use lib.Ieee.{Float, nan, inf, fin, isNan}
 use lib.Ieee.Exact.{HasValue}
-use Rattle.num_position.specs.Positions.{turned, outOfRange, within, floatsOf, toVector}
-use Rattle.num_position.specs.declared.Position.{Position}
-use Rattle.num_position.proofs.FloatLaws.{exact}
+use Rattle.spec_position.specs.Positions.{turned, outOfRange, within, floatsOf, toVector}
+use Rattle.spec_position.specs.declared.Position.{Position}
+use Rattle.spec_position.proofs.FloatLaws.{exact}
 use Rattle.calls_position.specs.Calls.{Numbers}
 
 value-number : (x : Float) (s : Bool) (n : ℕ) → HasValue x s n 1 → T (not (isNan x))

@@ -12,9 +12,9 @@ use lib.Seq.{sets}
 use Rattle.spec.specs.Layout.Format.{bytesOf, concatMap, encode, All}
 use Rattle.spec.specs.Layout.Parts.{vectorF}
 use Rattle.spec.specs.Node.Wire.{bitsOf}
-use Rattle.num_position.specs.Positions.{Turned, turned, outOfRange, noThousandth, noRoom, numberOf, toPosition, toFields, toVector}
-use Rattle.num_position.specs.declared.Fields.{Fields}
-use Rattle.num_position.specs.declared.Position.{Position}
+use Rattle.spec_position.specs.Positions.{Turned, turned, outOfRange, noThousandth, noRoom, numberOf, toPosition, toFields, toVector}
+use Rattle.spec_position.specs.declared.Fields.{Fields}
+use Rattle.spec_position.specs.declared.Position.{Position}
 
 -- ---- bytes
 

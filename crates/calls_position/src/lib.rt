@@ -6,13 +6,13 @@ use crate::stored::put_fields;
 use crate::stored::put_position;
 use crate::stored::put_vector;
 use num_position::Fielding;
-use num_position::Fields;
 use num_position::Placing;
-use num_position::Position;
 use num_position::Vectoring;
 use num_position::to_fields;
 use num_position::to_position;
 use num_position::to_vector;
+use spec_position::Fields;
+use spec_position::Position;
 
 mod stored;
 

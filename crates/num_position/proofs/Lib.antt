@@ -1,10 +1,4 @@
 pub mod SignedLaws
-pub mod FieldLaws
 pub mod Sizes
 pub mod FloatsLaws
 pub mod Places
-pub mod Laws
-pub mod FloatLaws
-pub mod Refusals
-pub mod Cases
-pub mod Instances

@@ -9,15 +9,11 @@ use lib.IntN.{ℤ, pos, negℤ}
 use lib.Signed.{mag}
 use mir.Syntax.{w64}
 use mir.Val.{SFits}
-use Rattle.num_position.specs.Positions.{turned, outOfRange, thousandthsOf, decSize, signedBy, inRange, positionOf, toPosition}
-use Rattle.num_position.specs.declared.Fields.{Fields}
-use Rattle.num_position.specs.declared.Position.{Position}
-use Rattle.num_position.proofs.FieldLaws.{InRange, in-facts}
+use Rattle.spec_position.specs.Positions.{turned, outOfRange, thousandthsOf, decSize, signedBy, inRange, positionOf, toPosition}
+use Rattle.spec_position.specs.declared.Fields.{Fields}
+use Rattle.spec_position.specs.declared.Position.{Position}
+use Rattle.spec_position.proofs.FieldLaws.{raSize, in-facts}
 use Rattle.num_position.proofs.SignedLaws.{read, back, mag-neg}
-
--- the right ascension of fields, in milliarcseconds
-abbrev pub raSize : Fields → ℕ
-raSize f = thousandthsOf (f .hours) (f .minutes) (f .thousandths) * 15
 
 signed-fits : (m n : ℕ) → n ≤ 324000000 → SFits w64 (signedBy m n)
 signed-fits zero n h = record { sfits = lt-of-le-of-lt h (lit< tt) }

@@ -12,7 +12,7 @@ use lib.Signed.{mag, ltZ, nonNeg}
 use mir.Syntax.{w32, w64}
 use mir.Val.{Fits, SFits, toZ, ofZ, bits, hbits, boolByte}
 use mir.Facts.{toZ-ofZ}
-use Rattle.num_position.specs.Positions.{isMinus}
+use Rattle.spec_position.specs.Positions.{isMinus}
 
 -- a number read back from its bits
 abbrev pub read : ℤ → ℤ

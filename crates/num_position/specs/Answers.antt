@@ -1,9 +1,9 @@
 -- What each case of an answer says: a value, or the refusal whose number `numberOf` gives. Definitions only.
 use mathlib.Core.List.{List, [], _∷_}
 use lib.Ieee.{Float}
-use Rattle.num_position.specs.Positions.{Turned, turned, outOfRange, noThousandth}
-use Rattle.num_position.specs.declared.Fields.{Fields}
-use Rattle.num_position.specs.declared.Position.{Position}
+use Rattle.spec_position.specs.Positions.{Turned, turned, outOfRange, noThousandth}
+use Rattle.spec_position.specs.declared.Fields.{Fields}
+use Rattle.spec_position.specs.declared.Position.{Position}
 use Rattle.num_position.specs.declared.Vector.{Vector}
 use Rattle.num_position.specs.declared.Placing.{Placing}
 use Rattle.num_position.specs.declared.Placing.the-variants as placing

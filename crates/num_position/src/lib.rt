@@ -1,8 +1,9 @@
-// Paper 02, 2.7: positions in hours and degrees. Right ascension in hours, minutes and thousandths of seconds and declination in sign, degrees,
-// arcminutes and thousandths of arcseconds become whole milliarcseconds, and back; and milliarcseconds become the four floats of a vector. A
-// search measures these floats as they are: nothing wraps around at 24 hours. What an answer says stands in specs/Positions.antt.
+// Paper 02, 2.7: positions in hours and degrees, by value. Right ascension in hours, minutes and thousandths of seconds and declination in sign,
+// degrees, arcminutes and thousandths of arcseconds become whole milliarcseconds, and back; and milliarcseconds become the four floats of a vector.
+// A search measures these floats as they are: nothing wraps around at 24 hours. What an answer says stands in specs/Positions.antt of crate
+// spec_position, and specs/Answers.antt here reads it off each case.
 ghost use mathlib.Core.Path.{_≡_};
-ghost use Rattle.num_position.specs.Positions.{toPosition, toFields, toVector};
+ghost use Rattle.spec_position.specs.Positions.{toPosition, toFields, toVector};
 ghost use Rattle.num_position.specs.Answers.{placed, fielded, vectored};
 use crate::floats::float_of;
 use crate::parts::fields_of;
@@ -12,27 +13,12 @@ use crate::signed::Sized;
 use crate::signed::negated;
 use crate::signed::plain;
 use crate::signed::sizes_of;
+use spec_position::Fields;
+use spec_position::Position;
 
 mod floats;
 mod parts;
 pub mod signed;
-
-// What an editor types. `minus` is 0 for a plus and 1 for a minus.
-pub struct Fields {
-    pub hours: u32,
-    pub minutes: u32,
-    pub thousandths: u32,
-    pub minus: u32,
-    pub degrees: u32,
-    pub arcminutes: u32,
-    pub arcthousandths: u32,
-}
-
-// Milliarcseconds.
-pub struct Position {
-    pub ra: i64,
-    pub dec: i64,
-}
 
 // Right ascension's whole arcseconds and left-over thousandths, then declination's.
 pub struct Vector(pub f32, pub f32, pub f32, pub f32);

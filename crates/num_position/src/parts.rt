@@ -1,8 +1,8 @@
 // Sizes in sixtieths: hours or degrees, minutes of either, and thousandths of their seconds. Internal.
 ghost use mathlib.Core.Path.{_≡_};
 ghost use Prim.Native.Nat.{_≤_};
-ghost use Rattle.num_position.specs.Positions.{fieldsBy, inRange, thousandthsOf};
-use crate::Fields;
+ghost use Rattle.spec_position.specs.Positions.{fieldsBy, inRange, thousandthsOf};
+use spec_position::Fields;
 
 // All thousandths of seconds.
 pub fn thousandths_of(whole: u32, minutes: u32, thousandths: u32) -> u32

@@ -1,9 +1,10 @@
 // Signed numbers as a sign and a size, so that the rest works on whole numbers alone. Internal.
 ghost use mathlib.Core.Path.{_≡_};
 ghost use lib.IntN.{pos, negℤ, natAbs};
-ghost use Rattle.num_position.specs.Positions.{isMinus};
-ghost use Rattle.num_position.specs.Sizes.{sizedOf, sizesWithin};
-use crate::Position;
+ghost use Rattle.spec_position.specs.Positions.{isMinus};
+ghost use Rattle.spec_position.specs.Sizes.{sizesWithin};
+ghost use Rattle.num_position.specs.Sizes.{sizedOf};
+use spec_position::Position;
 
 pub struct Signed {
     pub minus: bool,

@@ -3,7 +3,7 @@ use borrow.Author.Needs.{needs}
 use native.Mathlib.Omega.{arith}
 use mathlib.Core.Path.{sym, _∙_, ap}
 use Rattle.num_position.specs.Answers.{fielded}
-use Rattle.num_position.specs.Positions.{toFields}
+use Rattle.spec_position.specs.Positions.{toFields}
 use Rattle.calls_position.specs.Calls.{fieldsBytes}
 use Rattle.calls_position.proofs.Bytes.{fields-size}
 use Rattle.calls_position.proofs.Pattern.{read-at}

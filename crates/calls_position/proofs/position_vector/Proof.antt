@@ -3,7 +3,7 @@ use borrow.Author.Needs.{needs}
 use native.Mathlib.Omega.{arith}
 use mathlib.Core.Path.{sym, _∙_, ap}
 use Rattle.num_position.specs.Answers.{vectored}
-use Rattle.num_position.specs.Positions.{toVector}
+use Rattle.spec_position.specs.Positions.{toVector}
 use Rattle.calls_position.specs.Calls.{vectorBytes}
 use Rattle.calls_position.proofs.Bytes.{vector-size}
 use Rattle.calls_position.proofs.Vector.{vector-numbers}

@@ -1,7 +1,7 @@
 -- `to_fields` meets its contract, by the laws of sizes. Assumes nothing.
 use borrow.Author.Needs.{needs}
 use mathlib.Core.Path.{sym, _∙_, ap}
-use Rattle.num_position.specs.Positions.{turned}
+use Rattle.spec_position.specs.Positions.{turned}
 use Rattle.num_position.proofs.Sizes.{not-fielded, no-thousandth, fielded-as}
 use Rattle.num_position.proofs.to_fields.Statement.{statement}
 use Rattle.num_position.proofs.to_fields.Tie as tie

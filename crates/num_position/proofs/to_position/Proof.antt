@@ -5,7 +5,7 @@ use mathlib.Core.Path.{sym, _∙_, ap}
 use Prim.Native.Nat.{ℕ, _*_}
 use borrow.Author.Tests.{not-true, not-false}
 use lib.IntN.{pos, negℤ}
-use Rattle.num_position.proofs.FieldLaws.{in-facts}
+use Rattle.spec_position.proofs.FieldLaws.{in-facts}
 use Rattle.num_position.proofs.Places.{not-placed, placed-plus, placed-minus}
 use Rattle.num_position.proofs.to_position.Statement.{statement}
 use Rattle.num_position.proofs.to_position.Tie as tie

@@ -2,7 +2,7 @@
 use borrow.Author.Needs.{needs}
 use native.Mathlib.Omega.{arith}
 use mathlib.Core.Path.{refl, sym, _∙_, ap}
-use Rattle.num_position.specs.Positions.{turned}
+use Rattle.spec_position.specs.Positions.{turned}
 use Rattle.num_position.proofs.Sizes.{bounds, not-vectored, vectored-as}
 use Rattle.num_position.proofs.to_vector.Statement.{statement}
 use Rattle.num_position.proofs.to_vector.Tie as tie

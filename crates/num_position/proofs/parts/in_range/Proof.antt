@@ -2,7 +2,7 @@
 use borrow.Author.Needs.{needs}
 use native.Mathlib.Omega.{arith}
 use mathlib.Core.Path.{sym}
-use Rattle.num_position.proofs.FieldLaws.{not-in, facts-in}
+use Rattle.spec_position.proofs.FieldLaws.{not-in, facts-in}
 use Rattle.num_position.proofs.parts.in_range.Statement.{statement}
 use Rattle.num_position.proofs.parts.in_range.Tie as tie
 

@@ -2,7 +2,7 @@
 use borrow.Author.Needs.{needs}
 use borrow.Author.Tests.{lt-leb, le-leb}
 use Rattle.spec.specs.Lists.{_and_}
-use Rattle.num_position.specs.Sizes.{sizesWithin}
+use Rattle.spec_position.specs.Sizes.{sizesWithin}
 use Rattle.num_position.proofs.signed.sizes_within.Statement.{statement}
 use Rattle.num_position.proofs.signed.sizes_within.Tie as tie
 

@@ -1,5 +1,5 @@
 -- Fields in range, as facts of numbers: the test and the facts are one. Assumes nothing.
-use Prim.Native.Nat.{ℕ, _≤_}
+use Prim.Native.Nat.{ℕ, _*_, _≤_}
 use mathlib.Core.Path.{_≡_, refl, sym, ap}
 use mathlib.Core.Bool.{Bool, true, false, cond, not}
 use native.Mathlib.Omega.{arith}
@@ -7,8 +7,12 @@ use borrow.Author.Tests.{leb-true, le-leb, eqb-true, eqb-false, eq-eqb, ne-eqb, 
 use lib.Dec.{leb, eqb}
 use Rattle.spec.specs.Lists.{_and_}
 use Rattle.spec_laws.proofs.Lists.{and-true, and-left, and-right}
-use Rattle.num_position.specs.Positions.{decSize, raIn, decIn, signIn, inRange}
-use Rattle.num_position.specs.declared.Fields.{Fields}
+use Rattle.spec_position.specs.Positions.{thousandthsOf, decSize, raIn, decIn, signIn, inRange}
+use Rattle.spec_position.specs.declared.Fields.{Fields}
+
+-- the right ascension of fields, in milliarcseconds
+abbrev pub raSize : Fields → ℕ
+raSize f = thousandthsOf (f .hours) (f .minutes) (f .thousandths) * 15
 
 -- `minus` is at most 1, and at most the size: no minus before zero
 pub record InRange (f : Fields) : Type 0 where

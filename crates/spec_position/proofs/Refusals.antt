@@ -3,9 +3,9 @@ use Prim.Native.Nat.{ℕ}
 use mathlib.Core.Path.{_≡_, refl}
 use mathlib.Core.Bool.{Bool, true, false, cond}
 use native.Mathlib.Omega.{arith}
-use Rattle.num_position.specs.Positions.{Turned, turned, outOfRange, noThousandth, noRoom, numberOf, inRange, within, hasThousandth, positionOf, fieldsOf, floatsOf, toPosition, toFields, toVector}
-use Rattle.num_position.specs.declared.Fields.{Fields}
-use Rattle.num_position.specs.declared.Position.{Position}
+use Rattle.spec_position.specs.Positions.{Turned, turned, outOfRange, noThousandth, noRoom, numberOf, inRange, within, hasThousandth, positionOf, fieldsOf, floatsOf, toPosition, toFields, toVector}
+use Rattle.spec_position.specs.declared.Fields.{Fields}
+use Rattle.spec_position.specs.declared.Position.{Position}
 
 -- the first says the second, and the second the first
 abbrev pub Iff : Type 0 → Type 0 → Type 0

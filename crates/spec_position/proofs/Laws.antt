@@ -9,13 +9,12 @@ use lib.Dec.{leb, eqb}
 use lib.IntN.{ℤ, pos, negsuc, negℤ, natAbs}
 use Rattle.spec.specs.Lists.{_and_}
 use Rattle.spec_laws.proofs.Lists.{not-both, and-true}
-use Rattle.num_position.specs.Positions.{Turned, turned, outOfRange, noThousandth, numberOf, thousandthsOf, decSize, inRange, within, signedBy, positionOf, isMinus, fieldsBy, fieldsOf, hasThousandth, toPosition, toFields, toVector, floatsOf}
-use Rattle.num_position.specs.Sizes.{sizesWithin}
-use Rattle.num_position.specs.declared.Fields.{Fields}
-use Rattle.num_position.specs.declared.Position.{Position}
-use Rattle.num_position.proofs.FieldLaws.{InRange, in-facts, facts-in}
-use Rattle.num_position.proofs.Places.{raSize}
-use Rattle.num_position.proofs.Sizes.{within-sizes, sizes-bounds}
+use Rattle.spec_position.specs.Positions.{Turned, turned, outOfRange, noThousandth, numberOf, thousandthsOf, decSize, inRange, within, signedBy, positionOf, isMinus, fieldsBy, fieldsOf, hasThousandth, toPosition, toFields, toVector, floatsOf}
+use Rattle.spec_position.specs.Sizes.{sizesWithin}
+use Rattle.spec_position.specs.declared.Fields.{Fields}
+use Rattle.spec_position.specs.declared.Position.{Position}
+use Rattle.spec_position.proofs.FieldLaws.{raSize, InRange, in-facts, facts-in}
+use Rattle.spec_position.proofs.Bounds.{within-sizes, sizes-bounds}
 
 -- ---- sizes in sixtieths
 

@@ -7,12 +7,12 @@ use mathlib.Core.Bool.{true}
 use lib.IntN.{pos, negsuc, natAbs}
 use Rattle.spec.specs.Lists.{_and_}
 use Rattle.spec.specs.Nearest.Distance.{vectorInDomain}
-use Rattle.num_position.specs.Positions.{turned, noThousandth, inRange, raIn, decIn, signIn, within, positionOf, fieldsOf, numbersOf, floatsOf, toPosition, toFields}
-use Rattle.num_position.specs.declared.Fields.{Fields}
-use Rattle.num_position.specs.declared.Position.{Position}
-use Rattle.num_position.proofs.Laws.{there-and-back, back-and-there}
-use Rattle.num_position.proofs.FloatLaws.{Each, Exact, exact, floats-fix, in-domain}
-use Rattle.num_position.proofs.Refusals.{fields-31}
+use Rattle.spec_position.specs.Positions.{turned, noThousandth, inRange, raIn, decIn, signIn, within, positionOf, fieldsOf, numbersOf, floatsOf, toPosition, toFields}
+use Rattle.spec_position.specs.declared.Fields.{Fields}
+use Rattle.spec_position.specs.declared.Position.{Position}
+use Rattle.spec_position.proofs.Laws.{there-and-back, back-and-there}
+use Rattle.spec_position.proofs.FloatLaws.{Each, Exact, exact, floats-fix, in-domain}
+use Rattle.spec_position.proofs.Refusals.{fields-31}
 
 abbrev rigel : Fields
 rigel = record {

@@ -9,8 +9,8 @@ use lib.Signed.{leZ, quotZ, remZ}
 use lib.Ieee.{Float, binary32, ofInt}
 use Rattle.spec.specs.Lists.{_and_}
 use Rattle.spec.specs.Refusals as said
-use Rattle.num_position.specs.declared.Fields.{Fields}
-use Rattle.num_position.specs.declared.Position.{Position}
+use Rattle.spec_position.specs.declared.Fields.{Fields}
+use Rattle.spec_position.specs.declared.Position.{Position}
 
 -- ---- how a turning ends
 

@@ -19,9 +19,9 @@ use Rattle.spec.specs.Nearest.Order.{inDomain, bitsInDomain}
 use Rattle.spec.specs.Nearest.Distance.{allInDomain, vectorInDomain}
 use Rattle.spec.specs.Node.Wire as wire
 use Rattle.spec_laws.proofs.Lists.{not-both}
-use Rattle.num_position.specs.Positions.{within, isMinus, arcseconds, leftOver, numbersOf, floatsOf}
-use Rattle.num_position.specs.declared.Position.{Position}
-use Rattle.num_position.proofs.Sizes.{within-sizes, sizes-bounds}
+use Rattle.spec_position.specs.Positions.{within, isMinus, arcseconds, leftOver, numbersOf, floatsOf}
+use Rattle.spec_position.specs.declared.Position.{Position}
+use Rattle.spec_position.proofs.Bounds.{within-sizes, sizes-bounds}
 
 -- ---- one whole number
 

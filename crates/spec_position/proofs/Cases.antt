@@ -5,9 +5,9 @@ use Prim.Native.Nat.{ℕ}
 use lib.IntN.{ℤ, pos, negsuc}
 use lib.Ieee.{binary32, ofInt, round, toBits}
 use Rattle.spec.specs.Lists.{_and_}
-use Rattle.num_position.specs.Positions.{turned, outOfRange, noThousandth, inRange, raIn, decIn, signIn, within, positionOf, fieldsOf, numbersOf, floatsOf, toPosition, toFields}
-use Rattle.num_position.specs.declared.Fields.{Fields}
-use Rattle.num_position.specs.declared.Position.{Position}
+use Rattle.spec_position.specs.Positions.{turned, outOfRange, noThousandth, inRange, raIn, decIn, signIn, within, positionOf, fieldsOf, numbersOf, floatsOf, toPosition, toFields}
+use Rattle.spec_position.specs.declared.Fields.{Fields}
+use Rattle.spec_position.specs.declared.Position.{Position}
 
 abbrev typed : (hours minutes thousandths minus degrees arcminutes arcthousandths : ℕ) → Fields
 typed h m t s d a b = record {
