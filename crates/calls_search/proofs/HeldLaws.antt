@@ -25,10 +25,10 @@ use Rattle.spec.specs.declared.Role.{Role}
 use Rattle.spec_laws.proofs.Lists.{and-left, and-right}
 use Rattle.log_store.specs.Table.{vectorsOf}
 use Rattle.log_store.specs.Store.{Store, storeLog, storeRows, wellFormedStore}
-use Rattle.log_search.specs.declared.select.Hits.{Hits}
+use Rattle.log_select.specs.declared.select.Hits.{Hits}
 use Rattle.log_search.specs.declared.answer.Found as nearest
 use Rattle.log_search.specs.declared.answer.Found.the-variants as N
-use Rattle.log_search.specs.Search.{idOf, distanceOf}
+use Rattle.log_select.specs.Written.{idOf, distanceOf}
 use Rattle.log_search.proofs.Answered.{least-both, answered-short, answered-found}
 use Rattle.image_store_search.specs.Nearest.{NearestIn}
 use Rattle.node_shard.specs.declared.Held.{Held}

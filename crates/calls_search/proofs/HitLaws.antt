@@ -13,7 +13,7 @@ use Rattle.spec.specs.Layout.Format.{bytesOf, concatMap}
 use Rattle.spec.specs.Node.Wire.{bitsOf}
 use Rattle.spec.specs.declared.Neighbor.{Neighbor}
 use Rattle.log_store.proofs.Firsts.{firsts-same}
-use Rattle.log_search.specs.Search.{idOf, distanceOf}
+use Rattle.log_select.specs.Written.{idOf, distanceOf}
 use Rattle.calls_parts.specs.Answer.{answerLent, numberPut}
 use Rattle.node_search.specs.Searches.{Output, output}
 use Rattle.calls_client_out.specs.Hits.{hitAt, hitBytes, hitsBytes}

@@ -11,8 +11,8 @@ use Rattle.spec.specs.Limits.{maxEntries}
 use Rattle.spec.specs.Nearest.Search.{hits}
 use Rattle.spec.specs.declared.Neighbor.{Neighbor}
 use Rattle.log_store.specs.Table.{vectorsOf}
-use Rattle.log_search.specs.declared.select.Hits.{Hits}
-use Rattle.log_search.specs.Search.{idOf, distanceOf}
+use Rattle.log_select.specs.declared.select.Hits.{Hits}
+use Rattle.log_select.specs.Written.{idOf, distanceOf}
 use Rattle.node_header.specs.declared.HeldRow.{HeldRow}
 use Rattle.node_header.specs.declared.Node.{Node}
 use Rattle.image_header.specs.Image.{nodeAt}

@@ -25,7 +25,7 @@ use image_layout::header::STORED;
 use image_layout::stores::STORE;
 use image_parts::codes::metric_of;
 use log_search::answer::least;
-use log_search::select::Hits;
+use log_select::select::Hits;
 use map_tables::ShardKey;
 use node_admit::lease::leased;
 use node_shard::rows::leads;

@@ -5,13 +5,13 @@ ghost use mathlib.Core.List.{map};
 ghost use lib.ListN.{length};
 ghost use lib.Seq.{sets};
 ghost use Rattle.spec.specs.Node.Wire.{bitsOf};
-ghost use Rattle.log_search.specs.Search.{idOf, distanceOf};
+ghost use Rattle.log_select.specs.Written.{idOf, distanceOf};
 ghost use Rattle.calls_client_out.specs.Hits.{hitsBytes};
 ghost use Rattle.calls_client_out.specs.Found.{ended};
 ghost use Rattle.calls_search.specs.Served.{hitsEnded};
 use calls_client_out::hits::room_of;
 use calls_parts::answer::put_number;
-use log_search::select::Hits;
+use log_select::select::Hits;
 
 // The bytes of a neighbour, and those of its id.
 const HIT: usize = 12;

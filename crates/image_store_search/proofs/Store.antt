@@ -38,9 +38,10 @@ use Rattle.image_store.proofs.Read.{byte-at, image-log}
 use Rattle.image_store.proofs.Test.{storeRead, image-test}
 use Rattle.float_distance.specs.declared.sums.Kind.{Kind}
 use Rattle.float_distance.specs.Halves.{kindOf, elementOf}
-use Rattle.log_search.specs.Column.{Selectable, rough}
-use Rattle.log_search.specs.Chosen.{Selected}
-use Rattle.log_search.specs.declared.select.Hits.{Hits}
+use Rattle.log_select.specs.Selectable.{Selectable}
+use Rattle.log_select.specs.Chosen.{Selected}
+use Rattle.log_select.specs.declared.select.Hits.{Hits}
+use Rattle.log_search.specs.Column.{rough}
 use Rattle.log_search.proofs.Searching.{column-selectable, column-hits}
 use Rattle.image_store_search.specs.Column.{offsetOf, entryOf, lengthOf, startOf, vectorIn, Named, Filled}
 use Rattle.image_store_search.specs.Nearest.{NearestIn}

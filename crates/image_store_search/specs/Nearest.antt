@@ -8,7 +8,7 @@ use Rattle.spec.specs.declared.Metric.{Metric}
 use Rattle.spec.specs.Nearest.Search.{hits}
 use Rattle.log_store.specs.Table.{vectorsOf}
 use Rattle.image_store.specs.Image.{logAt, rowsAt}
-use Rattle.log_search.specs.declared.select.Hits.{Hits}
+use Rattle.log_select.specs.declared.select.Hits.{Hits}
 
 pub record NearestIn (s : List ℕ) (base count stored : ℕ) (metric : Metric) (query : List Float) (k : ℕ) (h : Hits) : Type 0 where
   pub long : length (h .items) ≡ 1025

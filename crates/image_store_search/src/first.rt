@@ -2,8 +2,8 @@
 
 use crate::column::fill;
 use crate::column::read_words;
-use log_search::select::Hits;
-use log_search::select::choose;
+use log_select::select::Hits;
+use log_select::select::choose;
 use spec::Metric;
 ghost use mathlib.Core.Path.{_≡_};
 ghost use mathlib.Core.Bool.{true};

@@ -22,7 +22,8 @@ use Rattle.log_store.specs.Store.{Store, storeLog, storeRows, wellFormedStore, 
 use Rattle.log_store.proofs.Facts.{facts, keys-fit, places-fit}
 use Rattle.log_store.proofs.Rows.{rows-length}
 use Rattle.log_search.specs.declared.answer.Found.the-variants.{Hits, Refused}
-use Rattle.log_search.specs.Search.{idOf, distanceOf, searchStore, Searched}
+use Rattle.log_select.specs.Written.{idOf, distanceOf}
+use Rattle.log_search.specs.Search.{searchStore, Searched}
 
 -- the lesser of two
 pub least-both : (r a b : ℕ) → r ≡ min a b → (r ≤ a) × (r ≤ b)

@@ -1,36 +1,20 @@
--- A column filled from its start, and the vectors that rows name. Assumes nothing.
+-- A column filled from its start four at a time, and the vectors that rows name. Assumes nothing.
 use Prim.Native.Nat.{ℕ, _+_, _-_, _*_, _≤_, _<_}
 use mathlib.Core.Path.{_≡_, sym, ap, _∙_, subst}
-use mathlib.Core.Bool.{true, false}
 use mathlib.Core.List.{List, []}
-use mathlib.Core.Logic.{⊎-elim}
-use native.Mathlib.Nat.{eq-or-lt-of-le}
 use native.Mathlib.Omega.{arith}
-use lib.Dec.{T}
 use lib.Ieee.{Float}
 use lib.ListN.{length, take, drop, getD, set, length-set}
-use lib.Seq.{getD-set-same, getD-set-other}
 use Rattle.spec.specs.declared.Metric.{Metric}
 use Rattle.spec.specs.Log.{lookup}
 use Rattle.spec.specs.Nearest.Distance.{Bounded}
 use Rattle.log_store.specs.View.{columns, logOf, stretch}
 use Rattle.log_store.proofs.Columns.{look-at, op-set}
 use Rattle.float_distance.specs.Lanes.{stored}
+use Rattle.log_arrange.proofs.Filling.{one-more}
 use Rattle.log_search.specs.Column.{rough, Whole, Walkable}
 
-pub never {ℓ} : {A : Type ℓ} → false ≡ true → A
-never e = absurd (subst T (sym e) tt)
-
--- ---- one element more
-module _ {ℓ} {A : Type ℓ} (f : ℕ → A) (d : A) (xs : List A) (i : ℕ) (x : A) (h : i < length xs) where
-  pub one-more : ((j : ℕ) → j < i → getD xs j d ≡ f j) → x ≡ f i → (j : ℕ) → j < i + 1 → getD (set xs i x) j d ≡ f j
-  one-more up e j l =
-      ⊎-elim
-      (λ (q : j ≡ i). ap (λ (z : ℕ). getD (set xs i x) z d) q ∙ getD-set-same xs i x d h ∙ e ∙ ap f (sym q))
-      (λ (q : j < i). getD-set-other xs i j x d (λ (z : j ≡ i). absurd (omega arith)) ∙ up j q)
-      (eq-or-lt-of-le {n = j} {m = i} (omega arith))
-
--- .. and four
+-- ---- four elements more
 pub four-more {ℓ} : {A : Type ℓ} (f : ℕ → A) (d : A) (xs : List A) (i : ℕ) (x y z w : A) → i + 4 ≤ length xs
     → ((j : ℕ) → j < i → getD xs j d ≡ f j) → x ≡ f i → y ≡ f (i + 1) → z ≡ f (i + 2) → w ≡ f (i + 3)
     → (j : ℕ) → j < i + 4 → getD (set (set (set (set xs i x) (i + 1) y) (i + 2) z) (i + 3) w) j d ≡ f j

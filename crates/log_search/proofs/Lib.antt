@@ -1,10 +1,5 @@
-pub mod Hits
-pub mod Placing
 pub mod Filling
 pub mod Settled
-pub mod Chosen
-pub mod Rearranged
 pub mod Searching
-pub mod Writing
 pub mod Asked
 pub mod Answered

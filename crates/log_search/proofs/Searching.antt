@@ -36,7 +36,8 @@ use Rattle.log_store.proofs.Firsts.{firsts-length, firsts-at}
 use Rattle.log_store.proofs.Rows.{rows-length, rows-at, no-row}
 use Rattle.float_distance.specs.declared.sums.Kind.{Kind}
 use Rattle.float_distance.specs.Halves.{settled, kindOf, elementOf}
-use Rattle.log_search.specs.Column.{Ready, neighborAt, bitsOf, bitsAt, Selectable, rough, Walkable}
+use Rattle.log_select.specs.Selectable.{Ready, neighborAt, bitsOf, bitsAt, Selectable}
+use Rattle.log_search.specs.Column.{rough, Walkable}
 use Rattle.log_search.proofs.Settled.{rough-settled, rough-ready}
 
 -- ---- stored vectors lie in the domain

@@ -11,7 +11,8 @@ use Rattle.spec.specs.Nearest.Distance.{distance, squares, norm, Bounded}
 use Rattle.spec_laws.proofs.Nearest.NoNan.{distance-no-nan, squares-rootable}
 use Rattle.float_distance.specs.Halves.{settled, kindOf, elementOf}
 use Rattle.float_distance.proofs.Halves.{halves, given-own}
-use Rattle.log_search.specs.Column.{Ready, rough}
+use Rattle.log_select.specs.Selectable.{Ready}
+use Rattle.log_search.specs.Column.{rough}
 
 -- ---- the element of a vector
 pub rough-made : (m n : Metric) (q v : List Float) (x : Float) → m ≡ n → x ≡ rough n q v → x ≡ rough m q v

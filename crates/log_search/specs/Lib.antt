@@ -1,4 +1,2 @@
 pub mod Search
 pub mod Column
-pub mod Chosen
-pub mod Arrange

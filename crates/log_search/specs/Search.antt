@@ -12,17 +12,11 @@ use Rattle.spec.specs.Nearest.Search.{hits}
 use Rattle.spec.specs.Node.WellFormed.{wellFormedVector}
 use Rattle.spec.specs.Node.Client.{SearchAnswer, found, searchRefused}
 use Rattle.spec.specs.declared.Metric.{Metric}
-use Rattle.spec.specs.declared.Neighbor.{Neighbor}
 use Rattle.log_store.specs.Table.{vectorsOf}
 use Rattle.log_store.specs.Store.{Store, storeLog, storeRows, wellFormedStore}
+use Rattle.log_select.specs.Written.{idOf, distanceOf}
 use Rattle.log_search.specs.declared.answer.Found.{Found}
 use Rattle.log_search.specs.declared.answer.Found.the-variants.{Hits, Refused}
-
-abbrev pub idOf : Neighbor → ℕ
-idOf x = x .id
-
-abbrev pub distanceOf : Neighbor → Float
-distanceOf x = x .distance
 
 -- 'Who is turned down': 22, 24, then 23 if the lent output is short of the answer
 unfoldable pub searchStore : Store → Metric → (query : List Float) → (k room : ℕ) → SearchAnswer

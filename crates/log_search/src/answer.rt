@@ -1,37 +1,19 @@
 // What a search answers (paper 01, 'Nearest objects', 'Who is turned down'), and its hits in two lent columns.
 
-use super::select::Hits;
 use spec::Metric;
 ghost use mathlib.Core.Path.{_≡_};
 ghost use mathlib.Core.Bool.{true};
-ghost use Prim.Native.Nat.{_≤_, min};
-ghost use mathlib.Core.List.{_++_, map};
-ghost use lib.ListN.{length, take, drop};
+ghost use Prim.Native.Nat.{min};
+ghost use lib.ListN.{length};
 ghost use Rattle.spec.specs.Node.WellFormed.{wellFormedVector};
 ghost use Rattle.log_store.specs.View.{columns};
 ghost use Rattle.log_store.specs.Store.{lent, Sized, wellFormedStore};
-ghost use Rattle.log_search.specs.Search.{idOf, distanceOf, searchStore, Searched};
+ghost use Rattle.log_search.specs.Search.{searchStore, Searched};
 
 // What a search found: how many neighbours, or the number of its refusal.
 pub enum Found {
     Hits(usize),
     Refused(u8),
-}
-
-// Internal: the hits written into two lent columns; what lies past them stays as it was.
-fn write_hits(h: Hits, found: &mut [u64], distances: &mut [f32])
-    requires { ⌜ (h .count ≤ 1024) × (length (h .items) ≡ 1025) × (h .count ≤ length (now found)) × (h .count ≤ length (now distances)) ⌝ }
-    ensures { λ _. ⌜ (now (found .exit) ≡ map idOf (take (h .count) (h .items)) ++ drop (h .count) (now (found .entry)))
-        × (now (distances .exit) ≡ map distanceOf (take (h .count) (h .items)) ++ drop (h .count) (now (distances .entry))) ⌝ }
-{
-    let n = h.count;
-    let mut i: usize = 0;
-    while i < n {
-        let x = h.items[i];
-        found[i] = x.id;
-        distances[i] = x.distance;
-        i += 1;
-    }
 }
 
 // Internal: the lesser of two numbers.
@@ -90,6 +72,6 @@ pub fn search_tested(
     if least(found.len(), distances.len()) < n {
         return Found::Refused(23);
     }
-    write_hits(h, found, distances);
+    log_select::write::write_hits(h, found, distances);
     Found::Hits(n)
 }

@@ -1,7 +1,7 @@
 // Search (paper 01, 'Nearest objects'; shard.rs, search): the stored vectors in the order of their distance to a query,
 // kept as neighbours.
 
-use super::select::Hits;
+use log_select::select::Hits;
 use spec::Metric;
 ghost use mathlib.Core.Path.{_≡_};
 ghost use mathlib.Core.Bool.{true};
@@ -51,5 +51,5 @@ pub fn nearest(
         qnorm,
         &mut xs,
     );
-    super::select::choose(keys, &xs, stored, kind, k)
+    log_select::select::choose(keys, &xs, stored, kind, k)
 }

@@ -2,8 +2,6 @@
 // query, over one replica's lent store.
 
 pub mod answer;
-mod arrange;
 mod column;
 mod first;
 pub mod query;
-pub mod select;

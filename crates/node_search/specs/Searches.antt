@@ -23,7 +23,7 @@ use Rattle.log_store.specs.Store.{Store}
 use Rattle.node_log_write.specs.Writes.{viewStored}
 use Rattle.log_search.specs.declared.answer.Found as nearest
 use Rattle.log_search.specs.declared.answer.Found.the-variants as N
-use Rattle.log_search.specs.Search.{idOf, distanceOf}
+use Rattle.log_select.specs.Written.{idOf, distanceOf}
 use Rattle.node_header.specs.declared.Node.{Node}
 use Rattle.node_header.specs.View.{Stores, viewNode}
 use Rattle.node_lent.specs.Lend.{LentStore, lentFor, slotOf, Lends}

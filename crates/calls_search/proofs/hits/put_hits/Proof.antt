@@ -7,7 +7,7 @@ use Prim.Native.Nat.{ℕ, _+_, _-_, _*_, _≤_, _<_}
 use lib.ListN.{length, getD, take, drop, set}
 use mathlib.Core.List.{map}
 use lib.Seq.{sets}
-use Rattle.log_search.specs.Search.{idOf, distanceOf}
+use Rattle.log_select.specs.Written.{idOf, distanceOf}
 use Rattle.calls_client_out.specs.Hits.{hitsBytes}
 use Rattle.calls_client_out.proofs.HitLaws.{hits-none}
 use Rattle.calls_search.proofs.HitLaws.{one-more}

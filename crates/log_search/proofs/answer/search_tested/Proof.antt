@@ -10,7 +10,7 @@ use Rattle.log_search.proofs.Answered.{least-most, least-both, answered
 use Rattle.log_search.proofs.answer.search_tested.Statement.{statement}
 use Rattle.log_search.proofs.answer.search_tested.Tie as tie
 use Rattle.log_search.proofs.answer.least.Reads as least-reads
-use Rattle.log_search.proofs.answer.write_hits.Reads as write-hits-reads
+use Rattle.log_select.proofs.write.write_hits.Reads as write-hits-reads
 use Rattle.log_search.proofs.first.nearest.Reads as nearest-reads
 
 least-requires : tie.Need-least-requires

@@ -9,7 +9,8 @@ use lib.ListN.{length, length-set}
 use Rattle.spec.specs.Nearest.Distance.{Bounded}
 use Rattle.float_distance.specs.Halves.{elementOf}
 use Rattle.log_search.specs.Column.{rough, named, Filled}
-use Rattle.log_search.proofs.Filling.{one-more, four-more, whole-fits, lane-within, lane-bounded, lane-rough}
+use Rattle.log_arrange.proofs.Filling.{one-more}
+use Rattle.log_search.proofs.Filling.{four-more, whole-fits, lane-within, lane-bounded, lane-rough}
 use Rattle.log_search.proofs.column.fill.Statement.{statement}
 use Rattle.log_search.proofs.column.fill.Tie as tie
 use Rattle.log_search.proofs.column.four_whole.Reads as four-whole-reads

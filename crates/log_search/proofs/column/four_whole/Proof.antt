@@ -2,7 +2,7 @@
 use borrow.Author.Needs.{needs}
 use native.Mathlib.Omega.{arith}
 use borrow.Author.Tests.{not-false}
-use Rattle.log_search.proofs.Filling.{never}
+use Rattle.log_arrange.proofs.Filling.{never}
 use Rattle.log_search.proofs.column.four_whole.Statement.{statement}
 use Rattle.log_search.proofs.column.four_whole.Tie as tie
 use Rattle.log_search.proofs.column.is_whole.Reads as is-whole-reads

@@ -4,7 +4,7 @@ use native.Mathlib.Omega.{arith}
 use mathlib.Core.Path.{_≡_}
 use Prim.Native.Nat.{ℕ, _-_, _<_}
 use borrow.Author.Tests.{eqb-true}
-use Rattle.log_search.proofs.Filling.{never}
+use Rattle.log_arrange.proofs.Filling.{never}
 use Rattle.log_search.proofs.column.is_whole.Statement.{statement}
 use Rattle.log_search.proofs.column.is_whole.Tie as tie
 

@@ -1,0 +1,5 @@
+pub mod Hits
+pub mod Placing
+pub mod Chosen
+pub mod Rearranged
+pub mod Writing

@@ -1,0 +1,3 @@
+pub mod Selectable
+pub mod Chosen
+pub mod Written
