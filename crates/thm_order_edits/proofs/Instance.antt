@@ -1,13 +1,13 @@
 -- The premises of Order.antt met by columns of 1,024 places: a store that has set object 5; an Upsert of 3 and a Delete of 5 appended
 -- in the two orders, and an Upsert of 5 before its Delete. Assumes nothing.
-use Prim.Native.Nat.{ℕ, _≤_}
+use Prim.Native.Nat.{ℕ, _+_, _≤_, _<_}
 use mathlib.Core.Path.{_≡_, refl, sym, ap, _∙_}
 use mathlib.Core.Bool.{true, false}
 use mathlib.Core.List.{List, [], _∷_, _++_}
 use mathlib.Core.Option.{some}
 use native.Mathlib.Omega.{arith}
 use lib.Ieee.{Float}
-use lib.ListN.{replicate}
+use lib.ListN.{replicate, drop}
 use Rattle.spec.specs.Log.{Op, upsert, delete, ShardReplica, append}
 use Rattle.spec.specs.Layout.Message as message
 use Rattle.spec.specs.Layout.Parts.{WireOp, wireUpsert, wireDelete}
@@ -19,7 +19,7 @@ use Rattle.spec.proofs.Opened.{opened}
 use Rattle.log_store.specs.View as view
 use Rattle.log_store.specs.Table as table
 use Rattle.log_store.specs.Store as store
-use Rattle.log_store.specs.View.{columns}
+use Rattle.log_store.specs.View.{columns, Inscribed, writtenAll}
 use Rattle.log_store.specs.Store.{Store, Spares, lent, replicaIn}
 use Rattle.log_calls.specs.Fits as test
 use Rattle.log_calls.specs.Fits.{lentFits}
@@ -138,161 +138,58 @@ after-z-y-fits = refl
 abbrev done : ℕ → ℕ → Done
 done count stored = record { answer = A.Appended (record { 0 = count }); epoch = record { 0 = 1 }; count = count; stored = stored }
 
-left-call-x : (m : Metric) → replicaIn 1 m after-x ≡ append (replicaIn 1 m before) (sets 3)
-unfolding opened before after-x store.replicaIn view.logOf view.firsts view.entryOf view.opOf view.stretch table.rowsOf table.zipped table.vectorsOf table.vectorOf
-left-call-x m = refl
+-- a call on s left t: the definition's replica, and of the places only one entry more
+module _ (b : List ℕ) (op : Op) (e : Edit b op) (s t : Store) (f : lentFits s ≡ true) (room : s .count < 1024) (one : Inscribed) where
+  called : (stored : ℕ) → lentFits t ≡ true → t .count ≡ s .count + 1 → ((m : Metric) → replicaIn 1 m t ≡ append (replicaIn 1 m s) op)
+      → t .columns ≡ writtenAll (s .columns) (s .count) (one ∷ []) → drop (t .count) (t .keys) ≡ drop (t .count) (s .keys)
+      → drop (t .count) (t .places) ≡ drop (t .count) (s .places) → Appends b 1 s t (done (s .count + 1) stored)
+  called stored g n left written keys places = record {
+    same =
+        λ m. ap (λ (r : ShardReplica). gives {S = ShardReplica} (A.Appended (record { 0 = s .count + 1 })) r) (left m) ∙ sym (there b 1 s op e f room m);
+    kept = λ k. not-both false k refl;
+    fits = λ _. g;
+    spares = record {
+      entries = one ∷ [];
+      grown = omega (arith, n);
+      columns = written;
+      keys = keys;
+      places = places;
+      same = λ q. absurd (omega (arith, n, q));
+    };
+  }
 
-spares-x : Spares before after-x
-unfolding opened before after-x view.writtenAll view.written
-spares-x = record {
-  entries = record { epoch = 1; code = 1; id = 3; bits = 1073741824 ∷ [] } ∷ [];
-  grown = refl;
-  columns = refl;
-  keys = refl;
-  places = refl;
-  same = λ e. absurd (omega (arith, e));
-}
+abbrev entry-x : Inscribed
+entry-x = record { epoch = 1; code = 1; id = 3; bits = 1073741824 ∷ [] }
+
+abbrev entry-y : Inscribed
+entry-y = record { epoch = 1; code = 2; id = 5; bits = [] }
+
+abbrev entry-z : Inscribed
+entry-z = record { epoch = 1; code = 1; id = 5; bits = 1073741824 ∷ [] }
 
 call-x : Appends x 1 before after-x (done 2 2)
-unfolding before
-call-x = record {
-  same =
-      λ m. ap (λ (r : ShardReplica). gives {S = ShardReplica} (A.Appended (record { 0 = 2 })) r) (left-call-x m)
-      ∙ sym (there x 1 before (sets 3) edit-x before-fits (omega arith) m);
-  kept = λ k. not-both false k refl;
-  fits = λ _. after-x-fits;
-  spares = spares-x;
-}
-
-left-call-x-y : (m : Metric) → replicaIn 1 m after-x-y ≡ append (replicaIn 1 m after-x) (delete 5)
-unfolding opened after-x after-x-y store.replicaIn view.logOf view.firsts view.entryOf view.opOf view.stretch table.rowsOf table.zipped table.vectorsOf table.vectorOf
-left-call-x-y m = refl
-
-spares-x-y : Spares after-x after-x-y
-unfolding opened after-x after-x-y view.writtenAll view.written
-spares-x-y = record {
-  entries = record { epoch = 1; code = 2; id = 5; bits = [] } ∷ [];
-  grown = refl;
-  columns = refl;
-  keys = refl;
-  places = refl;
-  same = λ e. absurd (omega (arith, e));
-}
+unfolding opened before after-x store.replicaIn view.logOf view.firsts view.entryOf view.opOf view.stretch view.writtenAll view.written table.rowsOf table.zipped table.vectorsOf table.vectorOf
+call-x = called x (sets 3) edit-x before after-x before-fits (omega arith) entry-x 2 after-x-fits refl (λ m. refl) refl refl refl
 
 call-x-y : Appends y 1 after-x after-x-y (done 3 1)
-unfolding after-x
-call-x-y = record {
-  same =
-      λ m. ap (λ (r : ShardReplica). gives {S = ShardReplica} (A.Appended (record { 0 = 3 })) r) (left-call-x-y m)
-      ∙ sym (there y 1 after-x (delete 5) edit-y after-x-fits (omega arith) m);
-  kept = λ k. not-both false k refl;
-  fits = λ _. after-x-y-fits;
-  spares = spares-x-y;
-}
-
-left-call-y : (m : Metric) → replicaIn 1 m after-y ≡ append (replicaIn 1 m before) (delete 5)
-unfolding opened before after-y store.replicaIn view.logOf view.firsts view.entryOf view.opOf view.stretch table.rowsOf table.zipped table.vectorsOf table.vectorOf
-left-call-y m = refl
-
-spares-y : Spares before after-y
-unfolding opened before after-y view.writtenAll view.written
-spares-y = record {
-  entries = record { epoch = 1; code = 2; id = 5; bits = [] } ∷ [];
-  grown = refl;
-  columns = refl;
-  keys = refl;
-  places = refl;
-  same = λ e. absurd (omega (arith, e));
-}
+unfolding opened after-x after-x-y store.replicaIn view.logOf view.firsts view.entryOf view.opOf view.stretch view.writtenAll view.written table.rowsOf table.zipped table.vectorsOf table.vectorOf
+call-x-y = called y (delete 5) edit-y after-x after-x-y after-x-fits (omega arith) entry-y 1 after-x-y-fits refl (λ m. refl) refl refl refl
 
 call-y : Appends y 1 before after-y (done 2 0)
-unfolding before
-call-y = record {
-  same =
-      λ m. ap (λ (r : ShardReplica). gives {S = ShardReplica} (A.Appended (record { 0 = 2 })) r) (left-call-y m)
-      ∙ sym (there y 1 before (delete 5) edit-y before-fits (omega arith) m);
-  kept = λ k. not-both false k refl;
-  fits = λ _. after-y-fits;
-  spares = spares-y;
-}
-
-left-call-y-x : (m : Metric) → replicaIn 1 m after-y-x ≡ append (replicaIn 1 m after-y) (sets 3)
-unfolding opened after-y after-y-x store.replicaIn view.logOf view.firsts view.entryOf view.opOf view.stretch table.rowsOf table.zipped table.vectorsOf table.vectorOf
-left-call-y-x m = refl
-
-spares-y-x : Spares after-y after-y-x
-unfolding opened after-y after-y-x view.writtenAll view.written
-spares-y-x = record {
-  entries = record { epoch = 1; code = 1; id = 3; bits = 1073741824 ∷ [] } ∷ [];
-  grown = refl;
-  columns = refl;
-  keys = refl;
-  places = refl;
-  same = λ e. absurd (omega (arith, e));
-}
+unfolding opened before after-y store.replicaIn view.logOf view.firsts view.entryOf view.opOf view.stretch view.writtenAll view.written table.rowsOf table.zipped table.vectorsOf table.vectorOf
+call-y = called y (delete 5) edit-y before after-y before-fits (omega arith) entry-y 0 after-y-fits refl (λ m. refl) refl refl refl
 
 call-y-x : Appends x 1 after-y after-y-x (done 3 1)
-unfolding after-y
-call-y-x = record {
-  same =
-      λ m. ap (λ (r : ShardReplica). gives {S = ShardReplica} (A.Appended (record { 0 = 3 })) r) (left-call-y-x m)
-      ∙ sym (there x 1 after-y (sets 3) edit-x after-y-fits (omega arith) m);
-  kept = λ k. not-both false k refl;
-  fits = λ _. after-y-x-fits;
-  spares = spares-y-x;
-}
-
-left-call-z : (m : Metric) → replicaIn 1 m after-z ≡ append (replicaIn 1 m before) (sets 5)
-unfolding opened before after-z store.replicaIn view.logOf view.firsts view.entryOf view.opOf view.stretch table.rowsOf table.zipped table.vectorsOf table.vectorOf
-left-call-z m = refl
-
-spares-z : Spares before after-z
-unfolding opened before after-z view.writtenAll view.written
-spares-z = record {
-  entries = record { epoch = 1; code = 1; id = 5; bits = 1073741824 ∷ [] } ∷ [];
-  grown = refl;
-  columns = refl;
-  keys = refl;
-  places = refl;
-  same = λ e. absurd (omega (arith, e));
-}
+unfolding opened after-y after-y-x store.replicaIn view.logOf view.firsts view.entryOf view.opOf view.stretch view.writtenAll view.written table.rowsOf table.zipped table.vectorsOf table.vectorOf
+call-y-x = called x (sets 3) edit-x after-y after-y-x after-y-fits (omega arith) entry-x 1 after-y-x-fits refl (λ m. refl) refl refl refl
 
 call-z : Appends z 1 before after-z (done 2 1)
-unfolding before
-call-z = record {
-  same =
-      λ m. ap (λ (r : ShardReplica). gives {S = ShardReplica} (A.Appended (record { 0 = 2 })) r) (left-call-z m)
-      ∙ sym (there z 1 before (sets 5) edit-z before-fits (omega arith) m);
-  kept = λ k. not-both false k refl;
-  fits = λ _. after-z-fits;
-  spares = spares-z;
-}
-
-left-call-z-y : (m : Metric) → replicaIn 1 m after-z-y ≡ append (replicaIn 1 m after-z) (delete 5)
-unfolding opened after-z after-z-y store.replicaIn view.logOf view.firsts view.entryOf view.opOf view.stretch table.rowsOf table.zipped table.vectorsOf table.vectorOf
-left-call-z-y m = refl
-
-spares-z-y : Spares after-z after-z-y
-unfolding opened after-z after-z-y view.writtenAll view.written
-spares-z-y = record {
-  entries = record { epoch = 1; code = 2; id = 5; bits = [] } ∷ [];
-  grown = refl;
-  columns = refl;
-  keys = refl;
-  places = refl;
-  same = λ e. absurd (omega (arith, e));
-}
+unfolding opened before after-z store.replicaIn view.logOf view.firsts view.entryOf view.opOf view.stretch view.writtenAll view.written table.rowsOf table.zipped table.vectorsOf table.vectorOf
+call-z = called z (sets 5) edit-z before after-z before-fits (omega arith) entry-z 1 after-z-fits refl (λ m. refl) refl refl refl
 
 call-z-y : Appends y 1 after-z after-z-y (done 3 0)
-unfolding after-z
-call-z-y = record {
-  same =
-      λ m. ap (λ (r : ShardReplica). gives {S = ShardReplica} (A.Appended (record { 0 = 3 })) r) (left-call-z-y m)
-      ∙ sym (there y 1 after-z (delete 5) edit-y after-z-fits (omega arith) m);
-  kept = λ k. not-both false k refl;
-  fits = λ _. after-z-y-fits;
-  spares = spares-z-y;
-}
+unfolding opened after-z after-z-y store.replicaIn view.logOf view.firsts view.entryOf view.opOf view.stretch view.writtenAll view.written table.rowsOf table.zipped table.vectorsOf table.vectorOf
+call-z-y = called y (delete 5) edit-y after-z after-z-y after-z-fits (omega arith) entry-y 0 after-z-y-fits refl (λ m. refl) refl refl refl
 
 turn-x-y : InTurn x y 1 before after-x-y
 turn-x-y = record { between = after-x; first = done 2 2; second = done 3 1; called = call-x; followed = call-x-y }
