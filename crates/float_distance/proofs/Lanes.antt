@@ -8,7 +8,7 @@ use lib.Seq.{getD-take, getD-drop}
 use lib.Ieee.{Float, nan, binary32, add, mul}
 use Rattle.spec.specs.Nearest.Distance.{sumFrom, plusZero, dot}
 use Rattle.spec_laws.proofs.Nearest.Sums.{sum-step, sum-ends-right}
-use Rattle.float_distance.specs.Lanes.{stored}
+use Rattle.float_distance.specs.Lanes.{stored, Places, FourSums}
 
 -- ---- a stored vector
 module _ (floats : List Float) (p n : ℕ) (fits : p + n ≤ length floats) where
@@ -69,3 +69,33 @@ module _ (floats : List Float) (p n : ℕ) (fits : p + n ≤ length floats) wher
   self-end i acc h l =
       lane-end (mul binary32) (stored floats p n) (stored floats p n) i acc
       (subst (λ (z : ℕ). z ≤ i) (sym (stored-length floats p n fits)) h) l
+
+-- ---- four sums under way, each over its own stored vector
+module _ (term : Float → Float → Float) (query floats : List Float) (p q r s n : ℕ) where
+  abbrev pub FourLanes : ℕ → (a b c d : Float) → Type 0
+  FourLanes i a b c d =
+      Lane term query (stored floats p n) i a
+      × Lane term query (stored floats q n) i b
+      × Lane term query (stored floats r n) i c
+      × Lane term query (stored floats s n) i d
+
+  module _ (h : Places query floats p q r s n) (i : ℕ) (a b c d : Float) where
+    -- a sum with the term of the components at i
+    abbrev grown : Float → ℕ → Float
+    grown acc at = add binary32 acc (term (getD query i nan) (getD floats (at + i) nan))
+
+    pub four-more : i < n → FourLanes i a b c d → FourLanes (i + 1) (grown a p) (grown b q) (grown c r) (grown d s)
+    four-more t l = (
+      with-query query floats p n (h .short) (h .first) term i a t (l .0),
+      with-query query floats q n (h .short) (h .second) term i b t (l .1),
+      with-query query floats r n (h .short) (h .third) term i c t (l .2),
+      with-query query floats s n (h .short) (h .fourth) term i d t (l .3),
+    )
+
+    pub four-end : n ≤ i → FourLanes i a b c d → FourSums term query floats p q r s n (record { a = a; b = b; c = c; d = d })
+    four-end t l = record {
+      first = query-end query floats p n (h .short) (h .first) term i a t (l .0);
+      second = query-end query floats q n (h .short) (h .second) term i b t (l .1);
+      third = query-end query floats r n (h .short) (h .third) term i c t (l .2);
+      fourth = query-end query floats s n (h .short) (h .fourth) term i d t (l .3);
+    }

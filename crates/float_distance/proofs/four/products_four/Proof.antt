@@ -5,17 +5,14 @@ use mathlib.Core.Path.{refl}
 use Prim.Native.Nat.{_-_, _≤_, zero-le}
 use lib.Ieee.{ofBits, binary32, mul}
 use Rattle.float_distance.specs.Lanes.{stored}
-use Rattle.float_distance.proofs.Lanes.{Lane, with-query, query-end, with-self, self-end}
+use Rattle.float_distance.proofs.Lanes.{Lane, with-self, self-end, FourLanes, four-more, four-end}
 use Rattle.float_distance.proofs.four.products_four.Statement.{statement}
 use Rattle.float_distance.proofs.four.products_four.Tie as tie
 
 abbrev Inv-loop : tie.InvT-loop
 Inv-loop query floats p q r s n a₀ b₀ c₀ d₀ e₀ f₀ g₀ h₀ i₀ a b c d e f g h i =
     (i ≤ n)
-    × Lane (mul binary32) query (stored floats p n) i a
-    × Lane (mul binary32) query (stored floats q n) i b
-    × Lane (mul binary32) query (stored floats r n) i c
-    × Lane (mul binary32) query (stored floats s n) i d
+    × (FourLanes (mul binary32) query floats p q r s n i a b c d)
     × Lane (mul binary32) (stored floats p n) (stored floats p n) i e
     × Lane (mul binary32) (stored floats q n) (stored floats q n) i f
     × Lane (mul binary32) (stored floats r n) (stored floats r n) i g
@@ -26,7 +23,7 @@ abbrev μ-loop : tie.MeasureT-loop
 
 loop-holds : tie.Need-loop-holds Inv-loop μ-loop
 unfolding ofBits
-loop-holds c = (zero-le, refl, refl, refl, refl, refl, refl, refl, refl)
+loop-holds c = (zero-le, (refl, refl, refl, refl), refl, refl, refl, refl)
 
 mul-x : tie.Need-mul-x Inv-loop μ-loop
 mul-x c = search needs
@@ -84,18 +81,11 @@ loop-again c =
     let o = lp .loop in
     let t = c .before .before .before .before .before .loop-test .taken in (
       omega arith,
-      with-query (g .query .now) (g .floats .now) (g .p) (g .n) (h .short) (h .first) (mul binary32) (o .i) (o .a) t
-          (o .inv .1),
-      with-query (g .query .now) (g .floats .now) (g .q) (g .n) (h .short) (h .second) (mul binary32) (o .i) (o .b) t
-          (o .inv .2),
-      with-query (g .query .now) (g .floats .now) (g .r) (g .n) (h .short) (h .third) (mul binary32) (o .i) (o .c) t
-          (o .inv .3),
-      with-query (g .query .now) (g .floats .now) (g .s) (g .n) (h .short) (h .fourth) (mul binary32) (o .i) (o .d) t
-          (o .inv .4),
-      with-self (g .floats .now) (g .p) (g .n) (h .first) (o .i) (o .e) t (o .inv .5),
-      with-self (g .floats .now) (g .q) (g .n) (h .second) (o .i) (o .f) t (o .inv .6),
-      with-self (g .floats .now) (g .r) (g .n) (h .third) (o .i) (o .g) t (o .inv .7),
-      with-self (g .floats .now) (g .s) (g .n) (h .fourth) (o .i) (o .h) t (o .inv .8),
+      four-more (mul binary32) (g .query .now) (g .floats .now) (g .p) (g .q) (g .r) (g .s) (g .n) h (o .i) (o .a) (o .b) (o .c) (o .d) t (o .inv .1),
+      with-self (g .floats .now) (g .p) (g .n) (h .first) (o .i) (o .e) t (o .inv .2),
+      with-self (g .floats .now) (g .q) (g .n) (h .second) (o .i) (o .f) t (o .inv .3),
+      with-self (g .floats .now) (g .r) (g .n) (h .third) (o .i) (o .g) t (o .inv .4),
+      with-self (g .floats .now) (g .s) (g .n) (h .fourth) (o .i) (o .h) t (o .inv .5),
     )
 
 returns : tie.Need-returns Inv-loop μ-loop
@@ -105,21 +95,12 @@ returns c =
     let h = lp .before .pre in
     let o = lp .loop in
     let t = c .loop-test .left in (
+      four-end (mul binary32) (g .query .now) (g .floats .now) (g .p) (g .q) (g .r) (g .s) (g .n) h (o .i) (o .a) (o .b) (o .c) (o .d) t (o .inv .1),
       record {
-        first = query-end (g .query .now) (g .floats .now) (g .p) (g .n) (h .short) (h .first) (mul binary32) (o .i)
-            (o .a) t (o .inv .1);
-        second = query-end (g .query .now) (g .floats .now) (g .q) (g .n) (h .short) (h .second) (mul binary32) (o .i)
-            (o .b) t (o .inv .2);
-        third = query-end (g .query .now) (g .floats .now) (g .r) (g .n) (h .short) (h .third) (mul binary32) (o .i)
-            (o .c) t (o .inv .3);
-        fourth = query-end (g .query .now) (g .floats .now) (g .s) (g .n) (h .short) (h .fourth) (mul binary32) (o .i)
-            (o .d) t (o .inv .4);
-      },
-      record {
-        first = self-end (g .floats .now) (g .p) (g .n) (h .first) (o .i) (o .e) t (o .inv .5);
-        second = self-end (g .floats .now) (g .q) (g .n) (h .second) (o .i) (o .f) t (o .inv .6);
-        third = self-end (g .floats .now) (g .r) (g .n) (h .third) (o .i) (o .g) t (o .inv .7);
-        fourth = self-end (g .floats .now) (g .s) (g .n) (h .fourth) (o .i) (o .h) t (o .inv .8);
+        first = self-end (g .floats .now) (g .p) (g .n) (h .first) (o .i) (o .e) t (o .inv .2);
+        second = self-end (g .floats .now) (g .q) (g .n) (h .second) (o .i) (o .f) t (o .inv .3);
+        third = self-end (g .floats .now) (g .r) (g .n) (h .third) (o .i) (o .g) t (o .inv .4);
+        fourth = self-end (g .floats .now) (g .s) (g .n) (h .fourth) (o .i) (o .h) t (o .inv .5);
       },
     )
 

@@ -5,25 +5,19 @@ use mathlib.Core.Path.{refl}
 use Prim.Native.Nat.{_-_, _≤_, zero-le}
 use lib.Ieee.{ofBits}
 use Rattle.spec.specs.Nearest.Distance.{square}
-use Rattle.float_distance.specs.Lanes.{stored}
-use Rattle.float_distance.proofs.Lanes.{Lane, with-query, query-end}
+use Rattle.float_distance.proofs.Lanes.{FourLanes, four-more, four-end}
 use Rattle.float_distance.proofs.four.squares_four.Statement.{statement}
 use Rattle.float_distance.proofs.four.squares_four.Tie as tie
 
 abbrev Inv-loop : tie.InvT-loop
-Inv-loop query floats p q r s n a₀ b₀ c₀ d₀ i₀ a b c d i =
-    (i ≤ n)
-    × Lane square query (stored floats p n) i a
-    × Lane square query (stored floats q n) i b
-    × Lane square query (stored floats r n) i c
-    × Lane square query (stored floats s n) i d
+Inv-loop query floats p q r s n a₀ b₀ c₀ d₀ i₀ a b c d i = (i ≤ n) × FourLanes square query floats p q r s n i a b c d
 
 abbrev μ-loop : tie.MeasureT-loop
 μ-loop query floats p q r s n a₀ b₀ c₀ d₀ i₀ a b c d i = n - i
 
 loop-holds : tie.Need-loop-holds Inv-loop μ-loop
 unfolding ofBits
-loop-holds c = (zero-le, refl, refl, refl, refl)
+loop-holds c = (zero-le, (refl, refl, refl, refl))
 
 mul-x : tie.Need-mul-x Inv-loop μ-loop
 mul-x c = search needs
@@ -77,37 +71,19 @@ loop-again : tie.Need-loop-again Inv-loop μ-loop
 loop-again c =
     let lp = c .before .before .before .before .before .before in
     let g = lp .before .args in
-    let h = lp .before .pre in
-    let o = lp .loop in
-    let t = c .before .before .before .before .before .loop-test .taken in (
+    let o = lp .loop in (
       omega arith,
-      with-query (g .query .now) (g .floats .now) (g .p) (g .n) (h .short) (h .first) square (o .i) (o .a) t
-          (o .inv .1),
-      with-query (g .query .now) (g .floats .now) (g .q) (g .n) (h .short) (h .second) square (o .i) (o .b) t
-          (o .inv .2),
-      with-query (g .query .now) (g .floats .now) (g .r) (g .n) (h .short) (h .third) square (o .i) (o .c) t
-          (o .inv .3),
-      with-query (g .query .now) (g .floats .now) (g .s) (g .n) (h .short) (h .fourth) square (o .i) (o .d) t
-          (o .inv .4),
+      four-more square (g .query .now) (g .floats .now) (g .p) (g .q) (g .r) (g .s) (g .n) (lp .before .pre) (o .i) (o .a) (o .b) (o .c) (o .d)
+          (c .before .before .before .before .before .loop-test .taken) (o .inv .1),
     )
 
 returns : tie.Need-returns Inv-loop μ-loop
 returns c =
     let lp = c .before in
     let g = lp .before .args in
-    let h = lp .before .pre in
     let o = lp .loop in
-    let t = c .loop-test .left in
-    record {
-      first = query-end (g .query .now) (g .floats .now) (g .p) (g .n) (h .short) (h .first) square (o .i) (o .a) t
-          (o .inv .1);
-      second = query-end (g .query .now) (g .floats .now) (g .q) (g .n) (h .short) (h .second) square (o .i) (o .b) t
-          (o .inv .2);
-      third = query-end (g .query .now) (g .floats .now) (g .r) (g .n) (h .short) (h .third) square (o .i) (o .c) t
-          (o .inv .3);
-      fourth = query-end (g .query .now) (g .floats .now) (g .s) (g .n) (h .short) (h .fourth) square (o .i) (o .d) t
-          (o .inv .4);
-    }
+    four-end square (g .query .now) (g .floats .now) (g .p) (g .q) (g .r) (g .s) (g .n) (lp .before .pre) (o .i) (o .a) (o .b) (o .c) (o .d)
+    (c .loop-test .left) (o .inv .1)
 
 pub squares-four-spec : {M : Type 1} → statement M
 squares-four-spec =
