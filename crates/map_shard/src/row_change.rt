@@ -1,15 +1,18 @@
 // Internal: the commands with a shard. Whether a change is taken, and what it makes of the shard's row, each change by itself.
 ghost use mathlib.Core.Path.{_≡_};
+ghost use mathlib.Core.Bool.{cond};
 ghost use Prim.Native.Nat.{_≤_, _<_};
 ghost use lib.ListN.{length};
 ghost use Rattle.spec.specs.Lists.{put};
 ghost use Rattle.spec.specs.Map.Change as change;
-ghost use Rattle.map_tables.specs.View.{viewShard, viewPrimary, viewInSync, answerOf};
+ghost use Rattle.map_tables.specs.View.{viewShard, viewPrimary, viewInSync, answerOf, rejectionOf};
+ghost use Rattle.map_tables.specs.Names.{viewKey};
 ghost use Rattle.map_tables.specs.Counted.{Sized};
 use map_tables::InSync;
 use map_tables::Primary;
 use map_tables::Refusal;
 use map_tables::Rejection;
+use map_tables::ShardKey;
 use map_tables::ShardRow;
 use map_tables::Verdict;
 use map_tables::answers::applied;
@@ -56,19 +59,40 @@ pub fn add_answer(s: ShardRow, node: DataNodeId, incarnation: u64) -> Verdict
     applied()
 }
 
+// What Remove and Shrink share: the primary stays, and who is to leave must be there.
+fn leave_answer(
+    primary: bool,
+    there: bool,
+    stays: Rejection,
+    absent: Rejection,
+    key: ShardKey,
+) -> Verdict
+    ensures { λ v. ⌜ answerOf v ≡ cond primary (change.rejects (rejectionOf stays (viewKey key))) (cond there change.accepts (change.rejects (rejectionOf absent (viewKey key)))) ⌝ }
+{
+    if primary {
+        return rejected(stays, key);
+    }
+    if there {
+        return applied();
+    }
+    rejected(absent, key)
+}
+
 // Internal: Remove's answer: 12, 13.
 pub fn remove_answer(s: ShardRow, node: DataNodeId) -> Verdict
     requires { ⌜ Sized s ⌝ }
     ensures { λ v. ⌜ answerOf v ≡ change.decideChange (viewShard s) (change.remove (node .0)) ⌝ }
 {
     let p = s.primary;
-    if is_primary(p, node) {
-        return rejected(Rejection::RemovesPrimary, no_key());
-    }
-    if has_holder(s.replicas, node) {
-        return applied();
-    }
-    rejected(Rejection::NotHeld(node), no_key())
+    let primary = is_primary(p, node);
+    let there = has_holder(s.replicas, node);
+    leave_answer(
+        primary,
+        there,
+        Rejection::RemovesPrimary,
+        Rejection::NotHeld(node),
+        no_key(),
+    )
 }
 
 // Internal: Promote's answer: 14, 25.
@@ -92,13 +116,15 @@ pub fn shrink_answer(s: ShardRow, node: DataNodeId) -> Verdict
     ensures { λ v. ⌜ answerOf v ≡ change.decideChange (viewShard s) (change.shrink (node .0)) ⌝ }
 {
     let p = s.primary;
-    if is_primary(p, node) {
-        return rejected(Rejection::ShrinksPrimary, no_key());
-    }
-    if has_synced(s.insync, node) {
-        return applied();
-    }
-    rejected(Rejection::NotInSync(node), no_key())
+    let primary = is_primary(p, node);
+    let there = has_synced(s.insync, node);
+    leave_answer(
+        primary,
+        there,
+        Rejection::ShrinksPrimary,
+        Rejection::NotInSync(node),
+        no_key(),
+    )
 }
 
 // Internal: Expand's answer: 13, 16.
