@@ -37,12 +37,7 @@ pub fn adopt(
 {
     let read = wire_read::decode(message);
     let Message::NewEpoch(p) = read else {
-        return Done {
-            answer: Answer::Refused(21),
-            epoch: own,
-            count: count,
-            stored: stored,
-        };
+        return super::unchanged(Answer::Refused(21), own, count, stored);
     };
     if !super::fits::lent_fits(
         epochs,
@@ -56,21 +51,11 @@ pub fn adopt(
         count,
         stored,
     ) {
-        return Done {
-            answer: Answer::Refused(24),
-            epoch: own,
-            count: count,
-            stored: stored,
-        };
+        return super::unchanged(Answer::Refused(24), own, count, stored);
     }
     let epoch = p.epoch;
     if epoch.0 < own.0 {
-        return Done {
-            answer: Answer::StaleEpoch(own),
-            epoch: own,
-            count: count,
-            stored: stored,
-        };
+        return super::unchanged(Answer::StaleEpoch(own), own, count, stored);
     }
     let end = p.end;
     let table = p.table;

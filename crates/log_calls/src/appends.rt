@@ -38,21 +38,11 @@ pub fn append(
 {
     let read = wire_read::decode(message);
     let Message::Write(p) = read else {
-        return Done {
-            answer: Answer::Refused(21),
-            epoch: own,
-            count: count,
-            stored: stored,
-        };
+        return super::unchanged(Answer::Refused(21), own, count, stored);
     };
     let op = p.op;
     if !op_in_domain(message, op) {
-        return Done {
-            answer: Answer::Refused(22),
-            epoch: own,
-            count: count,
-            stored: stored,
-        };
+        return super::unchanged(Answer::Refused(22), own, count, stored);
     }
     if !super::fits::lent_fits(
         epochs,
@@ -66,20 +56,10 @@ pub fn append(
         count,
         stored,
     ) {
-        return Done {
-            answer: Answer::Refused(24),
-            epoch: own,
-            count: count,
-            stored: stored,
-        };
+        return super::unchanged(Answer::Refused(24), own, count, stored);
     }
     if count == 1024 {
-        return Done {
-            answer: Answer::Refused(23),
-            epoch: own,
-            count: count,
-            stored: stored,
-        };
+        return super::unchanged(Answer::Refused(23), own, count, stored);
     }
     let mut column = [0u32; 32];
     let o = read_op(message, op, &mut column);

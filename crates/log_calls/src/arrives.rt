@@ -52,21 +52,11 @@ pub fn store(
 {
     let read = wire_read::decode(message);
     let Message::Replicate(p) = read else {
-        return Done {
-            answer: Answer::Refused(21),
-            epoch: own,
-            count: count,
-            stored: stored,
-        };
+        return super::unchanged(Answer::Refused(21), own, count, stored);
     };
     let op = p.op;
     if !op_in_domain(message, op) {
-        return Done {
-            answer: Answer::Refused(22),
-            epoch: own,
-            count: count,
-            stored: stored,
-        };
+        return super::unchanged(Answer::Refused(22), own, count, stored);
     }
     if !super::fits::lent_fits(
         epochs,
@@ -80,12 +70,7 @@ pub fn store(
         count,
         stored,
     ) {
-        return Done {
-            answer: Answer::Refused(24),
-            epoch: own,
-            count: count,
-            stored: stored,
-        };
+        return super::unchanged(Answer::Refused(24), own, count, stored);
     }
     let epoch = p.epoch;
     let offset = p.offset;
@@ -143,21 +128,11 @@ pub fn copy(
 {
     let read = wire_read::decode(message);
     let Message::CopyShard(p) = read else {
-        return Done {
-            answer: Answer::Refused(21),
-            epoch: own,
-            count: count,
-            stored: stored,
-        };
+        return super::unchanged(Answer::Refused(21), own, count, stored);
     };
     let entries = p.entries;
     if !entries_in_domain(message, entries) {
-        return Done {
-            answer: Answer::Refused(22),
-            epoch: own,
-            count: count,
-            stored: stored,
-        };
+        return super::unchanged(Answer::Refused(22), own, count, stored);
     }
     if !super::fits::lent_fits(
         epochs,
@@ -171,12 +146,7 @@ pub fn copy(
         count,
         stored,
     ) {
-        return Done {
-            answer: Answer::Refused(24),
-            epoch: own,
-            count: count,
-            stored: stored,
-        };
+        return super::unchanged(Answer::Refused(24), own, count, stored);
     }
     let epoch = p.epoch;
     let t = log_arrive::copy::copy(

@@ -4,6 +4,7 @@
 
 use spec::Epoch;
 use spec::Offset;
+ghost use mathlib.Core.Path.{_≡_};
 
 pub mod adopts;
 pub mod appends;
@@ -28,4 +29,16 @@ pub struct Done {
     pub epoch: Epoch,
     pub count: usize,
     pub stored: usize,
+}
+
+// A call that is turned down: the epoch and both counts as they were.
+fn unchanged(answer: Answer, own: Epoch, count: usize, stored: usize) -> Done
+    ensures { λ r. ⌜ r ≡ record { answer = answer; epoch = own; count = count; stored = stored } ⌝ }
+{
+    Done {
+        answer: answer,
+        epoch: own,
+        count: count,
+        stored: stored,
+    }
 }

@@ -18,17 +18,26 @@ decode-requires c κs = search needs
 enum-known-read : tie.Need-enum-known-read
 enum-known-read c = search needs
 
+unchanged-requires : tie.Need-unchanged-requires
+unchanged-requires c κs = search needs
+
 returns : tie.Need-returns
-returns c = let a = c .before .before .before .before .before .before .before .before .before .before .before .args in appends-unread (a .message .now) (a .own) _ _ _ (λ p e. let shown = c .before .decode .ensures ∙ e in miss (0 ∷ 1 ∷ 2 ∷ 3 ∷ 4 ∷ 6 ∷ 7 ∷ 8 ∷ 9 ∷ 10 ∷ []) 5 tt (rw shown at (c .match .keys2)))
+returns c = let a = c .before .before .before .before .before .before .before .before .before .before .before .before .args in rw (c .unchanged .ensures) (appends-unread (a .message .now) (a .own) _ _ _ (λ p e. let shown = c .before .before .decode .ensures ∙ e in miss (0 ∷ 1 ∷ 2 ∷ 3 ∷ 4 ∷ 6 ∷ 7 ∷ 8 ∷ 9 ∷ 10 ∷ []) 5 tt (rw shown at (c .before .match .keys2))))
 
 op-in-domain-requires : tie.Need-op-in-domain-requires
 op-in-domain-requires c κs = write-there (c .before .before .before .before .before .before .before .before .before .before .before .before .before .args .message .now) _ (sym (c .before .before .before .decode .ensures) ∙ c .before .read .given .1)
 
+unchanged-requires-2 : tie.Need-unchanged-requires-2
+unchanged-requires-2 c κs = search needs
+
 returns-2 : tie.Need-returns-2
-returns-2 c = let a = c .before .before .before .before .before .before .before .before .before .before .before .before .before .before .before .args in appends-outside (a .message .now) (a .own) _ _ _ _ (sym (c .before .before .before .before .before .decode .ensures) ∙ c .before .before .before .read .given .1) (sym (c .before .op-in-domain .ensures) ∙ not-true _ (c .if1 .taken))
+returns-2 c = let a = c .before .before .before .before .before .before .before .before .before .before .before .before .before .before .before .before .args in rw (c .unchanged2 .ensures) (appends-outside (a .message .now) (a .own) _ _ _ _ (sym (c .before .before .before .before .before .before .decode .ensures) ∙ c .before .before .before .before .read .given .1) (sym (c .before .before .op-in-domain .ensures) ∙ not-true _ (c .before .if1 .taken)))
 
 lent-fits-requires : tie.Need-lent-fits-requires
 lent-fits-requires c κs = search needs
+
+unchanged-requires-3 : tie.Need-unchanged-requires-3
+unchanged-requires-3 c κs = search needs
 
 same-length : tie.Need-same-length
 same-length c = search needs
@@ -55,7 +64,10 @@ same-length-8 : tie.Need-same-length-8
 same-length-8 c = search needs
 
 returns-3 : tie.Need-returns-3
-returns-3 c = let a = c .before .before .before .before .before .before .before .before .before .before .before .before .before .before .before .before .before .before .before .before .before .before .before .before .before .args in appends-malformed (a .message .now) (a .own) _ _ _ _ (sym (c .before .before .before .before .before .before .before .before .before .before .before .before .before .before .before .decode .ensures) ∙ c .before .before .before .before .before .before .before .before .before .before .before .before .before .read .given .1) (sym (c .before .before .before .before .before .before .before .before .before .before .before .op-in-domain .ensures) ∙ not-false _ (c .before .before .before .before .before .before .before .before .before .before .if1 .left)) (sym (c .before .lent-fits .ensures) ∙ not-true _ (c .if2 .taken))
+returns-3 c = let a = c .before .before .before .before .before .before .before .before .before .before .before .before .before .before .before .before .before .before .before .before .before .before .before .before .before .before .args in rw (c .unchanged3 .ensures) (appends-malformed (a .message .now) (a .own) _ _ _ _ (sym (c .before .before .before .before .before .before .before .before .before .before .before .before .before .before .before .before .decode .ensures) ∙ c .before .before .before .before .before .before .before .before .before .before .before .before .before .before .read .given .1) (sym (c .before .before .before .before .before .before .before .before .before .before .before .before .op-in-domain .ensures) ∙ not-false _ (c .before .before .before .before .before .before .before .before .before .before .before .if1 .left)) (sym (c .before .before .lent-fits .ensures) ∙ not-true _ (c .before .if2 .taken)))
+
+unchanged-requires-4 : tie.Need-unchanged-requires-4
+unchanged-requires-4 c κs = search needs
 
 same-length-9 : tie.Need-same-length-9
 same-length-9 c = search needs
@@ -82,7 +94,7 @@ same-length-16 : tie.Need-same-length-16
 same-length-16 c = search needs
 
 returns-4 : tie.Need-returns-4
-returns-4 c = let a = c .before .before .before .before .before .before .before .before .before .before .before .before .before .before .before .before .before .before .before .before .before .before .before .before .before .before .args in appends-full (a .message .now) (a .own) _ _ _ _ (sym (c .before .before .before .before .before .before .before .before .before .before .before .before .before .before .before .before .decode .ensures) ∙ c .before .before .before .before .before .before .before .before .before .before .before .before .before .before .read .given .1) (sym (c .before .before .before .before .before .before .before .before .before .before .before .before .op-in-domain .ensures) ∙ not-false _ (c .before .before .before .before .before .before .before .before .before .before .before .if1 .left)) (sym (c .before .before .lent-fits .ensures) ∙ not-false _ (c .before .if2 .left)) (c .if3 .taken)
+returns-4 c = let a = c .before .before .before .before .before .before .before .before .before .before .before .before .before .before .before .before .before .before .before .before .before .before .before .before .before .before .before .args in rw (c .unchanged4 .ensures) (appends-full (a .message .now) (a .own) _ _ _ _ (sym (c .before .before .before .before .before .before .before .before .before .before .before .before .before .before .before .before .before .decode .ensures) ∙ c .before .before .before .before .before .before .before .before .before .before .before .before .before .before .before .read .given .1) (sym (c .before .before .before .before .before .before .before .before .before .before .before .before .before .op-in-domain .ensures) ∙ not-false _ (c .before .before .before .before .before .before .before .before .before .before .before .before .if1 .left)) (sym (c .before .before .before .lent-fits .ensures) ∙ not-false _ (c .before .before .if2 .left)) (c .before .if3 .taken))
 
 slice-aggregate-read-op : tie.Need-slice-aggregate-read-op
 slice-aggregate-read-op c = search needs
@@ -138,10 +150,13 @@ append-spec =
     (tie.spec
     decode-requires
     enum-known-read
+    unchanged-requires
     returns
     op-in-domain-requires
+    unchanged-requires-2
     returns-2
     lent-fits-requires
+    unchanged-requires-3
     same-length
     same-length-2
     same-length-3
@@ -151,6 +166,7 @@ append-spec =
     same-length-7
     same-length-8
     returns-3
+    unchanged-requires-4
     same-length-9
     same-length-10
     same-length-11
