@@ -1,10 +1,10 @@
 -- Stores one after another, and what fits. Assumes nothing.
-use Prim.Native.Nat.{ℕ, suc, _+_, _-_, _*_, _%_, _≤_, _<_}
+use Prim.Native.Nat.{ℕ, suc, _+_, _-_, _*_, _%_, _≤_, _<_, zero-le}
 use mathlib.Core.Path.{_≡_, refl, sym, ap, _∙_}
 use mathlib.Core.Bool.{Bool, true, false}
 use mathlib.Core.List.{List, [], _∷_, _++_, append-assoc}
 use lib.ListN.{length, getD, drop, set, replicate, length-append, length-replicate}
-use lib.Seq.{sets, drop-cons}
+use lib.Seq.{sets, drop-cons, drop-length}
 use lib.Dec.{leb}
 use native.Mathlib.Omega.{arith}
 use native.Mathlib.Numerals.{add-one}
@@ -42,12 +42,36 @@ zeros-step l at i n h =
     let e : n - i ≡ suc (n - (i + 1)) = omega arith in
     rw (q, e)
 
-pub words-step : (k : ℕ) (l v : List ℕ) (at i p : ℕ) → i < length v → p ≡ at + k
-    → sets (sets l at (bytesOf k (getD v i 0))) p (concatMap (bytesOf k) (drop (i + 1) v)) ≡ sets l at (concatMap (bytesOf k) (drop i v))
-words-step k l v at i p h q =
+-- numbers of k bytes, the first i of them stored: the rest, stored behind them, makes up the whole
+module _ (k : ℕ) (out₀ : List ℕ) (at : ℕ) (v : List ℕ) (out : List ℕ) (i : ℕ) where
+  abbrev pub WordsTo : Type 0
+  WordsTo =
+      (i ≤ length v)
+      × (length out ≡ length out₀)
+      × (sets out (at + k * i) (concatMap (bytesOf k) (drop i v)) ≡ sets out₀ at (concatMap (bytesOf k) v))
+
+  pub words-all : length v ≤ i → WordsTo → out ≡ sets out₀ at (concatMap (bytesOf k) v)
+  words-all h w =
+      let z : i ≡ length v = omega (arith, w .0) in
+      sym (ap (λ (j : ℕ). sets out (at + k * i) (concatMap (bytesOf k) (drop j v))) z ∙ (rw drop-length)) ∙ w .2
+
+pub words-none : (k : ℕ) (out : List ℕ) (at : ℕ) (v : List ℕ) → WordsTo k out at v out 0
+words-none k out at v = (zero-le, refl, rw (mul-zero, add-zero))
+
+pub words-more : (k : ℕ) (out₀ : List ℕ) (at : ℕ) (v out new : List ℕ) (i : ℕ) → i < length v → length new ≡ length out
+    → new ≡ sets out (at + k * i) (bytesOf k (getD v i 0)) → WordsTo k out₀ at v out i → WordsTo k out₀ at v new (i + 1)
+words-more k out₀ at v out new i h l e w =
+    let x = bytesOf k (getD v i 0) in
+    let rest = concatMap (bytesOf k) (drop (i + 1) v) in
     let d : drop i v ≡ getD v i 0 ∷ drop (i + 1) v = rw add-one (drop-cons v i 0 h) in
-    let e : p ≡ at + length (bytesOf k (getD v i 0)) = omega (arith, length-bytes k (getD v i 0)) in
-    rw d (sets-then l at p (bytesOf k (getD v i 0)) (concatMap (bytesOf k) (drop (i + 1) v)) e)
+    let p : at + k * (i + 1) ≡ at + k * i + length x = omega (arith, length-bytes k (getD v i 0), mul-suc k i, ap (λ (j : ℕ). k * j) (add-one i)) in (
+      omega (arith, h),
+      l ∙ w .1,
+      ap (λ (o : List ℕ). sets o (at + k * (i + 1)) rest) e
+          ∙ sets-then out (at + k * i) (at + k * (i + 1)) x rest p
+          ∙ sym (ap (λ (u : List ℕ). sets out (at + k * i) (concatMap (bytesOf k) u)) d)
+          ∙ w .2,
+    )
 
 pub range-step : (v : List ℕ) (i : ℕ) → i < length v
     → inRange 0x20 0x7E (drop i v) ≡ (leb 0x20 (getD v i 0) and (leb (getD v i 0) 0x7E and inRange 0x20 0x7E (drop (i + 1) v)))
