@@ -1,11 +1,16 @@
 -- Rows of peers put in place one after another, of any list of 32 rows. Assumes nothing.
 use Prim.Native.Nat.{ℕ, zero, suc, _+_, _-_, _*_, _≤_, _<_}
 use mathlib.Core.Path.{_≡_, refl, sym, ap, subst, _∙_}
+use mathlib.Core.Bool.{Bool, true, false}
 use mathlib.Core.List.{List, [], _∷_, _++_, map}
+use borrow.Author.Tests.{le-ltb}
+use lib.Dec.{ltb}
 use lib.ListN.{length, getD, take, drop, replicate, length-map, length-replicate}
 use lib.Seq.{sets, getD-take, length-take-le, drop-at, drop-drop}
 use native.Mathlib.Omega.{arith}
+use Rattle.spec.specs.Lists.{_and_}
 use Rattle.spec.specs.Layout.Format.{concatMap}
+use Rattle.spec.specs.Node.Client.{waitRow}
 use Rattle.spec.specs.declared.Peer.{Peer}
 use Rattle.image_parts.specs.Shape.{encode, Stored}
 use Rattle.image_parts.specs.Canon.{padded}
@@ -109,7 +114,7 @@ module _ (s : List ℕ) (at : ℕ) (l : List Peer) where
       (ap (λ (x : List Peer). sets out (at + 32 * i) (concatMap peerBytes x)) r ∙ e
       ∙ ap (λ (x : List Peer). sets o (at + 32 * k) (concatMap peerBytes x)) (sym tail) ∙ d .1))
 
--- ---- the rows in use, as they are and changed
+-- ---- the rows in use, changed
 
 module _ (s : List ℕ) (at count : ℕ) (few : count ≤ 32) where
   abbrev rows : List Peer
@@ -117,17 +122,6 @@ module _ (s : List ℕ) (at count : ℕ) (few : count ≤ 32) where
 
   rows-long : length rows ≡ count
   rows-long = let n = peers-long s at in length-take-le count (peersAt s at) (omega arith)
-
-  pub tidied-long : length (padded 32 noPeer rows) ≡ 32
-  tidied-long = let n = rows-long in length-padded 32 noPeer rows (omega arith)
-
-  pub tidied-row : (i : ℕ) → i < count → peerAt s (at + 32 * i) ≡ getD (padded 32 noPeer rows) i noPeer
-  tidied-row i h =
-      let n = rows-long in
-      sym (padded-first noPeer 32 rows i (omega arith) ∙ getD-take count (peersAt s at) i noPeer h ∙ peer-row s at i noPeer (omega arith))
-
-  pub tidied-tail : drop count (padded 32 noPeer rows) ≡ drop count clear
-  tidied-tail = clear-tail rows count rows-long
 
   module _ (f : Peer → Peer) where
     changed-long : length (map f rows) ≡ count
@@ -145,3 +139,17 @@ module _ (s : List ℕ) (at count : ℕ) (few : count ≤ 32) where
 
     pub waited-tail : drop count (padded 32 noPeer (map f rows)) ≡ drop count clear
     waited-tail = clear-tail (map f rows) count changed-long
+
+and-none : (a b : Bool) → b ≡ false → a and b ≡ false
+unfolding _and_
+and-none true b e = e
+and-none false b e = refl
+
+-- a wait for offset 0 leaves every row as it is
+wait-none : (clock timeout : ℕ) (p : Peer) → waitRow 0 clock timeout p ≡ p
+unfolding waitRow
+wait-none clock timeout p = rw (and-none (p .member) (ltb (p .acked .0) 0) (le-ltb (p .acked .0) 0 (omega arith)))
+
+pub waits-none : (clock timeout : ℕ) (l : List Peer) → map (waitRow 0 clock timeout) l ≡ l
+waits-none clock timeout [] = refl
+waits-none clock timeout (p ∷ l) = ap (λ (x : Peer). x ∷ map (waitRow 0 clock timeout) l) (wait-none clock timeout p) ∙ ap (λ (r : List Peer). p ∷ r) (waits-none clock timeout l)

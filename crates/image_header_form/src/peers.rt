@@ -32,25 +32,6 @@ fn no_peer() -> Peer
     }
 }
 
-// The rows in use in the canonical form, zeros past them.
-pub fn peers_tidied(out: &mut [u8], at: usize, count: usize)
-    requires { ⌜ (at + 1024 ≤ length (now out)) × (count ≤ 32) ⌝ }
-    ensures { λ _. ⌜ Stored (now (out .entry)) (now (out .exit)) at
-        (peersBytes (padded 32 noPeer (take count (peersAt (now (out .entry)) at)))) 1024 ⌝ }
-{
-    let mut i: usize = 0;
-    while i < count {
-        let p = peer_at(out, at + 32 * i);
-        put_peer(out, at + 32 * i, p);
-        i += 1;
-    }
-    while i < 32 {
-        let none = no_peer();
-        put_peer(out, at + 32 * i, none);
-        i += 1;
-    }
-}
-
 // The rows in use after a wait, in the canonical form, zeros past them.
 pub fn peers_waited(out: &mut [u8], at: usize, count: usize, last: u64, clock: u64, timeout: u64)
     requires { ⌜ (at + 1024 ≤ length (now out)) × (count ≤ 32) ⌝ }
@@ -69,6 +50,15 @@ pub fn peers_waited(out: &mut [u8], at: usize, count: usize, last: u64, clock: u
         put_peer(out, at + 32 * i, none);
         i += 1;
     }
+}
+
+// The rows in use in the canonical form, zeros past them: a wait for offset 0 changes no row, since every peer has acked that.
+pub fn peers_tidied(out: &mut [u8], at: usize, count: usize)
+    requires { ⌜ (at + 1024 ≤ length (now out)) × (count ≤ 32) ⌝ }
+    ensures { λ _. ⌜ Stored (now (out .entry)) (now (out .exit)) at
+        (peersBytes (padded 32 noPeer (take count (peersAt (now (out .entry)) at)))) 1024 ⌝ }
+{
+    peers_waited(out, at, count, 0, 0, 0);
 }
 
 // The peers to propose a Shrink for.
