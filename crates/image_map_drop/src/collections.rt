@@ -7,13 +7,10 @@ ghost use Rattle.map_tables.specs.Names.{viewName};
 ghost use Rattle.image_map_put.specs.Few.{Few};
 ghost use Rattle.image_map_put.specs.Rows.{readAs};
 ghost use Rattle.image_map_edit.specs.Becomes.{CollectionsBecome};
-use image_map_check::layout::COLLECTION;
+use crate::rows::rows_without;
 use image_map_check::layout::COLLECTIONS;
 use image_map_check::layout::COLLECTIONS_USED;
-use image_move::move_down;
-use image_parts::keys::name_at;
 use map_tables::Name;
-use map_tables::names::same_name;
 
 // How many words of 8 bytes a row has.
 const COLLECTION_WORDS: usize = 7;
@@ -24,18 +21,6 @@ pub fn collections_without(out: &mut [u8], name: Name)
     ensures { λ _. ⌜ CollectionsBecome (now (out .entry)) (now (out .exit)) (filter (λ c. not (sameName (c .name) (viewName name))) (readAs (now (out .entry)) .collections)) ⌝ }
 {
     let count = num::get8(out, COLLECTIONS_USED) as usize;
-    let mut kept: usize = 0;
-    let mut i: usize = 0;
-    while i < count {
-        let at = COLLECTIONS + COLLECTION * i;
-        let own = name_at(out, at);
-        if same_name(own, name) {
-            i += 1;
-        } else {
-            move_down(out, at, COLLECTIONS + COLLECTION * kept, COLLECTION_WORDS);
-            kept += 1;
-            i += 1;
-        }
-    }
+    let kept = rows_without(out, COLLECTIONS, COLLECTION_WORDS, count, name);
     num::put8(out, COLLECTIONS_USED, kept as u64);
 }

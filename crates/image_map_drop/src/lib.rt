@@ -25,6 +25,7 @@ use map_tables::answers::applied;
 use map_tables::answers::rejected;
 
 mod collections;
+mod rows;
 mod shards;
 
 // 6: no collection of that name.

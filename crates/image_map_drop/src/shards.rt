@@ -7,13 +7,10 @@ ghost use Rattle.map_tables.specs.Names.{viewName};
 ghost use Rattle.image_map_put.specs.Few.{Few};
 ghost use Rattle.image_map_put.specs.Rows.{readAs};
 ghost use Rattle.image_map_edit.specs.Becomes.{ShardsBecome};
-use image_map_check::layout::SHARD;
+use crate::rows::rows_without;
 use image_map_check::layout::SHARDS;
 use image_map_check::layout::SHARDS_USED;
-use image_move::move_down;
-use image_parts::keys::name_at;
 use map_tables::Name;
-use map_tables::names::same_name;
 
 // How many words of 8 bytes a row has.
 const SHARD_WORDS: usize = 34;
@@ -24,18 +21,6 @@ pub fn shards_without(out: &mut [u8], name: Name)
     ensures { λ _. ⌜ ShardsBecome (now (out .entry)) (now (out .exit)) (filter (λ x. not (sameName (x .key .collection) (viewName name))) (readAs (now (out .entry)) .shards)) ⌝ }
 {
     let count = num::get8(out, SHARDS_USED) as usize;
-    let mut kept: usize = 0;
-    let mut i: usize = 0;
-    while i < count {
-        let at = SHARDS + SHARD * i;
-        let own = name_at(out, at);
-        if same_name(own, name) {
-            i += 1;
-        } else {
-            move_down(out, at, SHARDS + SHARD * kept, SHARD_WORDS);
-            kept += 1;
-            i += 1;
-        }
-    }
+    let kept = rows_without(out, SHARDS, SHARD_WORDS, count, name);
     num::put8(out, SHARDS_USED, kept as u64);
 }
