@@ -2,13 +2,12 @@
 -- written down, and no code makes them. Assumes nothing.
 use Prim.Native.Nat.{ℕ, _+_, _*_, _≤_, _<_, min}
 use mathlib.Core.Path.{_≡_, refl, sym, ap, _∙_, subst}
-use mathlib.Core.Bool.{Bool, true, false, cond}
+use mathlib.Core.Bool.{Bool, true, false}
 use mathlib.Core.List.{List, [], map}
 use native.Mathlib.Omega.{arith}
-use borrow.Author.Tests.{eqb-true, eqb-false, lt-ltb, le-leb, leb-true}
+use borrow.Author.Tests.{eqb-true, eqb-false, leb-true}
 use lib.Dec.{eqb, leb}
-use lib.ListN.{length, getD}
-use lib.Seq.{getD-set-same}
+use lib.ListN.{length}
 use Rattle.spec.specs.Lists.{_and_}
 use Rattle.spec.specs.Keys.{Key}
 use Rattle.spec.specs.Log.{Entry, Log, ShardReplica, lastOffset, storeAll}
@@ -17,7 +16,7 @@ use Rattle.spec.specs.Node.Wire.{storedEntry}
 use Rattle.spec.specs.declared.Epoch.{Epoch}
 use Rattle.spec.specs.declared.Metric.{Metric}
 use Rattle.spec.specs.declared.Metric.the-variants.{Euclidean}
-use Rattle.spec_laws.proofs.Lists.{not-both, and-left, and-right}
+use Rattle.spec_laws.proofs.Lists.{and-left, and-right}
 use Rattle.wire_read.specs.declared.CopyPart.{CopyPart}
 use Rattle.wire_write.specs.declared.Reply.{Reply}
 use Rattle.wire_write.specs.declared.Reply.the-variants as R
@@ -40,9 +39,8 @@ use Rattle.node_log_backup.specs.Backs.{answered, CopiesShard}
 use Rattle.node_log_backup.proofs.Backup.{withLast, copies}
 use Rattle.node_header.specs.declared.HeldRow.{HeldRow}
 use Rattle.node_header.specs.declared.Node.{Node}
-use Rattle.node_header.specs.View.{noHeldRow}
 use Rattle.node_header.proofs.Lists.{by-case}
-use Rattle.image_header.specs.Image.{headerLent, nodeAt, headerWritten}
+use Rattle.image_header.specs.Image.{headerLent, nodeAt}
 use Rattle.image_header.specs.Becomes.{HeaderWrites}
 use Rattle.image_header_check.specs.Rows.{Counts}
 use Rattle.image_header_counts.specs.Counts.{withCounts}
@@ -53,23 +51,20 @@ use Rattle.node_lent.proofs.Put.{lentStoreOf, put-same}
 use Rattle.image_store.specs.Image.{keysIn, placesIn, logAt, rowsAt}
 use Rattle.image_store.specs.Write.{Fits, RowFits, logPut, rowsPut}
 use Rattle.image_store.proofs.Words.{words-length}
-use Rattle.image_node.specs.Lent.{noLentStore, lentStoreAt, lentStoreIn, lendsState, storePut, storesPut, StoreFits, StorePuts, Picks, Puts}
-use Rattle.image_node.specs.declared.Picked.{Picked}
-use Rattle.image_node.proofs.Put.{puts-kept}
+use Rattle.image_node.specs.Lent.{lentStoreAt, lentStoreIn, lendsState, storePut, StoreFits, Puts}
 use Rattle.image_node_check.specs.Find.{AbsentIn, FoundIn, FindsIn}
 use Rattle.node_replicate.specs.declared.PeerReply.{PeerReply}
 use Rattle.node_replicate.specs.declared.PeerReply.the-variants as P
 use Rattle.node_replicate.specs.declared.PeerAnswer.{PeerAnswer}
-use Rattle.node_replicate.specs.Peers.{word, CopyNames, CopiesAt}
+use Rattle.node_replicate.specs.Peers.{word, CopiesAt}
 use Rattle.node_replicate.proofs.Named.{copy-key}
 use Rattle.node_replicate.proofs.Peers.{copy-reads, copy-backs, unfit, gone, served}
-use Rattle.calls_peer_out.specs.Ends.{Buffers, buffers, Replies, Finished}
-use Rattle.calls_peer_out.specs.declared.Outcome.the-variants as O
-use Rattle.calls_peer_out.proofs.Ends as ending
+use Rattle.calls_peer_out.specs.Ends.{Buffers, buffers, Replies}
 use Rattle.calls_peer.specs.PeerCalls as calls
 use Rattle.calls_peer.specs.PeerCalls.{AtShard}
-use Rattle.calls_peer.proofs.Serves.{at-shard}
 use Rattle.calls_peer.proofs.States.{copy-state}
+use Rattle.calls_peer.proofs.Ways as ways
+use Rattle.calls_peer.proofs.Ways.{States, store-here, puts-at}
 use Rattle.image_node_grow.specs.Grow.{rowIn}
 use Rattle.image_node_grow.proofs.GrowLaws.{row-is}
 use Rattle.image_node_grow.proofs.Kept.{kept-fits}
@@ -77,10 +72,6 @@ use Rattle.image_node_batch.specs.Batch.{HoldsAll, RoomAnswered, storeAt}
 use Rattle.image_node_batch.proofs.Grown.{rowOf, at-log, at-most, at-well, log-long}
 use Rattle.image_node_batch.proofs.Columns.{Holds, batch-held}
 use Rattle.calls_copy.specs.Asked.{Asked, GrowsAll}
-
--- a reply with room was sent
-pub told-zero : (w : Reply) (s t : List ℕ) (r : ℕ) → 9 ≤ length s → Replies w s t r → r ≡ 0
-told-zero w s t r e d = ending.replied w s t r d (le-leb 9 (length s) e) .0
 
 pub row-own : (h : List ℕ) (at : ℕ) (counts : Counts h (nodeAt h .count)) (under : at < nodeAt h .count) → rowIn h at .held .epoch .0 ≡ numberAt 8 h (48 + 1280 * at + 64)
 row-own h at counts under = ap (λ (y : HeldRow). y .held .epoch .0) (row-is h at counts under) ∙ epoch-is h (48 + 1280 * at)
@@ -109,49 +100,19 @@ module _ (h s t m : List ℕ) (k : Key) (bytes : Bytes s) (p : CopyPart) (q : As
   abbrev Image : Buffers → ℕ → Type 0
   Image c r = AtShard CopiesAt calls.copies k m b c r
 
-  names : CopyNames m k
-  names v d = q .named ∙ copy-key m p (q .read) v d
-
-  -- ---- the call that the contract speaks of
-
-  module _ (lends : lendsState h s k ≡ true) where
-    abbrev picked : Picked
-    picked = record { found = true; at = placeOf n k; node = n }
-
-    picks : Picks h s k lentStore picked
-    picks = record { found = sym lends; read = λ z. refl; at = λ z. refl; lentStore = λ z. refl; bytes = λ z w. bytes }
-
-    passed : (y : LentStore) (w : PeerAnswer) → Call y w → (c : Buffers) (r : ℕ) → Finished b c n (placeOf n k) y w r → Image c r
-    passed y w call c r fin =
-        at-shard CopiesAt calls.copies m h s t k lentStore picked picks refl y w call c r fin
-        (λ e g z d u. copy-state m h s (c .header) (c .stores) k y w e g z u names d)
-
-    -- a refusal
-    refused : (x : ℕ) → Call lentStore (record { answer = P.Refused x; node = n }) → Image b x
-    refused x call = passed lentStore (record { answer = P.Refused x; node = n }) call b x (record { ends = refl; puts = λ z e. not-both true refl z })
-
-    -- a reply beside a state that stays
-    replied : (e : Epoch) → Call lentStore (record { answer = P.StaleEpoch e; node = n }) → (t′ : List ℕ) (r : ℕ) → Replies (R.StaleEpoch e) t t′ r → Image (buffers h s t′) r
-    replied e call t′ r d =
-        passed lentStore (record { answer = P.StaleEpoch e; node = n }) call (buffers h s t′) r
-        (record {
-          ends = ending.kept b (headerWritten h n) (storesPut s n n lentStore (placeOf n k)) (P.StaleEpoch e) (O.HeldRow (R.StaleEpoch e)) refl (R.StaleEpoch e) t′ r d refl;
-          puts = λ z i. not-both true refl z;
-        })
+  states : States CopiesAt calls.copies m h s k
+  states h′ s′ y w e g z u d = copy-state m h s h′ s′ k y w e g z u (λ v i. q .named ∙ copy-key m p (q .read) v i) d
 
   -- ---- 24, an unknown shard
 
   pub malformed : FindsIn h s k L.Malformed → Image b 24
   malformed f =
-      by-case (lendsState h s k)
-      (λ e.
-      refused e 24
-      (unfit _ _ _ _ n lentStore _ _ _ _ (copy-reads n m p (q .read)) true (sym (q .inside)) refl k (q .named) L.Malformed (f e) refl))
-      (λ e. record { unlent = λ z. (refl, refl); lent = λ z. not-both (lendsState h s k) z e })
+      ways.malformed CopiesAt calls.copies m h s k states bytes t
+      (λ e. unfit _ _ _ _ n lentStore _ _ _ _ (copy-reads n m p (q .read)) true (sym (q .inside)) refl k (q .named) L.Malformed (f e) refl)
 
   pub absent : AbsentIn h s k → (t′ : List ℕ) (r : ℕ) → Replies (R.StaleEpoch (record { 0 = 0 })) t t′ r → Image (buffers h s t′) r
   absent f t′ r d =
-      replied (f .lends) (record { 0 = 0 })
+      ways.stale CopiesAt calls.copies m h s k states bytes t (f .lends) (record { 0 = 0 })
       (gone _ _ _ _ n lentStore _ _ _ _ (copy-reads n m p (q .read)) true (sym (q .inside)) refl k (q .named) L.Absent (f .absent) refl (λ v. refl)) t′ r d
 
   -- ---- at a shard that is held
@@ -193,7 +154,7 @@ module _ (h s t m : List ℕ) (k : Key) (bytes : Bytes s) (p : CopyPart) (q : As
         → Image (buffers h s t′) r
     stale o e d t′ r z =
         let w : Epoch = record { 0 = o } in
-        replied (f .lends) w
+        ways.stale CopiesAt calls.copies m h s k states bytes t (f .lends) w
         (called lentStore last (x .stored) (A.StaleEpoch w)
         (copies m (x .held) store store last (A.StaleEpoch w) (Stale w) (x .stored) refl refl refl p (q .read)
         (copies-stale own (p .epoch .0) es store (f .found .sized) (f .found .well) (batch-some m (p .entries) (d .0)) (λ i. d .1 (i ∙ sym e)) w e))
@@ -224,7 +185,7 @@ module _ (h s t m : List ℕ) (k : Key) (bytes : Bytes s) (p : CopyPart) (q : As
           let i : lastOffset (storeAll (replicaIn own Euclidean store) own es) ≡ last =
           ap (λ (l : List Entry). lastOffset (storeAll (replicaIn own Euclidean store) own l)) (batch-none m (p .entries) e) ∙ last-is own Euclidean store in
           omega (arith, last-most) in
-          refused (f .lends) 23
+          ways.refused CopiesAt calls.copies m h s k states bytes t (f .lends) 23
           (called lentStore last (x .stored) A.NoRoom
           (copies m (x .held) store store last A.NoRoom Full (x .stored) refl refl refl p (q .read)
           (copies-full own (p .epoch .0) es store (f .found .sized) (f .found .well) (batch-some m (p .entries) some) (level some) over))
@@ -281,22 +242,9 @@ module _ (h s t m : List ℕ) (k : Key) (bytes : Bytes s) (p : CopyPart) (q : As
 
         -- no room for the reply
         pub short : length t < 9 → Image b 23
-        short e =
-            passed (f .lends) columns (record { answer = told; node = grown }) call b 23
-            (record {
-              ends = ending.short b _ _ told (O.Changed reply) refl reply t 23 (ending.no-room reply t e) refl (λ z. omega arith);
-              puts = λ j l. absurd (omega arith);
-            })
+        short e = ways.short CopiesAt calls.copies m h s k states bytes t (f .lends) columns (record { answer = told; node = grown }) call reply refl e
 
         -- ---- the images that the batch leaves
-
-        store-here : lentStore ≡ lentStoreAt s x
-        store-here =
-            let g = f .found in
-            let u = g .under in
-            let e = g .is in
-            ap (λ (c : Bool). cond c (lentStoreAt s (getD (n .held) (placeOf n k) noHeldRow)) noLentStore) (lt-ltb (placeOf n k) (n .count) (omega arith))
-            ∙ ap (λ (i : ℕ). lentStoreAt s (getD (n .held) i noHeldRow)) (sym e)
 
         module _ (h′ u : List ℕ) (c : ℕ) (g : GrowsAll h h′ s u at es c) where
           abbrev on : List ℕ
@@ -310,7 +258,7 @@ module _ (h s t m : List ℕ) (k : Key) (bytes : Bytes s) (p : CopyPart) (q : As
 
           store-is : store ≡ storeAt s base last (x .stored)
           unfolding lentStoreAt
-          store-is = ap (λ (l : LentStore). storeOf l x) store-here
+          store-is = ap (λ (l : LentStore). storeOf l x) (store-here h s k at (f .found))
 
           replica-is : (z : Metric) → replicaIn own z after ≡ replicaIn own z (storeAt on base c (g .rows))
           replica-is z =
@@ -365,19 +313,9 @@ module _ (h s t m : List ℕ) (k : Key) (bytes : Bytes s) (p : CopyPart) (q : As
               (subst (λ (i : ℕ). HeaderWrites h h′ (withCounts n at c i)) (sym stored-same) (g .header))
 
           puts : Puts h h′ s u n grown columns (placeOf n k)
-          puts =
-              let under = f .found .under in
-              let inside = f .found .inside in
-              let row : getD (grown .held) at noHeldRow ≡ y = getD-set-same (n .held) at y noHeldRow (omega arith) in
-              subst (λ (i : ℕ). Puts h h′ s u n grown columns i) (f .found .is)
-              (puts-kept h h′ s u n grown columns at header-here (f .found .under)
-              (subst (λ (z : HeldRow). StorePuts s u x z columns) (sym row) (record { image = image; fits = fits })))
+          puts = puts-at h s k at (f .found) h′ u (withLast (x .held) (after .count)) (after .stored) columns header-here (record { image = image; fits = fits })
 
           pub sent : (t′ : List ℕ) (v : ℕ) → Replies (R.Stored (record { 0 = c })) t t′ v → v ≡ 0 → Image (buffers h′ u t′) v
           sent t′ v d z =
-              let w = puts in
-              passed (f .lends) columns (record { answer = told; node = grown }) call (buffers h′ u t′) v
-              (record {
-                ends = ending.done b _ _ told (O.Changed reply) refl reply t′ v (subst (λ (i : ℕ). Replies (R.Stored (record { 0 = i })) t t′ v) (sym count-same) d) refl z h′ u (w .header) (w .stores);
-                puts = λ j l. w;
-              })
+              ways.sent CopiesAt calls.copies m h s k states bytes t (f .lends) columns (record { answer = told; node = grown }) call reply refl h′ u t′ v puts
+              (subst (λ (i : ℕ). Replies (R.Stored (record { 0 = i })) t t′ v) (sym count-same) d) z

@@ -5,19 +5,17 @@ use mathlib.Core.Path.{_≡_, refl, sym, ap, _∙_, subst}
 use mathlib.Core.Bool.{Bool, true, false, cond}
 use mathlib.Core.List.{List}
 use native.Mathlib.Omega.{arith}
-use borrow.Author.Tests.{lt-ltb, lt-leb, le-leb, leb-true, leb-false}
+use borrow.Author.Tests.{leb-true, leb-false}
 use lib.Dec.{leb}
-use lib.ListN.{length, getD}
-use lib.Seq.{getD-set-same}
+use lib.ListN.{length}
 use Rattle.spec.specs.Lists.{_and_}
 use Rattle.spec.specs.Keys.{Key}
 use Rattle.spec.specs.Log.{Op, Entry}
 use Rattle.spec.specs.Layout.Format.{Bytes, numberAt}
-use Rattle.spec.specs.Node.Wire.{opInDomain, storedOp}
+use Rattle.spec.specs.Node.Wire.{storedOp}
 use Rattle.spec.specs.declared.Epoch.{Epoch}
 use Rattle.spec.specs.declared.Offset.{Offset}
 use Rattle.spec_laws.proofs.Lists.{not-both}
-use Rattle.node_shard.specs.declared.Held.{Held}
 use Rattle.wire_read.specs.declared.ReplicatePart.{ReplicatePart}
 use Rattle.wire_write.specs.declared.Reply.{Reply}
 use Rattle.wire_write.specs.declared.Reply.the-variants as R
@@ -27,7 +25,7 @@ use Rattle.log_arrive.proofs.Messages.{replicate-there}
 use Rattle.log_arrive.proofs.Stores.{arrives-stale}
 use Rattle.log_store.specs.View.{opFrom}
 use Rattle.log_store.specs.Table.{playRows}
-use Rattle.log_store.specs.Store.{Store, Sized, Pushed, wellFormedStore}
+use Rattle.log_store.specs.Store.{Store, Pushed}
 use Rattle.log_store.specs.declared.replica.Outcome.{Outcome}
 use Rattle.log_store.specs.declared.replica.Outcome.the-variants.{Through, Gap, Stale, Full}
 use Rattle.log_store.proofs.Arrived.{arrived-old, arrived-far, arrived-full, arrived-pushed, count-most}
@@ -38,34 +36,29 @@ use Rattle.node_log_backup.specs.Backs.{answered}
 use Rattle.node_log_backup.proofs.Backup.{withLast, replicates}
 use Rattle.node_header.specs.declared.HeldRow.{HeldRow}
 use Rattle.node_header.specs.declared.Node.{Node}
-use Rattle.node_header.specs.View.{noHeldRow}
-use Rattle.node_header.proofs.Lists.{by-case}
-use Rattle.image_header.specs.Image.{nodeAt, headerWritten}
+use Rattle.image_header.specs.Image.{nodeAt}
 use Rattle.image_header.specs.Becomes.{HeaderWrites}
 use Rattle.node_lent.specs.Lend.{LentStore, storeIn, storeOf, placeOf, heldRowWith, withStore}
 use Rattle.node_lent.specs.declared.Lent.the-variants as L
 use Rattle.node_lent.proofs.Put.{put-same}
 use Rattle.image_store.specs.Write.{Fits, rowsPut, logPut}
-use Rattle.image_node.specs.Lent.{noLentStore, beginOf, lentStoreAt, lentStoreIn, lendsState, storesPut, StorePuts, Picks, Puts}
-use Rattle.image_node.specs.declared.Picked.{Picked}
-use Rattle.image_node.proofs.Put.{puts-kept}
+use Rattle.image_node.specs.Lent.{beginOf, lentStoreAt, lentStoreIn, StorePuts, Puts}
 use Rattle.node_replicate.specs.declared.PeerReply.{PeerReply}
 use Rattle.node_replicate.specs.declared.PeerReply.the-variants as P
 use Rattle.node_replicate.specs.declared.PeerAnswer.{PeerAnswer}
-use Rattle.node_replicate.specs.Peers.{word, turnedDown, ReplicateNames, ReplicatesAt}
+use Rattle.node_replicate.specs.Peers.{word, ReplicatesAt}
 use Rattle.node_replicate.proofs.Named.{replicate-key}
 use Rattle.node_replicate.proofs.Peers.{replicate-reads, replicate-backs, unfit, gone, served}
-use Rattle.calls_peer_out.specs.Ends.{Buffers, Ended, buffers, ended, endedWith, outcome, Replies, Finished}
+use Rattle.calls_peer_out.specs.Ends.{Buffers, buffers, outcome, Replies}
 use Rattle.calls_peer_out.specs.declared.Outcome.the-variants as O
-use Rattle.calls_peer_out.proofs.Ends as ending
 use Rattle.calls_peer.specs.PeerCalls as calls
 use Rattle.calls_peer.specs.PeerCalls.{AtShard}
-use Rattle.calls_peer.proofs.Serves.{at-shard}
 use Rattle.calls_peer.proofs.States.{replicate-state}
-use Rattle.image_store_append.specs.Put.{Appended, Grown, longer, entryBy}
+use Rattle.calls_peer.proofs.Ways as ways
+use Rattle.calls_peer.proofs.Ways.{States, store-here, puts-at}
+use Rattle.image_store_append.specs.Put.{Appended, longer, entryBy}
 use Rattle.image_store_append.proofs.EntryLaws.{longer-few}
 use Rattle.image_store_append.proofs.Left.{left, left-pushed, left-put, left-fits}
-use Rattle.image_header_counts.specs.Counts.{withCounts}
 use Rattle.image_node_check.specs.Find.{AbsentIn, FoundIn, FindsIn}
 use Rattle.image_node_grow.specs.Grow.{rowIn, Grows}
 use Rattle.image_header_form.proofs.FrontLaws.{epoch-is}
@@ -74,10 +67,6 @@ use Rattle.image_node_grow.proofs.GrowLaws.{row-is}
 use Rattle.image_node_grow.proofs.Ops.{Stores, stores-op}
 use Rattle.image_node_grow.proofs.Kept.{kept-image, kept-fits}
 use Rattle.calls_replicate.specs.Asked.{Asked, laid}
-
--- a reply with room was sent
-pub told-zero : (w : Reply) (s t : List ℕ) (r : ℕ) → 9 ≤ length s → Replies w s t r → r ≡ 0
-told-zero w s t r e d = ending.replied w s t r d (le-leb 9 (length s) e) .0
 
 pub row-own : (h : List ℕ) (at : ℕ) (counts : Counts h (nodeAt h .count)) (under : at < nodeAt h .count) → rowIn h at .held .epoch .0 ≡ numberAt 8 h (48 + 1280 * at + 64)
 row-own h at counts under = ap (λ (y : HeldRow). y .held .epoch .0) (row-is h at counts under) ∙ epoch-is h (48 + 1280 * at)
@@ -98,49 +87,19 @@ module _ (h s t m : List ℕ) (k : Key) (bytes : Bytes s) (p : ReplicatePart) (q
   abbrev Image : Buffers → ℕ → Type 0
   Image c r = AtShard ReplicatesAt calls.replicates k m b c r
 
-  names : ReplicateNames m k
-  names v d = q .named ∙ replicate-key m p (q .read) v d
-
-  -- ---- the call that the contract speaks of
-
-  module _ (lends : lendsState h s k ≡ true) where
-    abbrev picked : Picked
-    picked = record { found = true; at = placeOf n k; node = n }
-
-    picks : Picks h s k lentStore picked
-    picks = record { found = sym lends; read = λ z. refl; at = λ z. refl; lentStore = λ z. refl; bytes = λ z w. bytes }
-
-    passed : (y : LentStore) (w : PeerAnswer) → Call y w → (c : Buffers) (r : ℕ) → Finished b c n (placeOf n k) y w r → Image c r
-    passed y w call c r fin =
-        at-shard ReplicatesAt calls.replicates m h s t k lentStore picked picks refl y w call c r fin
-        (λ e g z d u. replicate-state m h s (c .header) (c .stores) k y w e g z u names d)
-
-    -- a refusal
-    refused : (x : ℕ) → Call lentStore (record { answer = P.Refused x; node = n }) → Image b x
-    refused x call = passed lentStore (record { answer = P.Refused x; node = n }) call b x (record { ends = refl; puts = λ z e. not-both true refl z })
-
-    -- a reply beside a state that stays
-    replied : (e : Epoch) → Call lentStore (record { answer = P.StaleEpoch e; node = n }) → (t′ : List ℕ) (r : ℕ) → Replies (R.StaleEpoch e) t t′ r → Image (buffers h s t′) r
-    replied e call t′ r d =
-        passed lentStore (record { answer = P.StaleEpoch e; node = n }) call (buffers h s t′) r
-        (record {
-          ends = ending.kept b (headerWritten h n) (storesPut s n n lentStore (placeOf n k)) (P.StaleEpoch e) (O.HeldRow (R.StaleEpoch e)) refl (R.StaleEpoch e) t′ r d refl;
-          puts = λ z i. not-both true refl z;
-        })
+  states : States ReplicatesAt calls.replicates m h s k
+  states h′ s′ y w e g z u d = replicate-state m h s h′ s′ k y w e g z u (λ v i. q .named ∙ replicate-key m p (q .read) v i) d
 
   -- ---- 24, an unknown shard
 
   pub malformed : FindsIn h s k L.Malformed → Image b 24
   malformed f =
-      by-case (lendsState h s k)
-      (λ e.
-      refused e 24
-      (unfit _ _ _ _ n lentStore _ _ _ _ (replicate-reads n m p (q .read)) true (sym (q .inside)) refl k (q .named) L.Malformed (f e) refl))
-      (λ e. record { unlent = λ z. (refl, refl); lent = λ z. not-both (lendsState h s k) z e })
+      ways.malformed ReplicatesAt calls.replicates m h s k states bytes t
+      (λ e. unfit _ _ _ _ n lentStore _ _ _ _ (replicate-reads n m p (q .read)) true (sym (q .inside)) refl k (q .named) L.Malformed (f e) refl)
 
   pub absent : AbsentIn h s k → (t′ : List ℕ) (r : ℕ) → Replies (R.StaleEpoch (record { 0 = 0 })) t t′ r → Image (buffers h s t′) r
   absent f t′ r d =
-      replied (f .lends) (record { 0 = 0 })
+      ways.stale ReplicatesAt calls.replicates m h s k states bytes t (f .lends) (record { 0 = 0 })
       (gone _ _ _ _ n lentStore _ _ _ _ (replicate-reads n m p (q .read)) true (sym (q .inside)) refl k (q .named) L.Absent (f .absent) refl (λ v. refl)) t′ r d
 
   -- ---- at a shard that is held
@@ -185,7 +144,7 @@ module _ (h s t m : List ℕ) (k : Key) (bytes : Bytes s) (p : ReplicatePart) (q
     pub stale : (o : ℕ) → o ≡ own → (p .epoch .0 ≡ o → ⊥) → (t′ : List ℕ) (r : ℕ) → Replies (R.StaleEpoch (record { 0 = o })) t t′ r → Image (buffers h s t′) r
     stale o e d t′ r z =
         let w : Epoch = record { 0 = o } in
-        replied (f .lends) w
+        ways.stale ReplicatesAt calls.replicates m h s k states bytes t (f .lends) w
         (called lentStore last (x .stored) (A.StaleEpoch w) (Stale w) refl
         (arrives-stale own (p .epoch .0) entry store (f .found .sized) (f .found .well) w e (λ i. d (i ∙ sym e))) n same-node) t′ r z
 
@@ -194,7 +153,7 @@ module _ (h s t m : List ℕ) (k : Key) (bytes : Bytes s) (p : ReplicatePart) (q
 
       pub full : p .offset .0 ≡ last + 1 → last ≡ 1024 → Image b 23
       full e d =
-          refused (f .lends) 23
+          ways.refused ReplicatesAt calls.replicates m h s k states bytes t (f .lends) 23
           (called lentStore last (x .stored) A.NoRoom Full refl
           (record { arrived = arrived-full own (p .epoch .0) entry store (f .found .sized) (f .found .well) level e d; kept = λ z. refl }) n same-node)
 
@@ -221,41 +180,22 @@ module _ (h s t m : List ℕ) (k : Key) (bytes : Bytes s) (p : ReplicatePart) (q
             (record { arrived = arrived-far own (p .epoch .0) entry store (f .found .sized) (f .found .well) level o refl (omega (arith, other)); kept = λ z. not-both false z refl })
             tidied refl
 
-        lent-store-is : lentStore ≡ lentStoreAt s x
-        lent-store-is =
-            let g = f .found in
-            let u = g .under in
-            let e = g .is in
-            ap (λ (c : Bool). cond c (lentStoreAt s (getD (n .held) (placeOf n k) noHeldRow)) noLentStore) (lt-ltb (placeOf n k) (n .count) (omega arith))
-            ∙ ap (λ (i : ℕ). lentStoreAt s (getD (n .held) i noHeldRow)) (sym e)
-
         puts : (h′ : List ℕ) → HeaderWrites h h′ tidied → Puts h h′ s s n tidied lentStore (placeOf n k)
         puts h′ w =
-            let u = f .found .under in
-            let v = f .found .inside in
-            let row : getD (tidied .held) at noHeldRow ≡ x = getD-set-same (n .held) at x noHeldRow (omega arith) in
-            subst (λ (i : ℕ). Puts h h′ s s n tidied lentStore i) (f .found .is)
-            (puts-kept h h′ s s n tidied lentStore at w (f .found .under)
-            (subst (λ (y : HeldRow). StorePuts s s x y lentStore) (sym row)
-            (subst (λ (l : LentStore). StorePuts s s x x l) (sym lent-store-is)
-            (record { image = kept-image s x bytes (f .well); fits = kept-fits s x bytes (f .well) }))))
+            puts-at h s k at (f .found) h′ s (withLast (x .held) last) (x .stored) lentStore w
+            (subst (λ (l : LentStore). StorePuts s s x x l) (sym (store-here h s k at (f .found)))
+            (record { image = kept-image s x bytes (f .well); fits = kept-fits s x bytes (f .well) }))
 
         -- told with the header in the one form
         sent : (w : PeerReply) (v : Reply) → outcome w ≡ O.Changed v → Says w → (h′ t′ : List ℕ) (r : ℕ) → HeaderWrites h h′ tidied → Replies v t t′ r → r ≡ 0
             → Image (buffers h′ s t′) r
         sent w v e call h′ t′ r d z i =
-            let u = puts h′ d in
-            passed (f .lends) lentStore (record { answer = w; node = tidied }) call (buffers h′ s t′) r
-            (record {
-              ends = ending.done b _ _ w (outcome w) refl v t′ r z e i h′ s (u .header) (u .stores);
-              puts = λ j l. u;
-            })
+            ways.sent ReplicatesAt calls.replicates m h s k states bytes t (f .lends) lentStore (record { answer = w; node = tidied }) call v e h′ s t′ r (puts h′ d) z i
 
         -- no room for the reply
         unsent : (w : PeerReply) (v : Reply) → outcome w ≡ O.Changed v → Says w → length t < 9 → Image b 23
         unsent w v e call brief =
-            passed (f .lends) lentStore (record { answer = w; node = tidied }) call b 23
-            (record { ends = ending.short b _ _ w (outcome w) refl v t 23 (ending.no-room v t brief) e (λ z. omega arith); puts = λ j l. absurd (omega arith) })
+            ways.short ReplicatesAt calls.replicates m h s k states bytes t (f .lends) lentStore (record { answer = w; node = tidied }) call v e brief
 
         pub stays : (h′ t′ : List ℕ) (r : ℕ) (v : Reply) → v ≡ laid (p .offset .0) last → HeaderWrites h h′ tidied → Replies v t t′ r → r ≡ 0 → Image (buffers h′ s t′) r
         stays h′ t′ r v e d z i = go (leb (p .offset .0) last) refl (subst (λ (u : Reply). Replies u t t′ r) e z)
@@ -289,14 +229,6 @@ module _ (h s t m : List ℕ) (k : Key) (bytes : Bytes s) (p : ReplicatePart) (q
         abbrev columns : LentStore
         columns = left s x (f .room) (f .well) free own (stores .code) (stores .id) (stores .bits) (stores .storable)
 
-        store-here : lentStore ≡ lentStoreAt s x
-        store-here =
-            let g = f .found in
-            let u = g .under in
-            let e = g .is in
-            ap (λ (c : Bool). cond c (lentStoreAt s (getD (n .held) (placeOf n k) noHeldRow)) noLentStore) (lt-ltb (placeOf n k) (n .count) (omega arith))
-            ∙ ap (λ (i : ℕ). lentStoreAt s (getD (n .held) i noHeldRow)) (sym e)
-
         -- u the stores that the append leaves, r the rows of the table then
         module _ (u : List ℕ) (r : ℕ) (appends : Appended s u (beginOf x) last new r) (few : r ≤ 1024) where
           abbrev grown : Node
@@ -307,7 +239,7 @@ module _ (h s t m : List ℕ) (k : Key) (bytes : Bytes s) (p : ReplicatePart) (q
 
           pushes : Pushed store (storeIn columns (last + 1) r) (record { epoch = p .epoch .0; offset = last + 1; op = storedOp (opIn m (p .op)) })
           pushes =
-              subst (λ (l : LentStore). Pushed (storeOf l x) (storeIn columns (last + 1) r) (record { epoch = p .epoch .0; offset = last + 1; op = storedOp (opIn m (p .op)) })) (sym store-here)
+              subst (λ (l : LentStore). Pushed (storeOf l x) (storeIn columns (last + 1) r) (record { epoch = p .epoch .0; offset = last + 1; op = storedOp (opIn m (p .op)) })) (sym (store-here h s k at (f .found)))
               (subst (λ (e : ℕ). Pushed (storeOf (lentStoreAt s x) x) (storeIn columns (last + 1) r) (record { epoch = e; offset = last + 1; op = storedOp (opIn m (p .op)) })) (sym level)
               (subst (λ (o : Op). Pushed (storeOf (lentStoreAt s x) x) (storeIn columns (last + 1) r) (record { epoch = own; offset = last + 1; op = o })) (stores .is)
               (left-pushed s x (f .room) (f .well) free own (stores .code) (stores .id) (stores .bits) (stores .storable) u r appends few)))
@@ -324,35 +256,22 @@ module _ (h s t m : List ℕ) (k : Key) (bytes : Bytes s) (p : ReplicatePart) (q
 
           grown-puts : (h′ : List ℕ) → HeaderWrites h h′ grown → Fits new → Puts h h′ s u n grown columns (placeOf n k)
           grown-puts h′ w fit =
-              let under = f .found .under in
-              let inside = f .found .inside in
               let y = heldRowWith x (withLast (x .held) (last + 1)) r in
-              let row : getD (grown .held) at noHeldRow ≡ y = getD-set-same (n .held) at y noHeldRow (omega arith) in
-              subst (λ (i : ℕ). Puts h h′ s u n grown columns i) (f .found .is)
-              (puts-kept h h′ s u n grown columns at w (f .found .under)
-              (subst (λ (z : HeldRow). StorePuts s u x z columns) (sym row)
+              puts-at h s k at (f .found) h′ u (withLast (x .held) (last + 1)) r columns w
               (record {
                 image = left-put s x (f .room) (f .well) free own (stores .code) (stores .id) (stores .bits) (stores .storable) u r appends few y refl refl;
                 fits = left-fits s x (f .room) (f .well) free own (stores .code) (stores .id) (stores .bits) (stores .storable) u r appends few bytes fit y refl refl;
-              })))
+              })
 
           next-sent : (h′ t′ : List ℕ) (v : ℕ) → HeaderWrites h h′ grown → Fits new → Replies (R.Stored (record { 0 = last + 1 })) t t′ v → v ≡ 0 → Image (buffers h′ u t′) v
           next-sent h′ t′ v d fit z i =
-              let w = grown-puts h′ d fit in
-              passed (f .lends) columns (record { answer = told; node = grown }) call (buffers h′ u t′) v
-              (record {
-                ends = ending.done b _ _ told (O.Changed (R.Stored (record { 0 = last + 1 }))) refl (R.Stored (record { 0 = last + 1 })) t′ v z refl i h′ u (w .header) (w .stores);
-                puts = λ j l. w;
-              })
+              ways.sent ReplicatesAt calls.replicates m h s k states bytes t (f .lends) columns (record { answer = told; node = grown }) call
+              (R.Stored (record { 0 = last + 1 })) refl h′ u t′ v (grown-puts h′ d fit) z i
 
           next-short : length t < 9 → Image b 23
           next-short e =
-              let v : Reply = R.Stored (record { 0 = last + 1 }) in
-              passed (f .lends) columns (record { answer = told; node = grown }) call b 23
-              (record {
-                ends = ending.short b _ _ told (O.Changed v) refl v t 23 (ending.no-room v t e) refl (λ z. omega arith);
-                puts = λ j l. absurd (omega arith);
-              })
+              ways.short ReplicatesAt calls.replicates m h s k states bytes t (f .lends) columns (record { answer = told; node = grown }) call
+              (R.Stored (record { 0 = last + 1 })) refl e
 
         pub grows-sent : (h′ u t′ : List ℕ) (v o : ℕ) → Grows h h′ s u at m (p .op) → o ≡ last + 1 → Replies (R.Stored (record { 0 = o })) t t′ v → v ≡ 0 → Image (buffers h′ u t′) v
         grows-sent h′ u t′ v o g e z i =

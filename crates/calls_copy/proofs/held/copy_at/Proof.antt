@@ -12,7 +12,8 @@ use Rattle.map_tables.specs.Names.{viewKey}
 use Rattle.log_arrive.proofs.Messages.{copy-there}
 use Rattle.image_node_grow.proofs.GrowLaws.{row-last}
 use Rattle.image_node_batch.specs.Batch.{HoldsAll, RoomAnswered}
-use Rattle.calls_copy.proofs.CopyLaws.{told-zero, row-own, stores-there, last-most, room-read, stale, full, short, sent}
+use Rattle.calls_peer.proofs.Ways.{told-zero}
+use Rattle.calls_copy.proofs.CopyLaws.{row-own, stores-there, last-most, room-read, stale, full, short, sent}
 use Rattle.calls_copy.proofs.held.copy_at.Statement.{statement}
 use Rattle.calls_copy.proofs.held.copy_at.Tie as tie
 

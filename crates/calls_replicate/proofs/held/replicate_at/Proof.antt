@@ -10,7 +10,8 @@ use Rattle.map_tables.specs.Names.{viewKey}
 use Rattle.log_arrive.proofs.Messages.{replicate-there}
 use Rattle.image_node_grow.proofs.GrowLaws.{row-last}
 use Rattle.calls_replicate.specs.Asked.{laid}
-use Rattle.calls_replicate.proofs.ReplicateLaws.{stale, full, stays, stays-short, grows-sent, grows-short, row-own, last-most, told-zero}
+use Rattle.calls_peer.proofs.Ways.{told-zero}
+use Rattle.calls_replicate.proofs.ReplicateLaws.{stale, full, stays, stays-short, grows-sent, grows-short, row-own, last-most}
 use Rattle.calls_replicate.proofs.held.replicate_at.Statement.{statement}
 use Rattle.calls_replicate.proofs.held.replicate_at.Tie as tie
 
