@@ -26,7 +26,8 @@ use Rattle.calls_map.specs.Calls.{noted, AppliesTo}
 use Rattle.calls_map.proofs.Apply.{unlent-way, unlent-21, unlent-24, kept-way, written-way}
 use Rattle.calls_map.proofs.Formed.{image-formed}
 use Rattle.image_map_put.specs.Few.{Few}
-use Rattle.calls_apply.specs.Settles.{Ready, Settles}
+use Rattle.calls_decide.specs.Decides.{Ready}
+use Rattle.calls_apply.specs.Settles.{Settles}
 
 abbrev noKey : ShardKey
 noKey = record { collection = record { bytes = []; len = 0 }; shard = 0 }

@@ -18,19 +18,15 @@ use Rattle.spec.specs.Map.WellFormed.{shardFits}
 use Rattle.spec.specs.declared.Epoch.{Epoch}
 use Rattle.spec_laws.proofs.Map.Rows.{every-find}
 use Rattle.spec_laws.proofs.Map.WellFormed.{map-parts}
-use Rattle.map_tables.specs.Counted.{ShardsCounted}
 use Rattle.map_tables.specs.Find.{firstAt}
-use Rattle.map_tables.specs.Names.{viewKey, viewAddress}
-use Rattle.map_tables.specs.View.{answerOf, changeOf, changeCommand, commandIn, viewCommand, viewMap, viewPlacement, viewShard, viewShards}
+use Rattle.map_tables.specs.Names.{viewKey}
+use Rattle.map_tables.specs.View.{changeOf, viewMap, viewShard, viewShards}
 use Rattle.map_tables.specs.declared.Change.{Change}
-use Rattle.map_tables.specs.declared.Command.{Command}
 use Rattle.map_tables.specs.declared.Command.the-variants.{OfShard}
 use Rattle.map_tables.specs.declared.Request.{Request}
 use Rattle.map_tables.specs.declared.ShardRow.{ShardRow}
 use Rattle.map_tables.specs.declared.ShardMap.{ShardMap}
-use Rattle.map_tables.specs.declared.Verdict.{Verdict}
 use Rattle.map_shard.specs.Taken.{Takes}
-use Rattle.map_apply.specs.Decided.{Decided}
 use Rattle.map_apply.proofs.Command.{decide-of, commit-of, change-accepts}
 use Rattle.image_map_row.specs.Rows.{shardAt}
 use Rattle.image_map.specs.Image.{noShard, shardsAt, mapAt}
@@ -39,17 +35,15 @@ use Rattle.image_map_put.specs.Rows.{readAs}
 use Rattle.image_map_put.proofs.Whole.{shards-long}
 use Rattle.image_map_edit.specs.Becomes.{ShardsBecome}
 use Rattle.image_map_edit.proofs.Frames.{edits-shards}
-use Rattle.calls_apply.specs.Settles.{Accepted, Fresh, Stands, Taken}
-use Rattle.calls_apply.proofs.Places.{set-is, shard-none, shard-some, shard-sized}
+use Rattle.calls_decide.specs.Decides.{Fresh, Stands}
+use Rattle.calls_decide.proofs.Places.{shard-none, shard-some, shard-sized}
+use Rattle.calls_decide.proofs.CommandLaws.{as-command, decided-by, shards-counted}
+use Rattle.calls_apply.specs.Settles.{Accepted, Taken}
+use Rattle.calls_apply.proofs.ChangedRow.{set-is}
 
 pub stands : (s : List ℕ) (q : Request) → Fresh s q → (n hit : ℕ) → n ≡ numberAt 8 s 24
     → hit ≡ firstAt (isShard (viewKey (q .key))) (viewShards (shardsAt s)) → Stands s n hit (q .key)
-unfolding mapAt
-stands s q fr n hit f g = record { few = fr .ready .few; counted = fr .ready .settleable .counted .shards; count = f; found = g }
-
-pub shards-counted : (s : List ℕ) (q : Request) → Fresh s q → ShardsCounted (shardsAt s)
-unfolding mapAt
-shards-counted s q fr = fr .ready .settleable .counted .shards
+stands s q fr n hit f g = record { few = fr .ready .few; counted = shards-counted s q fr; count = f; found = g }
 
 module _ (s : List ℕ) (q : Request) (fr : Fresh s q) (c : Change) (e : Epoch) (asks : q .command ≡ OfShard c e) where
   abbrev m : ShardMap
@@ -58,22 +52,13 @@ module _ (s : List ℕ) (q : Request) (fr : Fresh s q) (c : Change) (e : Epoch) 
   abbrev few : Few s
   few = fr .ready .few
 
-  as-command : (bs : List ℕ) → viewCommand q bs ≡ changeCommand (viewKey (q .key)) (e .0) (changeOf c)
-  as-command bs = ap (λ (d : Command). commandIn d (viewKey (q .key)) (viewAddress (q .address)) (viewPlacement (q .placement)) bs) asks
-
-  pub change-decided : (v : Verdict) → answerOf v ≡ changeAnswer (viewKey (q .key)) (e .0) (changeOf c) (model.shardAt (viewShards (shardsAt s)) (viewKey (q .key)))
-      → Decided m q v
-  unfolding mapAt
-  change-decided v answered =
-      record { answer = λ bs. answered ∙ sym (decide-of (viewMap m) (viewKey (q .key)) (e .0) (changeOf c)) ∙ ap (model.decide (viewMap m)) (sym (as-command bs)) }
-
   module _ (ok : Accepted s q) (n hit : ℕ) (count : n ≡ numberAt 8 s 24) (found : hit ≡ firstAt (isShard (viewKey (q .key))) (viewShards (shardsAt s))) where
     abbrev z : Stands s n hit (q .key)
     z = stands s q fr n hit count found
 
     accepts-it : changeAnswer (viewKey (q .key)) (e .0) (changeOf c) (model.shardAt (viewShards (shardsAt s)) (viewKey (q .key))) ≡ accepts
     unfolding mapAt
-    accepts-it = sym (decide-of (viewMap m) (viewKey (q .key)) (e .0) (changeOf c)) ∙ ap (model.decide (viewMap m)) (sym (as-command [])) ∙ ok []
+    accepts-it = sym (decide-of (viewMap m) (viewKey (q .key)) (e .0) (changeOf c)) ∙ sym (decided-by s q (OfShard c e) asks []) ∙ ok []
 
     pub hit-inside : hit < n
     unfolding changeAnswer
@@ -98,7 +83,7 @@ module _ (s : List ℕ) (q : Request) (fr : Fresh s q) (c : Change) (e : Epoch) 
     takes = record {
       sized = shard-sized s n hit (q .key) z hit-inside;
       fits = every-find shardFits (isShard (viewKey (q .key))) (viewMap m .shards) (viewShard old) (map-parts (viewMap m) (fr .ready .settleable .formed) .2 .2) there;
-      taken = change-accepts (viewMap m) (viewKey (q .key)) (e .0) (changeOf c) (viewShard old) (ap (model.decide (viewMap m)) (sym (as-command [])) ∙ ok []) there;
+      taken = change-accepts (viewMap m) (viewKey (q .key)) (e .0) (changeOf c) (viewShard old) (sym (decided-by s q (OfShard c e) asks []) ∙ ok []) there;
     }
 
     module _ (new : ShardRow) (is : viewShard new ≡ changed (viewShard old) (changeOf c)) (t : List ℕ) (b : ShardsBecome s t (set (readAs s .shards) hit (viewShard new))) where
@@ -121,5 +106,5 @@ module _ (s : List ℕ) (q : Request) (fr : Fresh s q) (c : Change) (e : Epoch) 
         edits = edits-shards s t few (set shards hit (viewShard new)) room b;
         is = λ bs.
             ap (setShards (readAs s)) changed-is
-            ∙ sym (commit-of (readAs s) (viewKey (q .key)) (e .0) (changeOf c)) ∙ ap (commit (readAs s)) (sym (as-command bs));
+            ∙ sym (commit-of (readAs s) (viewKey (q .key)) (e .0) (changeOf c)) ∙ sym (ap (commit (readAs s)) (as-command q (OfShard c e) asks bs));
       }

@@ -1,4 +1,4 @@
-pub mod Places
+pub mod ChangedRow
 pub mod RememberLaws
 pub mod SettledLaws
 pub mod ChangedLaws

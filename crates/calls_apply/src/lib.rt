@@ -1,28 +1,18 @@
 // Apply over a map's image, in place (paper 01, 'The shard map', and 'Who is turned down'): a request is decided from the bytes before any is
-// written, and what was decided is then carried out.
+// written (crate calls_decide), and what was decided is then carried out.
 ghost use Rattle.calls_map.specs.Calls.{AppliesTo};
 use crate::settled::settle;
 use image_map_check::formed::is_formed;
 use image_map_check::lent::is_lent;
 use map_request::load::load;
-use map_tables::Verdict;
 use wire_read::Message;
 
-mod answers;
 mod changed;
-pub mod decided;
 mod nodes;
 mod remember;
 pub mod settled;
 mod taken;
 mod tell;
-
-// What a request is answered, with the operands of its text, and whether its command is decided now: if not, it is older, a repetition, or
-// of a 65th client.
-pub struct Decision {
-    pub verdict: Verdict,
-    pub fresh: bool,
-}
 
 // 21, 24, then the sessions and the command.
 pub fn apply(map: &mut [u8], request: &[u8]) -> u32

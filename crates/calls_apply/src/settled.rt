@@ -1,9 +1,10 @@
 // What was decided, carried out.
 ghost use Rattle.image_map_put.specs.Few.{Few};
-ghost use Rattle.calls_apply.specs.Settles.{Decides, Ready, Repeats, Settles};
-use crate::Decision;
-use crate::decided::decided;
+ghost use Rattle.calls_decide.specs.Decides.{Decides, Ready};
+ghost use Rattle.calls_apply.specs.Settles.{Repeats, Settles};
 use crate::taken::taken;
+use calls_decide::Decision;
+use calls_decide::decided::decided;
 use calls_map::numbers::verdict_number;
 use image_map_put::put_tidied;
 use map_tables::Request;

@@ -21,7 +21,8 @@ use Rattle.map_tables.specs.declared.Verdict.{Verdict}
 use Rattle.map_words.specs.declared.Text.{Text}
 use Rattle.map_words.specs.Written as written
 use Rattle.image_map.specs.Image.{mapAt}
-use Rattle.calls_apply.specs.Settles.{Answers, Settles}
+use Rattle.calls_decide.specs.Decides.{Answers}
+use Rattle.calls_apply.specs.Settles.{Settles}
 use Rattle.calls_parts.specs.Answer.{answerLent, numberPut}
 use Rattle.calls_apply_words.specs.Calls.{tells, hostNumber, Tells}
 use Rattle.calls_apply_words.specs.Settled.{saidOf, Says, SettlesInWords}

@@ -2,11 +2,11 @@
 // the text and 8 bytes for its length. What an answer says stands in specs/Calls.antt.
 ghost use Prim.Native.Nat.{_≤_};
 ghost use lib.ListN.{length};
-ghost use Rattle.calls_apply.specs.Settles.{Ready};
+ghost use Rattle.calls_decide.specs.Decides.{Ready};
 ghost use Rattle.calls_apply_words.specs.Calls.{AppliesInWordsTo, Tells};
 ghost use Rattle.calls_apply_words.specs.Settled.{SettlesInWords};
-use calls_apply::decided::decided;
 use calls_apply::settled::carry_out;
+use calls_decide::decided::decided;
 use calls_map::numbers::verdict_number;
 use calls_parts::answer::put_number;
 use image_map_check::formed::is_formed;

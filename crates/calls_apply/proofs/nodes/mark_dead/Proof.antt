@@ -10,7 +10,7 @@ use Rattle.spec.specs.Layout.Format.{numberAt}
 use Rattle.spec.specs.Map.Apply.{dead}
 use Rattle.map_tables.specs.View.{viewNode}
 use Rattle.map_tables.specs.declared.NodeRow.{NodeRow}
-use Rattle.calls_apply.specs.Settles.{NodeStands}
+use Rattle.calls_decide.specs.Decides.{NodeStands}
 use Rattle.calls_apply.proofs.NodeLaws.{dead-inside, dead-taken}
 use Rattle.calls_apply.proofs.nodes.mark_dead.Statement.{statement}
 use Rattle.calls_apply.proofs.nodes.mark_dead.Tie as tie
