@@ -1,5 +1,7 @@
-// The parts of a message that are not single numbers, shown item by item. Each function asks that its part lies in the
-// message, which the readers' answer ensures (proofs/Held.antt).
+// The parts of a message that are not single numbers: shown item by item, and put into the columns that crate wire_write takes. A
+// place that a column does not have is passed over, and so are items above their limit: the message is then unlike. Each function
+// asks that its part lies in the message, which the readers' answer ensures (proofs/Held.antt).
+ghost use Prim.Native.Nat.{_≤_};
 ghost use Rattle.spec.specs.Layout.Format.{many};
 ghost use Rattle.spec.specs.Layout.Parts.{entryF, u64};
 ghost use Rattle.test_decode.specs.Held.{OpHeld, Row, Run};
@@ -7,9 +9,51 @@ use crate::words::bits;
 use crate::words::bytes;
 use crate::words::number;
 use spec::Metric;
+use wire_read::EntryPart;
 use wire_read::KeyPart;
 use wire_read::OpPart;
 use wire_read::Part;
+
+// An operation, with its components in a lent column: how many there are.
+pub struct OpTaken {
+    pub upsert: bool,
+    pub id: u64,
+    pub n: usize,
+}
+
+fn put_u8(v: &mut [u8], i: usize, x: u8) {
+    if i < v.len() {
+        v[i] = x;
+    }
+}
+
+fn put_u32(v: &mut [u32], i: usize, x: u32) {
+    if i < v.len() {
+        v[i] = x;
+    }
+}
+
+fn put_u64(v: &mut [u64], i: usize, x: u64) {
+    if i < v.len() {
+        v[i] = x;
+    }
+}
+
+// A count of at most 32 as a byte.
+fn count(n: usize) -> u8 {
+    if 32 < n {
+        return 0;
+    }
+    n as u8
+}
+
+// The code of an operation.
+fn code(upsert: bool) -> u8 {
+    if upsert {
+        return 1;
+    }
+    2
+}
 
 pub fn metric(m: Metric) {
     match m {
@@ -28,86 +72,92 @@ pub fn key(s: &[u8], k: KeyPart) {
     number(k.shard as u64);
 }
 
-// The count, and the bits of each component.
-pub fn vector(s: &[u8], v: Part)
-    requires { ⌜ Run 4 (now s) v ⌝ }
+// The count, and the bits of each component, which stand from a place of the column on; how many.
+pub fn vector(s: &[u8], v: Part, column: &mut [u32], from: usize) -> usize
+    requires { ⌜ (Run 4 (now s) v) × (from ≤ 8192) ⌝ }
 {
     let n = v.len;
     number(n as u64);
+    if 32 < n {
+        return 0;
+    }
     let mut i = 0usize;
     while i < n {
-        bits(wire_read::parts::component(s, v, i));
+        let b = wire_read::parts::component(s, v, i);
+        bits(b);
+        put_u32(column, from + i, b);
         i += 1;
     }
+    n
 }
 
-pub fn op(s: &[u8], o: OpPart)
-    requires { ⌜ OpHeld (now s) o ⌝ }
+pub fn op(s: &[u8], o: OpPart, column: &mut [u32], from: usize) -> OpTaken
+    requires { ⌜ (OpHeld (now s) o) × (from ≤ 8192) ⌝ }
 {
     match o {
         OpPart::Upsert { id, vector: v } => {
             number(1);
             number(id);
-            vector(s, v);
+            let n = vector(s, v, column, from);
+            OpTaken {
+                upsert: true,
+                id: id,
+                n: n,
+            }
         }
         OpPart::Delete { id } => {
             number(2);
             number(id);
+            OpTaken {
+                upsert: false,
+                id: id,
+                n: 0,
+            }
         }
     }
 }
 
-// The count, and each pair.
-pub fn table(s: &[u8], t: Part)
+// The count, and each pair: the epochs stand in the column, and the ends from place 1024 on; how many.
+pub fn table(s: &[u8], t: Part, column: &mut [u64]) -> usize
     requires { ⌜ Run 16 (now s) t ⌝ }
 {
     let n = t.len;
     number(n as u64);
+    if 1024 < n {
+        return 0;
+    }
     let mut i = 0usize;
     while i < n {
         let pair = wire_read::parts::end_at(s, t, i);
         number(pair.epoch.0);
         number(pair.end.0);
+        put_u64(column, i, pair.epoch.0);
+        put_u64(column, 1024 + i, pair.end.0);
         i += 1;
     }
+    n
 }
 
-// The count, and each node.
-fn nodes(s: &[u8], list: Part)
-    requires { ⌜ Run 8 (now s) list ⌝ }
+// One entry's row, but for its components: epoch, offset and id, code and length, each 256 places after the last.
+fn row(i: usize, e: EntryPart, t: OpTaken, words: &mut [u64], small: &mut [u8])
+    requires { ⌜ i ≤ 256 ⌝ }
 {
-    let n = list.len;
-    number(n as u64);
-    let mut i = 0usize;
-    while i < n {
-        let node = wire_read::parts::node_at(s, list, i);
-        number(node.0);
-        i += 1;
-    }
+    put_u64(words, i, e.epoch.0);
+    put_u64(words, 256 + i, e.offset.0);
+    put_u64(words, 512 + i, t.id);
+    put_u8(small, i, code(t.upsert));
+    put_u8(small, 256 + i, count(t.n));
 }
 
-// The count, and each list.
-pub fn placement(s: &[u8], lists: Part)
-    requires { ⌜ Row (many 1 0 8 u64) (now s) lists ⌝ }
-{
-    let n = lists.len;
-    number(n as u64);
-    let mut at = lists.at;
-    let mut i = 0usize;
-    while i < n {
-        let list = wire_read::parts::nodes_at(s, at);
-        nodes(s, list);
-        at = list.at + list.len * 8;
-        i += 1;
-    }
-}
-
-// The count, and each entry.
-pub fn entries(s: &[u8], p: Part)
+// The count, and each entry; how many.
+pub fn entries(s: &[u8], p: Part, words: &mut [u64], small: &mut [u8], column: &mut [u32]) -> usize
     requires { ⌜ Row entryF (now s) p ⌝ }
 {
     let n = p.len;
     number(n as u64);
+    if 256 < n {
+        return 0;
+    }
     let mut at = p.at;
     let mut i = 0usize;
     while i < n {
@@ -115,8 +165,50 @@ pub fn entries(s: &[u8], p: Part)
         number(e.epoch.0);
         number(e.offset.0);
         let o = e.op;
-        op(s, o);
+        let t = op(s, o, column, 32 * i);
+        row(i, e, t, words, small);
         at = e.next;
         i += 1;
     }
+    n
+}
+
+// The count, and each node, which stand from a place of the column on; how many.
+fn nodes(s: &[u8], list: Part, column: &mut [u64], from: usize) -> usize
+    requires { ⌜ (Run 8 (now s) list) × (from ≤ 128) ⌝ }
+{
+    let n = list.len;
+    number(n as u64);
+    if 8 < n {
+        return 0;
+    }
+    let mut i = 0usize;
+    while i < n {
+        let node = wire_read::parts::node_at(s, list, i);
+        number(node.0);
+        put_u64(column, from + i, node.0);
+        i += 1;
+    }
+    n
+}
+
+// The count, and each list; how many.
+pub fn placement(s: &[u8], p: Part, counts: &mut [u8], column: &mut [u64]) -> usize
+    requires { ⌜ Row (many 1 0 8 u64) (now s) p ⌝ }
+{
+    let n = p.len;
+    number(n as u64);
+    if 16 < n {
+        return 0;
+    }
+    let mut at = p.at;
+    let mut i = 0usize;
+    while i < n {
+        let list = wire_read::parts::nodes_at(s, at);
+        let m = nodes(s, list, column, 8 * i);
+        put_u8(counts, i, count(m));
+        at = list.at + list.len * 8;
+        i += 1;
+    }
+    n
 }

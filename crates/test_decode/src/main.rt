@@ -3,15 +3,12 @@
 // does not. What decodes is also written again and compared: `unlike` stands after a line where the bytes differ, which
 // none has. stdin is oracle/stored/decode/kinds.in and long.in one after the other, stdout their .out: the lines that
 // the oracle's decoder made. What is decoded is crate wire_read's; this program shows it.
-use again::again;
-use kinds::show;
+use kinds::message;
 
 mod again;
-mod columns;
 mod command;
 mod items;
 mod kinds;
-mod requests;
 mod words;
 
 // The length that the first two bytes spell.
@@ -24,10 +21,7 @@ fn length_of(head: &[u8]) -> usize {
 
 // A message's line, and `unlike` after it where the writer makes other bytes of what was decoded.
 fn line(s: &[u8]) {
-    show(s);
-    let mut out = io::large_buffer();
-    let mut bits = [0u32; 32];
-    if !again(s, &mut out, &mut bits) {
+    if !message(s) {
         io::write_all(1, b" unlike");
     }
 }

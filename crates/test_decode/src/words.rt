@@ -1,5 +1,10 @@
 // The words of a line: a space, and a number in decimal, or bytes and a float's bits in hexadecimal.
 
+// A message's kind, two hexadecimal digits with no space before.
+pub fn kind(code: u64) {
+    io::print_hex(1, code, 2);
+}
+
 pub fn number(n: u64) {
     io::write_all(1, b" ");
     io::print_decimal(1, n);

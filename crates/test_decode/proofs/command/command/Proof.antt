@@ -1,7 +1,7 @@
--- A Create has its placement in the message.
+-- A Create has its lists in the message.
 use borrow.Author.Needs.{needs}
-use Rattle.test_decode.specs.Held.{CommandHeld}
 use mathlib.Core.Path.{subst}
+use Rattle.test_decode.specs.Held.{CommandHeld}
 use Rattle.test_decode.proofs.command.command.Statement.{statement}
 use Rattle.test_decode.proofs.command.command.Tie as tie
 

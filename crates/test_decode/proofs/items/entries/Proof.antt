@@ -1,7 +1,9 @@
--- From the place of a turn on, as many entries stand in the message as are left.
+-- From the place of a turn on, as many entries stand in the message as are left; the columns keep their lengths.
 use borrow.Author.Needs.{needs}
 use native.Mathlib.Omega.{arith}
+use mathlib.Core.Path.{_≡_, refl}
 use Prim.Native.Nat.{_-_, _≤_}
+use lib.ListN.{length}
 use Rattle.spec.specs.Layout.Parts.{entryF}
 use Rattle.wire_read.specs.Shown.{part}
 use Rattle.test_decode.specs.Held.{Row}
@@ -10,24 +12,28 @@ use Rattle.test_decode.proofs.items.entries.Statement.{statement}
 use Rattle.test_decode.proofs.items.entries.Tie as tie
 
 abbrev Inv-loop : tie.InvT-loop
-Inv-loop s n at₀ i₀ at i = (i ≤ n) × Row entryF s (part at (n - i))
+Inv-loop s words₀ small₀ column₀ n at₀ i₀ words small column at i =
+    (n ≤ 256) × (i ≤ n) × Row entryF s (part at (n - i)) × (length words ≡ length words₀) × (length small ≡ length small₀) × (length column ≡ length column₀)
 
 abbrev μ-loop : tie.MeasureT-loop
-μ-loop s n at₀ i₀ at i = n - i
+μ-loop s words₀ small₀ column₀ n at₀ i₀ words small column at i = n - i
 
 number-requires : tie.Need-number-requires Inv-loop μ-loop
 number-requires c κs = search needs
 
+returns : tie.Need-returns Inv-loop μ-loop
+returns c = search needs
+
 loop-holds : tie.Need-loop-holds Inv-loop μ-loop
 loop-holds c =
-    let a = c .before .before .args in
-    (omega arith, row-start entryF (a .s .now) (a .p .len) (a .p .at) (c .before .before .pre))
+    let a = c .before .before .before .before .before .before .args in
+    (omega arith, omega arith, row-start entryF (a .s .now) (a .p .len) (a .p .at) (c .before .before .before .before .before .before .pre), refl, refl, refl)
 
 entry-at-requires : tie.Need-entry-at-requires Inv-loop μ-loop
 entry-at-requires c κs =
-    let l = c .before in
-    let a = l .before .before .before .args in
-    row-first entryF (a .s .now) (a .p .len) (l .loop .at) (l .loop .i) (omega arith) (l .loop .inv .1)
+    let l = c .before .loop in
+    let a = c .before .before .before .before .before .before .before .before .args in
+    row-first entryF (a .s .now) (a .p .len) (l .at) (l .i) (omega arith) (l .inv .2)
 
 number-requires-2 : tie.Need-number-requires-2 Inv-loop μ-loop
 number-requires-2 c κs = search needs
@@ -35,12 +41,18 @@ number-requires-2 c κs = search needs
 number-requires-3 : tie.Need-number-requires-3 Inv-loop μ-loop
 number-requires-3 c κs = search needs
 
+mul-op : tie.Need-mul-op Inv-loop μ-loop
+mul-op c = search needs
+
 op-requires : tie.Need-op-requires Inv-loop μ-loop
 op-requires c κs =
-    let l = c .before .before .before .before in
-    let a = l .before .before .before .args in
-    let r = c .before .before .entry-at in
-    entry-op (a .s .now) (a .p .len) (l .loop .at) (l .loop .i) (omega arith) (l .loop .inv .1) (r .result) (r .ensures)
+    let l = c .before .before .before .before .before .loop in
+    let a = c .before .before .before .before .before .before .before .before .before .before .before .before .args in
+    let r = c .before .before .before .entry-at in
+    (entry-op (a .s .now) (a .p .len) (l .at) (l .i) (omega arith) (l .inv .2) (r .result) (r .ensures), omega arith)
+
+row-requires : tie.Need-row-requires Inv-loop μ-loop
+row-requires c κs = search needs
 
 add-i : tie.Need-add-i Inv-loop μ-loop
 add-i c = search needs
@@ -50,13 +62,28 @@ loop-less c = search needs
 
 loop-again : tie.Need-loop-again Inv-loop μ-loop
 loop-again c =
-    let l = c .before .before .before .before .before in
-    let a = l .before .before .before .args in
-    let r = c .before .before .before .entry-at in
-    (omega arith, entry-after (a .s .now) (a .p .len) (l .loop .at) (l .loop .i) (omega arith) (l .loop .inv .1) (r .result) (r .ensures))
+    let l = c .before .before .before .before .before .before .before .before .before .before .before .before .before .before .before .loop in
+    let a = c .before .before .before .before .before .before .before .before .before .before .before .before .before .before .before .before .before .before .before .before .before .before .args in
+    let r = c .before .before .before .before .before .before .before .before .before .before .before .before .before .entry-at in (
+      l .inv .0,
+      omega arith,
+      entry-after (a .s .now) (a .p .len) (l .at) (l .i) (omega arith) (l .inv .2) (r .result) (r .ensures),
+      search needs,
+      search needs,
+      search needs,
+    )
 
-returns : tie.Need-returns Inv-loop μ-loop
-returns c = search needs
+same-length : tie.Need-same-length Inv-loop μ-loop
+same-length c = search needs
+
+same-length-2 : tie.Need-same-length-2 Inv-loop μ-loop
+same-length-2 c = search needs
+
+same-length-3 : tie.Need-same-length-3 Inv-loop μ-loop
+same-length-3 c = search needs
+
+returns-2 : tie.Need-returns-2 Inv-loop μ-loop
+returns-2 c = search needs
 
 pub entries-spec : {M : Type 1} → statement M
 entries-spec =
@@ -65,12 +92,18 @@ entries-spec =
     Inv-loop
     μ-loop
     number-requires
+    returns
     loop-holds
     entry-at-requires
     number-requires-2
     number-requires-3
+    mul-op
     op-requires
+    row-requires
     add-i
     loop-less
     loop-again
-    returns)
+    same-length
+    same-length-2
+    same-length-3
+    returns-2)

@@ -1,18 +1,22 @@
--- The pairs counted so far are no more than the table has.
+-- The pairs taken so far are no more than the table has, and the column keeps its length.
 use borrow.Author.Needs.{needs}
 use mathlib.Core.Path.{_≡_}
 use Prim.Native.Nat.{_-_, _≤_}
+use lib.ListN.{length}
 use Rattle.test_decode.proofs.items.table.Statement.{statement}
 use Rattle.test_decode.proofs.items.table.Tie as tie
 
 abbrev Inv-loop : tie.InvT-loop
-Inv-loop s t n i₀ i = (n ≡ t .len) × (i ≤ n)
+Inv-loop s t column₀ n i₀ column i = (n ≡ t .len) × (n ≤ 1024) × (i ≤ n) × (length column ≡ length column₀)
 
 abbrev μ-loop : tie.MeasureT-loop
-μ-loop s t n i₀ i = n - i
+μ-loop s t column₀ n i₀ column i = n - i
 
 number-requires : tie.Need-number-requires Inv-loop μ-loop
 number-requires c κs = search needs
+
+returns : tie.Need-returns Inv-loop μ-loop
+returns c = search needs
 
 loop-holds : tie.Need-loop-holds Inv-loop μ-loop
 loop-holds c = search needs
@@ -26,6 +30,15 @@ number-requires-2 c κs = search needs
 number-requires-3 : tie.Need-number-requires-3 Inv-loop μ-loop
 number-requires-3 c κs = search needs
 
+put-u64-requires : tie.Need-put-u64-requires Inv-loop μ-loop
+put-u64-requires c κs = search needs
+
+add-put-u64 : tie.Need-add-put-u64 Inv-loop μ-loop
+add-put-u64 c = search needs
+
+put-u64-requires-2 : tie.Need-put-u64-requires-2 Inv-loop μ-loop
+put-u64-requires-2 c κs = search needs
+
 add-i : tie.Need-add-i Inv-loop μ-loop
 add-i c = search needs
 
@@ -35,8 +48,11 @@ loop-less c = search needs
 loop-again : tie.Need-loop-again Inv-loop μ-loop
 loop-again c = search needs
 
-returns : tie.Need-returns Inv-loop μ-loop
-returns c = search needs
+same-length : tie.Need-same-length Inv-loop μ-loop
+same-length c = search needs
+
+returns-2 : tie.Need-returns-2 Inv-loop μ-loop
+returns-2 c = search needs
 
 pub table-spec : {M : Type 1} → statement M
 table-spec =
@@ -45,11 +61,16 @@ table-spec =
     Inv-loop
     μ-loop
     number-requires
+    returns
     loop-holds
     end-at-requires
     number-requires-2
     number-requires-3
+    put-u64-requires
+    add-put-u64
+    put-u64-requires-2
     add-i
     loop-less
     loop-again
-    returns)
+    same-length
+    returns-2)

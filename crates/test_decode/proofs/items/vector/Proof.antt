@@ -1,18 +1,22 @@
--- The components counted so far are no more than the vector has.
+-- The components taken so far are no more than the vector has, and the column keeps its length.
 use borrow.Author.Needs.{needs}
 use mathlib.Core.Path.{_≡_}
 use Prim.Native.Nat.{_-_, _≤_}
+use lib.ListN.{length}
 use Rattle.test_decode.proofs.items.vector.Statement.{statement}
 use Rattle.test_decode.proofs.items.vector.Tie as tie
 
 abbrev Inv-loop : tie.InvT-loop
-Inv-loop s v n i₀ i = (n ≡ v .len) × (i ≤ n)
+Inv-loop s v column₀ from n i₀ column i = (n ≡ v .len) × (n ≤ 32) × (i ≤ n) × (length column ≡ length column₀)
 
 abbrev μ-loop : tie.MeasureT-loop
-μ-loop s v n i₀ i = n - i
+μ-loop s v column₀ from n i₀ column i = n - i
 
 number-requires : tie.Need-number-requires Inv-loop μ-loop
 number-requires c κs = search needs
+
+returns : tie.Need-returns Inv-loop μ-loop
+returns c = search needs
 
 loop-holds : tie.Need-loop-holds Inv-loop μ-loop
 loop-holds c = search needs
@@ -23,6 +27,12 @@ component-requires c κs = search needs
 bits-requires : tie.Need-bits-requires Inv-loop μ-loop
 bits-requires c κs = search needs
 
+add-put-u32 : tie.Need-add-put-u32 Inv-loop μ-loop
+add-put-u32 c = search needs
+
+put-u32-requires : tie.Need-put-u32-requires Inv-loop μ-loop
+put-u32-requires c κs = search needs
+
 add-i : tie.Need-add-i Inv-loop μ-loop
 add-i c = search needs
 
@@ -32,8 +42,11 @@ loop-less c = search needs
 loop-again : tie.Need-loop-again Inv-loop μ-loop
 loop-again c = search needs
 
-returns : tie.Need-returns Inv-loop μ-loop
-returns c = search needs
+same-length : tie.Need-same-length Inv-loop μ-loop
+same-length c = search needs
+
+returns-2 : tie.Need-returns-2 Inv-loop μ-loop
+returns-2 c = search needs
 
 pub vector-spec : {M : Type 1} → statement M
 vector-spec =
@@ -42,10 +55,14 @@ vector-spec =
     Inv-loop
     μ-loop
     number-requires
+    returns
     loop-holds
     component-requires
     bits-requires
+    add-put-u32
+    put-u32-requires
     add-i
     loop-less
     loop-again
-    returns)
+    same-length
+    returns-2)

@@ -1,8 +1,8 @@
 -- What was decoded stands in the message, by its kind.
 use borrow.Author.Needs.{needs}
 use Rattle.test_decode.proofs.Held.{told}
-use Rattle.test_decode.proofs.kinds.show.Statement.{statement}
-use Rattle.test_decode.proofs.kinds.show.Tie as tie
+use Rattle.test_decode.proofs.kinds.message.Statement.{statement}
+use Rattle.test_decode.proofs.kinds.message.Tie as tie
 
 decode-requires : tie.Need-decode-requires
 decode-requires c κs = search needs
@@ -10,11 +10,8 @@ decode-requires c κs = search needs
 enum-told : tie.Need-enum-told
 enum-told c = search needs
 
-slice-aggregate-write-all : tie.Need-slice-aggregate-write-all
-slice-aggregate-write-all c = search needs
-
-write-all-requires : tie.Need-write-all-requires
-write-all-requires c κs = search needs
+undecodable-requires : tie.Need-undecodable-requires
+undecodable-requires c κs = search needs
 
 enum-known-m : tie.Need-enum-known-m
 enum-known-m c = search needs
@@ -55,17 +52,11 @@ search-requires c κs = told _ _ _ (c .before .before .before .decode .ensures) 
 enum-known-m-7 : tie.Need-enum-known-m-7
 enum-known-m-7 c = search needs
 
-slice-aggregate-reply : tie.Need-slice-aggregate-reply
-slice-aggregate-reply c = search needs
-
 reply-requires : tie.Need-reply-requires
 reply-requires c κs = search needs
 
 enum-known-m-8 : tie.Need-enum-known-m-8
 enum-known-m-8 c = search needs
-
-slice-aggregate-reply-2 : tie.Need-slice-aggregate-reply-2
-slice-aggregate-reply-2 c = search needs
 
 reply-requires-2 : tie.Need-reply-requires-2
 reply-requires-2 c κs = search needs
@@ -73,17 +64,11 @@ reply-requires-2 c κs = search needs
 enum-known-m-9 : tie.Need-enum-known-m-9
 enum-known-m-9 c = search needs
 
-slice-aggregate-reply-3 : tie.Need-slice-aggregate-reply-3
-slice-aggregate-reply-3 c = search needs
-
 reply-requires-3 : tie.Need-reply-requires-3
 reply-requires-3 c κs = search needs
 
 enum-known-m-10 : tie.Need-enum-known-m-10
 enum-known-m-10 c = search needs
-
-slice-aggregate-reply-4 : tie.Need-slice-aggregate-reply-4
-slice-aggregate-reply-4 c = search needs
 
 reply-requires-4 : tie.Need-reply-requires-4
 reply-requires-4 c κs = search needs
@@ -121,14 +106,13 @@ returns-10 c = search needs
 returns-11 : tie.Need-returns-11
 returns-11 c = search needs
 
-pub show-spec : {M : Type 1} → statement M
-show-spec =
+pub message-spec : {M : Type 1} → statement M
+message-spec =
     tie.close
     (tie.spec
     decode-requires
     enum-told
-    slice-aggregate-write-all
-    write-all-requires
+    undecodable-requires
     enum-known-m
     request-requires
     enum-known-m-2
@@ -142,16 +126,12 @@ show-spec =
     enum-known-m-6
     search-requires
     enum-known-m-7
-    slice-aggregate-reply
     reply-requires
     enum-known-m-8
-    slice-aggregate-reply-2
     reply-requires-2
     enum-known-m-9
-    slice-aggregate-reply-3
     reply-requires-3
     enum-known-m-10
-    slice-aggregate-reply-4
     reply-requires-4
     returns
     returns-2
