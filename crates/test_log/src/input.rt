@@ -4,6 +4,38 @@ use float_distance::order::bits_in_domain;
 use test_lines::parts::float_of;
 use wire_read::Part;
 
+// A call and how many bytes of operands it has; 12 where the input ends, or no such call is known.
+pub struct Record {
+    pub call: u8,
+    pub n: usize,
+}
+
+// Fills the first n bytes of a buffer. False where the input or the buffer ends before.
+fn fill(buf: &mut [u8], n: usize) -> bool {
+    if buf.len() < n {
+        return false;
+    }
+    io::read_full(0, &mut buf[..n]) == n
+}
+
+// The next record, its operands at the start of the buffer.
+pub fn next_record(buf: &mut [u8]) -> Record {
+    let ended = Record { call: 12, n: 0 };
+    let mut head = [0u8; 3];
+    if !fill(&mut head, 3) {
+        return ended;
+    }
+    let call = head[0];
+    if 11 < call {
+        return ended;
+    }
+    let n = two(&head, 1);
+    if !fill(buf, n) {
+        return ended;
+    }
+    Record { call: call, n: n }
+}
+
 // The two bytes at a place as a number; 0 where they are not there.
 pub fn two(s: &[u8], at: usize) -> usize {
     if s.len() < 2 {

@@ -3,11 +3,11 @@
 // An unknown call or a record that is cut short ends the program. stdin is oracle/stored/history/chosen.in, full.in, random-1.in,
 // random-2.in and random-3.in one after the other, stdout their .out: the answers of the Rust. Append, store, copy, adopt, promote, search and ids
 // are crate log_calls' exported calls, epoch ends, vector, len and is_empty crate node_log_reads'; entries are shown from the columns.
-use input::two;
+use input::next_record;
 use looks::look;
-use moves::entries_or_epoch;
+use moves::after;
+use moves::changed;
 use moves::make;
-use moves::one_entry;
 use moves::promote;
 use test_lines::parts::first;
 use test_lines::words::word;
@@ -29,56 +29,52 @@ pub struct Held {
     pub stored: usize,
 }
 
-// One call with its operands.
+// The input has ended.
+fn over(h: Held) -> Held {
+    Held {
+        more: false,
+        made: h.made,
+        metric: h.metric,
+        epoch: h.epoch,
+        count: h.count,
+        stored: h.stored,
+    }
+}
+
+// The call changes the columns: 1 append, 2 store, 3 copy, 4 adopt, of a replica that is there.
+fn changes(h: Held, call: u8) -> bool {
+    if !h.made {
+        return false;
+    }
+    if call == 0 {
+        return false;
+    }
+    call < 5
+}
+
+// A call that leaves the columns as they are.
 fn on_call(
-    epochs: &mut [u64],
-    offsets: &mut [u64],
-    ids: &mut [u64],
-    codes: &mut [u8],
-    lengths: &mut [u8],
-    floats: &mut [f32],
-    keys: &mut [u64],
-    places: &mut [u64],
+    epochs: &[u64; 1024],
+    offsets: &[u64; 1024],
+    ids: &[u64; 1024],
+    codes: &[u8; 1024],
+    lengths: &[u8; 1024],
+    floats: &[f32; 32768],
+    keys: &[u64; 1024],
+    places: &[u64; 1024],
     h: Held,
     call: u8,
     s: &[u8],
 ) -> Held {
+    if 11 < call {
+        return over(h);
+    }
     if call == 0 {
         return make(h, s);
     }
     if !h.made {
         word(b"none\n");
         return h;
-    }
-    if call < 3 {
-        return one_entry(
-            epochs,
-            offsets,
-            ids,
-            codes,
-            lengths,
-            floats,
-            keys,
-            places,
-            h,
-            call,
-            s,
-        );
-    }
-    if call < 5 {
-        return entries_or_epoch(
-            epochs,
-            offsets,
-            ids,
-            codes,
-            lengths,
-            floats,
-            keys,
-            places,
-            h,
-            call,
-            s,
-        );
     }
     if call == 5 {
         return promote(h, s);
@@ -99,52 +95,38 @@ fn on_call(
     h
 }
 
-// Fills the first n bytes of a buffer. False where the input or the buffer ends before.
-fn fill(buf: &mut [u8], n: usize) -> bool {
-    if buf.len() < n {
-        return false;
-    }
-    io::read_full(0, &mut buf[..n]) == n
-}
-
-// The input has ended.
-fn over(h: Held) -> Held {
-    Held {
-        more: false,
-        made: h.made,
-        metric: h.metric,
-        epoch: h.epoch,
-        count: h.count,
-        stored: h.stored,
-    }
-}
-
-// One record.
+// One record. Arrays, not slices: their lengths are then nothing to prove.
 fn one(
-    epochs: &mut [u64],
-    offsets: &mut [u64],
-    ids: &mut [u64],
-    codes: &mut [u8],
-    lengths: &mut [u8],
-    floats: &mut [f32],
-    keys: &mut [u64],
-    places: &mut [u64],
+    epochs: &mut [u64; 1024],
+    offsets: &mut [u64; 1024],
+    ids: &mut [u64; 1024],
+    codes: &mut [u8; 1024],
+    lengths: &mut [u8; 1024],
+    floats: &mut [f32; 32768],
+    keys: &mut [u64; 1024],
+    places: &mut [u64; 1024],
     h: Held,
 ) -> Held {
-    let mut head = [0u8; 3];
-    if !fill(&mut head, 3) {
-        return over(h);
-    }
-    let call = head[0];
-    if 11 < call {
-        return over(h);
-    }
-    let n = two(&head, 1);
     let mut buf = io::large_buffer();
-    if !fill(&mut buf, n) {
-        return over(h);
+    let r = next_record(&mut buf);
+    let call = r.call;
+    let s = first(&buf, r.n);
+    if changes(h, call) {
+        let d = changed(
+            epochs,
+            offsets,
+            ids,
+            codes,
+            lengths,
+            floats,
+            keys,
+            places,
+            h,
+            call,
+            s,
+        );
+        return after(h, d);
     }
-    let s = first(&buf, n);
     on_call(
         epochs,
         offsets,
@@ -160,45 +142,19 @@ fn one(
     )
 }
 
-// Records until the input ends. Nothing says that it does, so they are counted down.
-fn run(
-    epochs: &mut [u64],
-    offsets: &mut [u64],
-    ids: &mut [u64],
-    codes: &mut [u8],
-    lengths: &mut [u8],
-    floats: &mut [f32],
-    keys: &mut [u64],
-    places: &mut [u64],
-) {
-    let mut h = Held {
+// No replica yet.
+fn none() -> Held {
+    Held {
         more: true,
         made: false,
         metric: 0,
         epoch: 0,
         count: 0,
         stored: 0,
-    };
-    let mut left = 1000000u64;
-    while 0 < left {
-        if !h.more {
-            return;
-        }
-        h = one(
-            epochs,
-            offsets,
-            ids,
-            codes,
-            lengths,
-            floats,
-            keys,
-            places,
-            h,
-        );
-        left -= 1;
     }
 }
 
+// Records until the input ends. Nothing says that it does, so they are counted down.
 fn main() {
     let mut epochs = [0u64; 1024];
     let mut offsets = [0u64; 1024];
@@ -208,14 +164,23 @@ fn main() {
     let mut floats = [0.0f32; 32768];
     let mut keys = [0u64; 1024];
     let mut places = [0u64; 1024];
-    run(
-        &mut epochs,
-        &mut offsets,
-        &mut ids,
-        &mut codes,
-        &mut lengths,
-        &mut floats,
-        &mut keys,
-        &mut places,
-    );
+    let mut h = none();
+    let mut left = 1000000u64;
+    while 0 < left {
+        if !h.more {
+            return;
+        }
+        h = one(
+            &mut epochs,
+            &mut offsets,
+            &mut ids,
+            &mut codes,
+            &mut lengths,
+            &mut floats,
+            &mut keys,
+            &mut places,
+            h,
+        );
+        left -= 1;
+    }
 }

@@ -52,7 +52,7 @@ pub fn promote(h: Held, s: &[u8]) -> Held {
 }
 
 // A call's line, and the replica after it.
-fn after(h: Held, d: Done) -> Held {
+pub fn after(h: Held, d: Done) -> Held {
     let a = d.answer;
     answer(a);
     let epoch = d.epoch;
@@ -66,41 +66,21 @@ fn after(h: Held, d: Done) -> Held {
     }
 }
 
-// Append, or store.
-pub fn one_entry(
-    epochs: &mut [u64],
-    offsets: &mut [u64],
-    ids: &mut [u64],
-    codes: &mut [u8],
-    lengths: &mut [u8],
-    floats: &mut [f32],
-    keys: &mut [u64],
-    places: &mut [u64],
+// 1 to 4, each by itself: over so many columns one call a function is proved quickest.
+fn appended(
+    epochs: &mut [u64; 1024],
+    offsets: &mut [u64; 1024],
+    ids: &mut [u64; 1024],
+    codes: &mut [u8; 1024],
+    lengths: &mut [u8; 1024],
+    floats: &mut [f32; 32768],
+    keys: &mut [u64; 1024],
+    places: &mut [u64; 1024],
     h: Held,
-    call: u8,
     s: &[u8],
-) -> Held {
-    let n = h.count;
-    let m = h.stored;
+) -> Done {
     let own = Epoch(h.epoch);
-    if call == 1 {
-        let d = append(
-            epochs,
-            offsets,
-            ids,
-            codes,
-            lengths,
-            floats,
-            keys,
-            places,
-            n,
-            m,
-            own,
-            s,
-        );
-        return after(h, d);
-    }
-    let d = store(
+    append(
         epochs,
         offsets,
         ids,
@@ -109,49 +89,27 @@ pub fn one_entry(
         floats,
         keys,
         places,
-        n,
-        m,
+        h.count,
+        h.stored,
         own,
         s,
-    );
-    after(h, d)
+    )
 }
 
-// Copy, or adopt.
-pub fn entries_or_epoch(
-    epochs: &mut [u64],
-    offsets: &mut [u64],
-    ids: &mut [u64],
-    codes: &mut [u8],
-    lengths: &mut [u8],
-    floats: &mut [f32],
-    keys: &mut [u64],
-    places: &mut [u64],
+fn stored_one(
+    epochs: &mut [u64; 1024],
+    offsets: &mut [u64; 1024],
+    ids: &mut [u64; 1024],
+    codes: &mut [u8; 1024],
+    lengths: &mut [u8; 1024],
+    floats: &mut [f32; 32768],
+    keys: &mut [u64; 1024],
+    places: &mut [u64; 1024],
     h: Held,
-    call: u8,
     s: &[u8],
-) -> Held {
-    let n = h.count;
-    let m = h.stored;
+) -> Done {
     let own = Epoch(h.epoch);
-    if call == 3 {
-        let d = copy(
-            epochs,
-            offsets,
-            ids,
-            codes,
-            lengths,
-            floats,
-            keys,
-            places,
-            n,
-            m,
-            own,
-            s,
-        );
-        return after(h, d);
-    }
-    let d = adopt(
+    store(
         epochs,
         offsets,
         ids,
@@ -160,10 +118,137 @@ pub fn entries_or_epoch(
         floats,
         keys,
         places,
-        n,
-        m,
+        h.count,
+        h.stored,
         own,
         s,
-    );
-    after(h, d)
+    )
+}
+
+fn copied(
+    epochs: &mut [u64; 1024],
+    offsets: &mut [u64; 1024],
+    ids: &mut [u64; 1024],
+    codes: &mut [u8; 1024],
+    lengths: &mut [u8; 1024],
+    floats: &mut [f32; 32768],
+    keys: &mut [u64; 1024],
+    places: &mut [u64; 1024],
+    h: Held,
+    s: &[u8],
+) -> Done {
+    let own = Epoch(h.epoch);
+    copy(
+        epochs,
+        offsets,
+        ids,
+        codes,
+        lengths,
+        floats,
+        keys,
+        places,
+        h.count,
+        h.stored,
+        own,
+        s,
+    )
+}
+
+fn adopted(
+    epochs: &mut [u64; 1024],
+    offsets: &mut [u64; 1024],
+    ids: &mut [u64; 1024],
+    codes: &mut [u8; 1024],
+    lengths: &mut [u8; 1024],
+    floats: &mut [f32; 32768],
+    keys: &mut [u64; 1024],
+    places: &mut [u64; 1024],
+    h: Held,
+    s: &[u8],
+) -> Done {
+    let own = Epoch(h.epoch);
+    adopt(
+        epochs,
+        offsets,
+        ids,
+        codes,
+        lengths,
+        floats,
+        keys,
+        places,
+        h.count,
+        h.stored,
+        own,
+        s,
+    )
+}
+
+// Append, store, copy or adopt.
+pub fn changed(
+    epochs: &mut [u64; 1024],
+    offsets: &mut [u64; 1024],
+    ids: &mut [u64; 1024],
+    codes: &mut [u8; 1024],
+    lengths: &mut [u8; 1024],
+    floats: &mut [f32; 32768],
+    keys: &mut [u64; 1024],
+    places: &mut [u64; 1024],
+    h: Held,
+    call: u8,
+    s: &[u8],
+) -> Done {
+    if call == 1 {
+        return appended(
+            epochs,
+            offsets,
+            ids,
+            codes,
+            lengths,
+            floats,
+            keys,
+            places,
+            h,
+            s,
+        );
+    }
+    if call == 2 {
+        return stored_one(
+            epochs,
+            offsets,
+            ids,
+            codes,
+            lengths,
+            floats,
+            keys,
+            places,
+            h,
+            s,
+        );
+    }
+    if call == 3 {
+        return copied(
+            epochs,
+            offsets,
+            ids,
+            codes,
+            lengths,
+            floats,
+            keys,
+            places,
+            h,
+            s,
+        );
+    }
+    adopted(
+        epochs,
+        offsets,
+        ids,
+        codes,
+        lengths,
+        floats,
+        keys,
+        places,
+        h,
+        s,
+    )
 }

@@ -3,8 +3,8 @@ use borrow.Author.Needs.{needs}
 use native.Mathlib.Omega.{arith}
 use mathlib.Core.Path.{sym}
 use lib.Seq.{length-take-le}
-use Rattle.test_log.proofs.fill.Statement.{statement}
-use Rattle.test_log.proofs.fill.Tie as tie
+use Rattle.test_log.proofs.input.fill.Statement.{statement}
+use Rattle.test_log.proofs.input.fill.Tie as tie
 
 returns : tie.Need-returns
 returns c = search needs
