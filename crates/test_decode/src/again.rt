@@ -27,12 +27,16 @@ pub fn same(s: &[u8], out: &[u8], w: Wrote) -> bool {
     begins(out, s)
 }
 
-// The first components of a row.
-pub fn front(bits: &[u32], n: usize) -> &[u32] {
+fn front_of(bits: &[u32], n: usize) -> &[u32] {
     if bits.len() < n {
         return bits;
     }
     &bits[..n]
+}
+
+// The first components of a row.
+pub fn front(bits: &[u32; 8192], n: usize) -> &[u32] {
+    front_of(bits, n)
 }
 
 // The first numbers of a column.

@@ -32,7 +32,14 @@ pub struct Asked {
     pub seq: u64,
 }
 
-fn create_again(s: &[u8], a: Asked, c: CreatePart, counts: &[u8], nodes: &[u64], n: usize) -> bool {
+fn create_again(
+    s: &[u8],
+    a: Asked,
+    c: CreatePart,
+    counts: &[u8; 16],
+    nodes: &[u64; 128],
+    n: usize,
+) -> bool {
     let name = c.name;
     let metric = c.metric;
     let mut out = io::large_buffer();

@@ -1,7 +1,7 @@
-// The parts of a message that are not single numbers: shown item by item, and put into the columns that crate wire_write takes. A
-// place that a column does not have is passed over, and so are items above their limit: the message is then unlike. Each function
-// asks that its part lies in the message, which the readers' answer ensures (proofs/Held.antt).
-ghost use Prim.Native.Nat.{_≤_};
+// The parts of a message that are not single numbers: shown item by item, and put into the columns that crate wire_write takes. Items above
+// their limit are passed over: the message is then unlike. Each function asks that its part lies in the message, which the readers'
+// answer ensures (proofs/Held.antt).
+ghost use Prim.Native.Nat.{_<_, _≤_};
 ghost use Rattle.spec.specs.Layout.Format.{many};
 ghost use Rattle.spec.specs.Layout.Parts.{entryF, u64};
 ghost use Rattle.test_decode.specs.Held.{OpHeld, Row, Run};
@@ -19,24 +19,6 @@ pub struct OpTaken {
     pub upsert: bool,
     pub id: u64,
     pub n: usize,
-}
-
-fn put_u8(v: &mut [u8], i: usize, x: u8) {
-    if i < v.len() {
-        v[i] = x;
-    }
-}
-
-fn put_u32(v: &mut [u32], i: usize, x: u32) {
-    if i < v.len() {
-        v[i] = x;
-    }
-}
-
-fn put_u64(v: &mut [u64], i: usize, x: u64) {
-    if i < v.len() {
-        v[i] = x;
-    }
 }
 
 // A count of at most 32 as a byte.
@@ -73,8 +55,8 @@ pub fn key(s: &[u8], k: KeyPart) {
 }
 
 // The count, and the bits of each component, which stand from a place of the column on; how many.
-pub fn vector(s: &[u8], v: Part, column: &mut [u32], from: usize) -> usize
-    requires { ⌜ (Run 4 (now s) v) × (from ≤ 8192) ⌝ }
+pub fn vector(s: &[u8], v: Part, column: &mut [u32; 8192], from: usize) -> usize
+    requires { ⌜ (Run 4 (now s) v) × (from ≤ 8160) ⌝ }
 {
     let n = v.len;
     number(n as u64);
@@ -85,14 +67,14 @@ pub fn vector(s: &[u8], v: Part, column: &mut [u32], from: usize) -> usize
     while i < n {
         let b = wire_read::parts::component(s, v, i);
         bits(b);
-        put_u32(column, from + i, b);
+        column[from + i] = b;
         i += 1;
     }
     n
 }
 
-pub fn op(s: &[u8], o: OpPart, column: &mut [u32], from: usize) -> OpTaken
-    requires { ⌜ (OpHeld (now s) o) × (from ≤ 8192) ⌝ }
+pub fn op(s: &[u8], o: OpPart, column: &mut [u32; 8192], from: usize) -> OpTaken
+    requires { ⌜ (OpHeld (now s) o) × (from ≤ 8160) ⌝ }
 {
     match o {
         OpPart::Upsert { id, vector: v } => {
@@ -118,7 +100,7 @@ pub fn op(s: &[u8], o: OpPart, column: &mut [u32], from: usize) -> OpTaken
 }
 
 // The count, and each pair: the epochs stand in the column, and the ends from place 1024 on; how many.
-pub fn table(s: &[u8], t: Part, column: &mut [u64]) -> usize
+pub fn table(s: &[u8], t: Part, column: &mut [u64; 2048]) -> usize
     requires { ⌜ Run 16 (now s) t ⌝ }
 {
     let n = t.len;
@@ -131,26 +113,32 @@ pub fn table(s: &[u8], t: Part, column: &mut [u64]) -> usize
         let pair = wire_read::parts::end_at(s, t, i);
         number(pair.epoch.0);
         number(pair.end.0);
-        put_u64(column, i, pair.epoch.0);
-        put_u64(column, 1024 + i, pair.end.0);
+        column[i] = pair.epoch.0;
+        column[1024 + i] = pair.end.0;
         i += 1;
     }
     n
 }
 
 // One entry's row, but for its components: epoch, offset and id, code and length, each 256 places after the last.
-fn row(i: usize, e: EntryPart, t: OpTaken, words: &mut [u64], small: &mut [u8])
-    requires { ⌜ i ≤ 256 ⌝ }
+fn row(i: usize, e: EntryPart, t: OpTaken, words: &mut [u64; 768], small: &mut [u8; 512])
+    requires { ⌜ i < 256 ⌝ }
 {
-    put_u64(words, i, e.epoch.0);
-    put_u64(words, 256 + i, e.offset.0);
-    put_u64(words, 512 + i, t.id);
-    put_u8(small, i, code(t.upsert));
-    put_u8(small, 256 + i, count(t.n));
+    words[i] = e.epoch.0;
+    words[256 + i] = e.offset.0;
+    words[512 + i] = t.id;
+    small[i] = code(t.upsert);
+    small[256 + i] = count(t.n);
 }
 
 // The count, and each entry; how many.
-pub fn entries(s: &[u8], p: Part, words: &mut [u64], small: &mut [u8], column: &mut [u32]) -> usize
+pub fn entries(
+    s: &[u8],
+    p: Part,
+    words: &mut [u64; 768],
+    small: &mut [u8; 512],
+    column: &mut [u32; 8192],
+) -> usize
     requires { ⌜ Row entryF (now s) p ⌝ }
 {
     let n = p.len;
@@ -174,8 +162,8 @@ pub fn entries(s: &[u8], p: Part, words: &mut [u64], small: &mut [u8], column: &
 }
 
 // The count, and each node, which stand from a place of the column on; how many.
-fn nodes(s: &[u8], list: Part, column: &mut [u64], from: usize) -> usize
-    requires { ⌜ (Run 8 (now s) list) × (from ≤ 128) ⌝ }
+fn nodes(s: &[u8], list: Part, column: &mut [u64; 128], from: usize) -> usize
+    requires { ⌜ (Run 8 (now s) list) × (from ≤ 120) ⌝ }
 {
     let n = list.len;
     number(n as u64);
@@ -186,14 +174,14 @@ fn nodes(s: &[u8], list: Part, column: &mut [u64], from: usize) -> usize
     while i < n {
         let node = wire_read::parts::node_at(s, list, i);
         number(node.0);
-        put_u64(column, from + i, node.0);
+        column[from + i] = node.0;
         i += 1;
     }
     n
 }
 
 // The count, and each list; how many.
-pub fn placement(s: &[u8], p: Part, counts: &mut [u8], column: &mut [u64]) -> usize
+pub fn placement(s: &[u8], p: Part, counts: &mut [u8; 16], column: &mut [u64; 128]) -> usize
     requires { ⌜ Row (many 1 0 8 u64) (now s) p ⌝ }
 {
     let n = p.len;
@@ -206,7 +194,7 @@ pub fn placement(s: &[u8], p: Part, counts: &mut [u8], column: &mut [u64]) -> us
     while i < n {
         let list = wire_read::parts::nodes_at(s, at);
         let m = nodes(s, list, column, 8 * i);
-        put_u8(counts, i, count(m));
+        counts[i] = count(m);
         at = list.at + list.len * 8;
         i += 1;
     }

@@ -51,7 +51,7 @@ fn replicate(s: &[u8], p: ReplicatePart) -> bool
     number(p.epoch.0);
     number(p.offset.0);
     let o = p.op;
-    let mut bits = [0u32; 32];
+    let mut bits = [0u32; 8192];
     let t = op(s, o, &mut bits, 0);
     let name = k.name;
     let epoch = p.epoch;
@@ -71,7 +71,7 @@ fn replicate(s: &[u8], p: ReplicatePart) -> bool
 }
 
 // The epochs stand in the column, the ends from place 1024 on.
-fn new_epoch_again(s: &[u8], p: NewEpochPart, column: &[u64], n: usize) -> bool {
+fn new_epoch_again(s: &[u8], p: NewEpochPart, column: &[u64; 2048], n: usize) -> bool {
     let k = p.key;
     let name = k.name;
     let epoch = p.epoch;
@@ -111,9 +111,9 @@ fn new_epoch(s: &[u8], p: NewEpochPart) -> bool
 fn copy_shard_again(
     s: &[u8],
     p: CopyPart,
-    words: &[u64],
-    small: &[u8],
-    bits: &[u32],
+    words: &[u64; 768],
+    small: &[u8; 512],
+    bits: &[u32; 8192],
     n: usize,
 ) -> bool {
     let k = p.key;
@@ -159,7 +159,7 @@ fn write(s: &[u8], p: WritePart) -> bool
     key(s, k);
     number(p.epoch.0);
     let o = p.op;
-    let mut bits = [0u32; 32];
+    let mut bits = [0u32; 8192];
     let t = op(s, o, &mut bits, 0);
     let name = k.name;
     let epoch = p.epoch;
@@ -185,7 +185,7 @@ fn search(s: &[u8], p: SearchPart) -> bool
     number(p.epoch.0);
     number(p.k as u64);
     let v = p.vector;
-    let mut bits = [0u32; 32];
+    let mut bits = [0u32; 8192];
     let n = vector(s, v, &mut bits, 0);
     let name = k.name;
     let epoch = p.epoch;

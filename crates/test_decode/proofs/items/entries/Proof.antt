@@ -1,9 +1,7 @@
--- From the place of a turn on, as many entries stand in the message as are left; the columns keep their lengths.
+-- From the place of a turn on, as many entries stand in the message as are left.
 use borrow.Author.Needs.{needs}
 use native.Mathlib.Omega.{arith}
-use mathlib.Core.Path.{_≡_, refl}
 use Prim.Native.Nat.{_-_, _≤_}
-use lib.ListN.{length}
 use Rattle.spec.specs.Layout.Parts.{entryF}
 use Rattle.wire_read.specs.Shown.{part}
 use Rattle.test_decode.specs.Held.{Row}
@@ -13,7 +11,7 @@ use Rattle.test_decode.proofs.items.entries.Tie as tie
 
 abbrev Inv-loop : tie.InvT-loop
 Inv-loop s words₀ small₀ column₀ n at₀ i₀ words small column at i =
-    (n ≤ 256) × (i ≤ n) × Row entryF s (part at (n - i)) × (length words ≡ length words₀) × (length small ≡ length small₀) × (length column ≡ length column₀)
+    (n ≤ 256) × (i ≤ n) × Row entryF s (part at (n - i))
 
 abbrev μ-loop : tie.MeasureT-loop
 μ-loop s words₀ small₀ column₀ n at₀ i₀ words small column at i = n - i
@@ -26,13 +24,13 @@ returns c = search needs
 
 loop-holds : tie.Need-loop-holds Inv-loop μ-loop
 loop-holds c =
-    let a = c .before .before .before .before .before .before .args in
-    (omega arith, omega arith, row-start entryF (a .s .now) (a .p .len) (a .p .at) (c .before .before .before .before .before .before .pre), refl, refl, refl)
+    let a = c .before .before .before .args in
+    (omega arith, omega arith, row-start entryF (a .s .now) (a .p .len) (a .p .at) (c .before .before .before .pre))
 
 entry-at-requires : tie.Need-entry-at-requires Inv-loop μ-loop
 entry-at-requires c κs =
     let l = c .before .loop in
-    let a = c .before .before .before .before .before .before .before .before .args in
+    let a = c .before .before .before .before .before .args in
     row-first entryF (a .s .now) (a .p .len) (l .at) (l .i) (omega arith) (l .inv .2)
 
 number-requires-2 : tie.Need-number-requires-2 Inv-loop μ-loop
@@ -47,7 +45,7 @@ mul-op c = search needs
 op-requires : tie.Need-op-requires Inv-loop μ-loop
 op-requires c κs =
     let l = c .before .before .before .before .before .loop in
-    let a = c .before .before .before .before .before .before .before .before .before .before .before .before .args in
+    let a = c .before .before .before .before .before .before .before .before .before .args in
     let r = c .before .before .before .entry-at in
     (entry-op (a .s .now) (a .p .len) (l .at) (l .i) (omega arith) (l .inv .2) (r .result) (r .ensures), omega arith)
 
@@ -62,25 +60,13 @@ loop-less c = search needs
 
 loop-again : tie.Need-loop-again Inv-loop μ-loop
 loop-again c =
-    let l = c .before .before .before .before .before .before .before .before .before .before .before .before .before .before .before .loop in
-    let a = c .before .before .before .before .before .before .before .before .before .before .before .before .before .before .before .before .before .before .before .before .before .before .args in
-    let r = c .before .before .before .before .before .before .before .before .before .before .before .before .before .entry-at in (
+    let l = c .before .before .before .before .before .before .before .before .before .loop in
+    let a = c .before .before .before .before .before .before .before .before .before .before .before .before .before .args in
+    let r = c .before .before .before .before .before .before .before .entry-at in (
       l .inv .0,
       omega arith,
       entry-after (a .s .now) (a .p .len) (l .at) (l .i) (omega arith) (l .inv .2) (r .result) (r .ensures),
-      search needs,
-      search needs,
-      search needs,
     )
-
-same-length : tie.Need-same-length Inv-loop μ-loop
-same-length c = search needs
-
-same-length-2 : tie.Need-same-length-2 Inv-loop μ-loop
-same-length-2 c = search needs
-
-same-length-3 : tie.Need-same-length-3 Inv-loop μ-loop
-same-length-3 c = search needs
 
 returns-2 : tie.Need-returns-2 Inv-loop μ-loop
 returns-2 c = search needs
@@ -103,7 +89,4 @@ entries-spec =
     add-i
     loop-less
     loop-again
-    same-length
-    same-length-2
-    same-length-3
     returns-2)

@@ -15,7 +15,7 @@ number-requires-2 : tie.Need-number-requires-2
 number-requires-2 c κs = search needs
 
 vector-requires : tie.Need-vector-requires
-vector-requires c κs = (subst (OpHeld _) (c .before .before .before .before .o .given .1) (c .before .before .before .before .before .before .before .before .pre .0), c .before .before .before .before .before .before .before .before .pre .1)
+vector-requires c κs = (subst (OpHeld _) (c .before .before .before .before .o .given .1) (c .before .before .before .before .before .before .before .pre .0), c .before .before .before .before .before .before .before .pre .1)
 
 enum-known-o-2 : tie.Need-enum-known-o-2
 enum-known-o-2 c = search needs
@@ -25,9 +25,6 @@ number-requires-3 c κs = search needs
 
 number-requires-4 : tie.Need-number-requires-4
 number-requires-4 c κs = search needs
-
-same-length : tie.Need-same-length
-same-length c = search needs
 
 returns : tie.Need-returns
 returns c = search needs
@@ -46,6 +43,5 @@ op-spec =
     enum-known-o-2
     number-requires-3
     number-requires-4
-    same-length
     returns
     returns-2)

@@ -1,9 +1,7 @@
--- From the place of a turn on, as many lists stand in the message as are left; the columns keep their lengths.
+-- From the place of a turn on, as many lists stand in the message as are left.
 use borrow.Author.Needs.{needs}
 use native.Mathlib.Omega.{arith}
-use mathlib.Core.Path.{_≡_, refl}
 use Prim.Native.Nat.{_-_, _≤_}
-use lib.ListN.{length}
 use Rattle.spec.specs.Layout.Format.{many}
 use Rattle.spec.specs.Layout.Parts.{u64}
 use Rattle.wire_read.specs.Shown.{part}
@@ -14,7 +12,7 @@ use Rattle.test_decode.proofs.items.placement.Tie as tie
 
 abbrev Inv-loop : tie.InvT-loop
 Inv-loop s counts₀ column₀ n at₀ i₀ counts column at i =
-    (n ≤ 16) × (i ≤ n) × Row (many 1 0 8 u64) s (part at (n - i)) × (length counts ≡ length counts₀) × (length column ≡ length column₀)
+    (n ≤ 16) × (i ≤ n) × Row (many 1 0 8 u64) s (part at (n - i))
 
 abbrev μ-loop : tie.MeasureT-loop
 μ-loop s counts₀ column₀ n at₀ i₀ counts column at i = n - i
@@ -27,13 +25,13 @@ returns c = search needs
 
 loop-holds : tie.Need-loop-holds Inv-loop μ-loop
 loop-holds c =
-    let a = c .before .before .before .before .before .args in
-    (omega arith, omega arith, row-start (many 1 0 8 u64) (a .s .now) (a .p .len) (a .p .at) (c .before .before .before .before .before .pre), refl, refl)
+    let a = c .before .before .before .args in
+    (omega arith, omega arith, row-start (many 1 0 8 u64) (a .s .now) (a .p .len) (a .p .at) (c .before .before .before .pre))
 
 nodes-at-requires : tie.Need-nodes-at-requires Inv-loop μ-loop
 nodes-at-requires c κs =
     let l = c .before .loop in
-    let a = c .before .before .before .before .before .before .before .args in
+    let a = c .before .before .before .before .before .args in
     row-first (many 1 0 8 u64) (a .s .now) (a .p .len) (l .at) (l .i) (omega arith) (l .inv .2)
 
 mul-nodes : tie.Need-mul-nodes Inv-loop μ-loop
@@ -42,28 +40,28 @@ mul-nodes c = search needs
 nodes-requires : tie.Need-nodes-requires Inv-loop μ-loop
 nodes-requires c κs =
     let l = c .before .before .before .loop in
-    let a = c .before .before .before .before .before .before .before .before .before .args in
+    let a = c .before .before .before .before .before .before .before .args in
     let r = c .before .nodes-at in
     (list-run (a .s .now) (a .p .len) (l .at) (l .i) (omega arith) (l .inv .2) (r .result) (r .ensures), omega arith)
 
 count-requires : tie.Need-count-requires Inv-loop μ-loop
 count-requires c κs = search needs
 
-put-u8-requires : tie.Need-put-u8-requires Inv-loop μ-loop
-put-u8-requires c κs = search needs
+element-write-counts : tie.Need-element-write-counts Inv-loop μ-loop
+element-write-counts c = search needs
 
 mul-at : tie.Need-mul-at Inv-loop μ-loop
 mul-at c =
-    let l = c .before .before .before .before .before .before .before .before .before .before .before .before .loop in
-    let a = c .before .before .before .before .before .before .before .before .before .before .before .before .before .before .before .before .before .before .args in
-    let r = c .before .before .before .before .before .before .before .before .before .before .nodes-at in
+    let l = c .before .before .before .before .before .before .loop in
+    let a = c .before .before .before .before .before .before .before .before .before .before .args in
+    let r = c .before .before .before .before .nodes-at in
     omega (arith, list-run (a .s .now) (a .p .len) (l .at) (l .i) (omega arith) (l .inv .2) (r .result) (r .ensures))
 
 add-at : tie.Need-add-at Inv-loop μ-loop
 add-at c =
-    let l = c .before .before .before .before .before .before .before .before .before .before .before .before .before .loop in
-    let a = c .before .before .before .before .before .before .before .before .before .before .before .before .before .before .before .before .before .before .before .args in
-    let r = c .before .before .before .before .before .before .before .before .before .before .before .nodes-at in
+    let l = c .before .before .before .before .before .before .before .loop in
+    let a = c .before .before .before .before .before .before .before .before .before .before .before .args in
+    let r = c .before .before .before .before .before .nodes-at in
     omega (arith, list-run (a .s .now) (a .p .len) (l .at) (l .i) (omega arith) (l .inv .2) (r .result) (r .ensures))
 
 add-i : tie.Need-add-i Inv-loop μ-loop
@@ -74,21 +72,13 @@ loop-less c = search needs
 
 loop-again : tie.Need-loop-again Inv-loop μ-loop
 loop-again c =
-    let l = c .before .before .before .before .before .before .before .before .before .before .before .before .before .loop in
-    let a = c .before .before .before .before .before .before .before .before .before .before .before .before .before .before .before .before .before .before .before .args in
-    let r = c .before .before .before .before .before .before .before .before .before .before .before .nodes-at in (
+    let l = c .before .before .before .before .before .before .before .loop in
+    let a = c .before .before .before .before .before .before .before .before .before .before .before .args in
+    let r = c .before .before .before .before .before .nodes-at in (
       l .inv .0,
       omega arith,
       list-after (a .s .now) (a .p .len) (l .at) (l .i) (omega arith) (l .inv .2) (r .result) (r .ensures),
-      search needs,
-      search needs,
     )
-
-same-length : tie.Need-same-length Inv-loop μ-loop
-same-length c = search needs
-
-same-length-2 : tie.Need-same-length-2 Inv-loop μ-loop
-same-length-2 c = search needs
 
 returns-2 : tie.Need-returns-2 Inv-loop μ-loop
 returns-2 c = search needs
@@ -106,12 +96,10 @@ placement-spec =
     mul-nodes
     nodes-requires
     count-requires
-    put-u8-requires
+    element-write-counts
     mul-at
     add-at
     add-i
     loop-less
     loop-again
-    same-length
-    same-length-2
     returns-2)

@@ -1,13 +1,12 @@
--- The pairs taken so far are no more than the table has, and the column keeps its length.
+-- The pairs taken so far are no more than the table has.
 use borrow.Author.Needs.{needs}
 use mathlib.Core.Path.{_≡_}
 use Prim.Native.Nat.{_-_, _≤_}
-use lib.ListN.{length}
 use Rattle.test_decode.proofs.items.table.Statement.{statement}
 use Rattle.test_decode.proofs.items.table.Tie as tie
 
 abbrev Inv-loop : tie.InvT-loop
-Inv-loop s t column₀ n i₀ column i = (n ≡ t .len) × (n ≤ 1024) × (i ≤ n) × (length column ≡ length column₀)
+Inv-loop s t column₀ n i₀ column i = (n ≡ t .len) × (n ≤ 1024) × (i ≤ n)
 
 abbrev μ-loop : tie.MeasureT-loop
 μ-loop s t column₀ n i₀ column i = n - i
@@ -30,14 +29,20 @@ number-requires-2 c κs = search needs
 number-requires-3 : tie.Need-number-requires-3 Inv-loop μ-loop
 number-requires-3 c κs = search needs
 
-put-u64-requires : tie.Need-put-u64-requires Inv-loop μ-loop
-put-u64-requires c κs = search needs
+mul-column : tie.Need-mul-column Inv-loop μ-loop
+mul-column c = search needs
 
-add-put-u64 : tie.Need-add-put-u64 Inv-loop μ-loop
-add-put-u64 c = search needs
+element-write-column : tie.Need-element-write-column Inv-loop μ-loop
+element-write-column c = search needs
 
-put-u64-requires-2 : tie.Need-put-u64-requires-2 Inv-loop μ-loop
-put-u64-requires-2 c κs = search needs
+add-column : tie.Need-add-column Inv-loop μ-loop
+add-column c = search needs
+
+mul-column-2 : tie.Need-mul-column-2 Inv-loop μ-loop
+mul-column-2 c = search needs
+
+element-write-column-2 : tie.Need-element-write-column-2 Inv-loop μ-loop
+element-write-column-2 c = search needs
 
 add-i : tie.Need-add-i Inv-loop μ-loop
 add-i c = search needs
@@ -47,9 +52,6 @@ loop-less c = search needs
 
 loop-again : tie.Need-loop-again Inv-loop μ-loop
 loop-again c = search needs
-
-same-length : tie.Need-same-length Inv-loop μ-loop
-same-length c = search needs
 
 returns-2 : tie.Need-returns-2 Inv-loop μ-loop
 returns-2 c = search needs
@@ -66,11 +68,12 @@ table-spec =
     end-at-requires
     number-requires-2
     number-requires-3
-    put-u64-requires
-    add-put-u64
-    put-u64-requires-2
+    mul-column
+    element-write-column
+    add-column
+    mul-column-2
+    element-write-column-2
     add-i
     loop-less
     loop-again
-    same-length
     returns-2)

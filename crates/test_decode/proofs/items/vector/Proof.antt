@@ -1,13 +1,12 @@
--- The components taken so far are no more than the vector has, and the column keeps its length.
+-- The components taken so far are no more than the vector has.
 use borrow.Author.Needs.{needs}
 use mathlib.Core.Path.{_≡_}
 use Prim.Native.Nat.{_-_, _≤_}
-use lib.ListN.{length}
 use Rattle.test_decode.proofs.items.vector.Statement.{statement}
 use Rattle.test_decode.proofs.items.vector.Tie as tie
 
 abbrev Inv-loop : tie.InvT-loop
-Inv-loop s v column₀ from n i₀ column i = (n ≡ v .len) × (n ≤ 32) × (i ≤ n) × (length column ≡ length column₀)
+Inv-loop s v column₀ from n i₀ column i = (n ≡ v .len) × (n ≤ 32) × (i ≤ n)
 
 abbrev μ-loop : tie.MeasureT-loop
 μ-loop s v column₀ from n i₀ column i = n - i
@@ -27,11 +26,14 @@ component-requires c κs = search needs
 bits-requires : tie.Need-bits-requires Inv-loop μ-loop
 bits-requires c κs = search needs
 
-add-put-u32 : tie.Need-add-put-u32 Inv-loop μ-loop
-add-put-u32 c = search needs
+add-column : tie.Need-add-column Inv-loop μ-loop
+add-column c = search needs
 
-put-u32-requires : tie.Need-put-u32-requires Inv-loop μ-loop
-put-u32-requires c κs = search needs
+mul-column : tie.Need-mul-column Inv-loop μ-loop
+mul-column c = search needs
+
+element-write-column : tie.Need-element-write-column Inv-loop μ-loop
+element-write-column c = search needs
 
 add-i : tie.Need-add-i Inv-loop μ-loop
 add-i c = search needs
@@ -41,9 +43,6 @@ loop-less c = search needs
 
 loop-again : tie.Need-loop-again Inv-loop μ-loop
 loop-again c = search needs
-
-same-length : tie.Need-same-length Inv-loop μ-loop
-same-length c = search needs
 
 returns-2 : tie.Need-returns-2 Inv-loop μ-loop
 returns-2 c = search needs
@@ -59,10 +58,10 @@ vector-spec =
     loop-holds
     component-requires
     bits-requires
-    add-put-u32
-    put-u32-requires
+    add-column
+    mul-column
+    element-write-column
     add-i
     loop-less
     loop-again
-    same-length
     returns-2)

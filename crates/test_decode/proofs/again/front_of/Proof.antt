@@ -3,8 +3,8 @@ use borrow.Author.Needs.{needs}
 use native.Mathlib.Omega.{arith}
 use mathlib.Core.Path.{sym}
 use lib.Seq.{length-take-le}
-use Rattle.test_decode.proofs.again.front.Statement.{statement}
-use Rattle.test_decode.proofs.again.front.Tie as tie
+use Rattle.test_decode.proofs.again.front_of.Statement.{statement}
+use Rattle.test_decode.proofs.again.front_of.Tie as tie
 
 returns : tie.Need-returns
 returns c = search needs
@@ -15,5 +15,5 @@ slice-aggregate-result c = sym (length-take-le (c .before .before .args .n) (c .
 returns-2 : tie.Need-returns-2
 returns-2 c = search needs
 
-pub front-spec : {M : Type 1} → statement M
-front-spec = tie.close (tie.spec returns slice-aggregate-result returns-2)
+pub front-of-spec : {M : Type 1} → statement M
+front-of-spec = tie.close (tie.spec returns slice-aggregate-result returns-2)
