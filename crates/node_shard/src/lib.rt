@@ -1,6 +1,6 @@
 // One held shard of a data node (paper 01, 'The node'; node.rs), as the type in which contracts speak of it, and functions on its rows. What
-// the calls do to a row is in crates of its own: `acks`, `waits`, `outcomes`, `node_show_shard`, and those of `serve`, `writes` and `backup`. What a
-// held shard is read as stands in specs/View.antt; what a call does, in `spec`'s Node.
+// the calls do to a row is in crates of its own: `node_acks`, `node_waits`, `node_outcomes`, `node_show_shard`, and `node_admit`,
+// `node_log_write` and `node_log_backup`. What a held shard is read as stands in specs/View.antt; what a call does, in `spec`'s Node.
 use spec::DataNodeId;
 use spec::Epoch;
 use spec::Metric;

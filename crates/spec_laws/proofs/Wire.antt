@@ -1,3 +1,4 @@
+-- Laws of `Layout`, the chapter of bytes on the wire; the toolchain has a module of that name.
 pub mod Tests
 pub mod Bytes
 pub mod Formats

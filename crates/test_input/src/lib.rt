@@ -8,7 +8,7 @@ pub mod input;
 pub mod start;
 mod step;
 
-// No request is longer: a Create with 16 lists of 8 nodes (proved in crate spec, proofs/Map/Stream.antt). Where as many
+// No request is longer: a Create with 16 lists of 8 nodes (proved in crate spec_laws, proofs/Map/Stream.antt). Where as many
 // bytes are left and none was found, the next one does not decode.
 pub const LONGEST: usize = 1113;
 

@@ -1,4 +1,4 @@
--- `spec_run` meets its contract. Assumes nothing.
+-- `run` meets its contract. Assumes nothing.
 use borrow.Author.Needs.{needs}
 use native.Mathlib.Omega.{arith}
 use mathlib.Core.Path.{_≡_, refl, sym, _∙_, ap}

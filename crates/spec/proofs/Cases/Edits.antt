@@ -1,5 +1,5 @@
 -- Paper 02, 2.10: small cases of two edits, computed by the checker from the definitions alone. Assumes nothing; the laws are in
--- Edits.antt.
+-- crate spec_laws, Log/Edits.antt.
 use Prim.Native.Nat.{ℕ, _+_}
 use mathlib.Core.Path.{_≡_, refl}
 use mathlib.Core.List.{List, [], _∷_, _++_}

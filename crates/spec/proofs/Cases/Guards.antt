@@ -1,5 +1,5 @@
 -- What stands between a write and its loss (docs/LOST-WRITES.md), as small cases that the checker computes; the laws are in
--- Node/Guards.antt and Map/Shards.antt. Assumes nothing.
+-- crate spec_laws, Node/Guards.antt and Map/Shards.antt. Assumes nothing.
 use Prim.Native.Nat.{ℕ}
 use mathlib.Core.Path.{_≡_, refl}
 use mathlib.Core.Bool.{Bool, true, false}

@@ -1,7 +1,7 @@
 -- Paper 01, 'Bytes on the wire': a small language of formats. A format says which values a stretch of bytes can
 -- carry (`Value`), how they are written (`encode`), and what stands at a position of a byte list: whether a value
 -- does (`fits`), which (`value`), and where it ends (`next`). `Good` is what may be written, `sound` a computed
--- test that the format's own numbers leave no doubt. The laws of all formats are in proofs/LayoutLaws/Formats.antt,
+-- test that the format's own numbers leave no doubt. The laws of all formats are in crate spec_laws, Wire/Formats.antt,
 -- the formats of the messages in Message.antt. Definitions only.
 use Prim.Native.Nat.{ℕ, zero, suc, _+_, _-_, _*_, _/_, _%_, _^_, _≤_, _<_}
 use mathlib.Core.Bool.{Bool, true, false, cond, not}

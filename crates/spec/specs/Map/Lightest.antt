@@ -1,5 +1,5 @@
 -- Paper 01, 'Place' (state.rs, place and replacement): what their answers have to be, said without how they are found. That Place's are
--- so is proved in proofs/Map/Placements.antt and Replacements.antt. Definitions only.
+-- so is proved in crate spec_laws, Map/Placements.antt and Replacements.antt. Definitions only.
 use Prim.Native.Nat.{ℕ, _+_, _<_, _≤_}
 use mathlib.Core.Path.{_≡_}
 use mathlib.Core.Bool.{Bool, true, cond, not}

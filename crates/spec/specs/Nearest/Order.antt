@@ -1,6 +1,6 @@
 -- Paper 01, 'Nearest objects': the domain of components, and totalOrder of the patterns of binary32 by IEEE 754's classes.
--- That every pattern is in exactly one class, and that the order is strict and total, are laws (proofs/Nearest/Classes.antt); so is that the order is
--- the standard's text for values that are no NaN (proofs/Nearest/Total.antt).
+-- That every pattern is in exactly one class, and that the order is strict and total, are laws (crate spec_laws, Nearest/Classes.antt); so is that the order is
+-- the standard's text for values that are no NaN (Nearest/Total.antt).
 use Prim.Native.Nat.{ℕ, zero, suc, _+_, _-_, _*_, _/_, _%_, _^_}
 use mathlib.Core.Bool.{Bool, true, false, not, _&&_, _||_, cond}
 use lib.Dec.{leb, ltb, eqb}

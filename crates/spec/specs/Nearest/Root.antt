@@ -1,7 +1,7 @@
 -- Paper 01, 'Nearest objects': "the root is the f32 nearest the exact root".
 -- IEEE 754's squareRoot, rounded as lib.Ieee rounds its other operations: the exact value is a whole number of the
 -- format's smallest units, of which the leading digits are kept. That the result is nearest among all floats, and that
--- no tie can arise, is a law (`NearestRoot`, proofs/Nearest/Exact.antt).
+-- no tie can arise, is a law (`NearestRoot`; crate spec_laws, Nearest/Exact.antt).
 use Prim.Native.Nat.{ℕ, zero, suc, _+_, _-_, _*_, _/_, _^_, _<_, compare}
 use mathlib.Core.Bool.{Bool, true, false, cond}
 use lib.Dec.{T, leb}

@@ -1,5 +1,5 @@
 -- Paper 02, request 2.3: a replica's own epoch is that of its beginning, of its last alignment or of its own time as primary. What each call
--- may make of it; that no call does more is in proofs/Node/OwnEpoch.antt. Definitions only.
+-- may make of it; that no call does more is in crate spec_laws, Node/OwnEpoch.antt. Definitions only.
 use Prim.Native.Nat.{ℕ}
 use mathlib.Core.Path.{_≡_}
 use mathlib.Core.Bool.{true}

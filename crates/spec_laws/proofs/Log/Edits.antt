@@ -1,6 +1,6 @@
 -- Paper 02, 2.10: the order of two edits. An edit is an operation of a log. Of different ids either may come first, of one id the
--- later alone counts, and the logs differ all the same. Assumes nothing; the computed cases are in EditCases.antt, the
--- laws met by them in EditsMet.antt.
+-- later alone counts, and the logs differ all the same. Assumes nothing; the computed cases are in crate spec, Cases/Edits.antt,
+-- the laws met by them in EditsMet.antt.
 use Prim.Native.Nat.{ℕ, _+_}
 use mathlib.Core.Path.{_≡_, refl, sym, ap, _∙_}
 use mathlib.Core.Bool.{true, false, cond}

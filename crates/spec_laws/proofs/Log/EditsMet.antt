@@ -1,4 +1,4 @@
--- Paper 02, 2.10: the laws of Edits.antt met by the logs of EditCases.antt. Assumes nothing.
+-- Paper 02, 2.10: the laws of Edits.antt met by the logs of crate spec, Cases/Edits.antt. Assumes nothing.
 use Prim.Native.Nat.{ℕ}
 use mathlib.Core.Path.{_≡_, refl, ap}
 use mathlib.Core.List.{List, [], _∷_, _++_}

@@ -1,4 +1,4 @@
--- Every run that keeps the paper's rules to the letter is one that Rules.antt allows, and so demand 3 and request 2.5 hold of it. Assumes
+-- Every run that keeps the paper's rules to the letter is one that Rules.antt of spec_run allows, and so demand 3 and request 2.5 hold of it. Assumes
 -- nothing.
 use Prim.Native.Nat.{ℕ, _≤_}
 use mathlib.Core.Path.{_≡_, refl, sym, ap, subst, _∙_}

@@ -1,4 +1,4 @@
--- When a state of a run (specs/State.antt) is one of the protocol (Protocol/State.antt): part by part, each over what it reads. Bytes under
+-- When a state of a run (State.antt of spec_run) is one of the protocol (Protocol/State.antt): part by part, each over what it reads. Bytes under
 -- way are those of the protocol's requests and answers; clocks, leases, versions, sessions and waiting times are not seen. Definitions
 -- only; that every event keeps it is in the files beside this one.
 use Prim.Native.Nat.{ℕ, _≤_}
