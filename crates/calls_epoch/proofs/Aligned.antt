@@ -161,7 +161,7 @@ module _ (s : List ℕ) (x : HeldRow) (room : beginOf x + 174080 ≤ length s) (
       above : (epoch ≡ own → ⊥) → own < epoch
       above d = omega (arith, d)
 
-      pub whole : last ≤ k → Aligned own epoch end table store store (D.HeldRow (record { 0 = last }))
+      pub whole : last ≤ k → Aligned own epoch end table store store (D.Kept (record { 0 = last }))
       whole h =
           let z = before-sized s x room well in
           let w = before-well s x room well in
@@ -171,7 +171,7 @@ module _ (s : List ℕ) (x : HeldRow) (room : beginOf x + 174080 ≤ length s) (
           let d = eqb-false epoch own e in
           aligned-whole store z w own epoch end table (above d) k (g .other d) (record { 0 = last }) refl h)
 
-      pub cut : k < last → Aligned own epoch end table store (lent (lentStore .columns) (cutLentStore k .keys) (cutLentStore k .places) k (length (rows k))) (D.HeldRow (record { 0 = k }))
+      pub cut : k < last → Aligned own epoch end table store (lent (lentStore .columns) (cutLentStore k .keys) (cutLentStore k .places) k (length (rows k))) (D.Kept (record { 0 = k }))
       cut h =
           by-case (eqb epoch own)
           (λ e. let y = g .same (eqb-true epoch own e) in absurd (omega arith))

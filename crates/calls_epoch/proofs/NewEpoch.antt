@@ -163,7 +163,7 @@ module _ (h s t m : List ℕ) (k : Key) (bytes : Bytes s) (p : NewEpochPart) (q 
     replied e call t′ r d =
         down (record { answer = P.StaleEpoch e; node = n }) refl call (buffers h s t′) r
         (record {
-          ends = ending.kept b (headerWritten h n) (storesPut s n n lentStore (placeOf n k)) (P.StaleEpoch e) (O.HeldRow (R.StaleEpoch e)) refl (R.StaleEpoch e) t′ r d refl;
+          ends = ending.kept b (headerWritten h n) (storesPut s n n lentStore (placeOf n k)) (P.StaleEpoch e) (O.Kept (R.StaleEpoch e)) refl (R.StaleEpoch e) t′ r d refl;
           puts = λ z i. not-both true refl z;
         })
 
