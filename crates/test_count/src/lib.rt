@@ -10,6 +10,9 @@ use map_tables::Placement;
 use map_tables::Spec;
 use spec::DataNodeId;
 
+pub mod answers;
+pub mod records;
+
 // How many ended how.
 pub struct Ended {
     pub accepted: u64,

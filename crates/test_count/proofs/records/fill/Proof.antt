@@ -3,8 +3,8 @@ use borrow.Author.Needs.{needs}
 use native.Mathlib.Omega.{arith}
 use mathlib.Core.Path.{sym}
 use lib.Seq.{length-take-le}
-use Rattle.test_losses.proofs.fill.Statement.{statement}
-use Rattle.test_losses.proofs.fill.Tie as tie
+use Rattle.test_count.proofs.records.fill.Statement.{statement}
+use Rattle.test_count.proofs.records.fill.Tie as tie
 
 returns : tie.Need-returns
 returns c = search needs

@@ -5,8 +5,8 @@ use mathlib.Core.Path.{_≡_, refl, sym, _∙_, ap}
 use mathlib.Core.List.{List, [], _∷_, _++_}
 use Prim.Native.Nat.{ℕ, _+_, _-_, _*_, _≤_, _<_}
 use lib.ListN.{length, getD, take, drop, set}
-use Rattle.test_losses.proofs.answers.lists.Statement.{statement}
-use Rattle.test_losses.proofs.answers.lists.Tie as tie
+use Rattle.test_count.proofs.answers.lists.Statement.{statement}
+use Rattle.test_count.proofs.answers.lists.Tie as tie
 
 abbrev Inv-loop : tie.InvT-loop
 Inv-loop list from shards replication at₀ left₀ t8 t9 at left = Unit {0}

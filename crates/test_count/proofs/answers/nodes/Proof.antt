@@ -1,7 +1,7 @@
 -- Each turn leaves fewer nodes to print.
 use borrow.Author.Needs.{needs}
-use Rattle.test_place.proofs.answers.nodes.Statement.{statement}
-use Rattle.test_place.proofs.answers.nodes.Tie as tie
+use Rattle.test_count.proofs.answers.nodes.Statement.{statement}
+use Rattle.test_count.proofs.answers.nodes.Tie as tie
 
 abbrev Inv-loop : tie.InvT-loop
 Inv-loop lists from n at₀ left₀ at left = Unit {0}
