@@ -6,15 +6,13 @@ use calls_client_out::count::count_call;
 use map_names::key_of;
 use named::search_named;
 use node_search::query::read_query;
+use node_shard::LAST_TIME;
 use wire_read::Message;
 use wire_read::decode;
 
 mod held;
 mod hits;
 mod named;
-
-// The largest reading of a clock.
-const LAST_TIME: u64 = 4611686018427387904;
 
 // The bytes of a count of refused calls.
 const COUNT: usize = 4;

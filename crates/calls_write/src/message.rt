@@ -4,6 +4,7 @@ ghost use Rattle.calls_client.specs.Written.{buffers, WritesBytes};
 use crate::held::write_at;
 use log_arrive::domain::op_in_domain;
 use map_names::key_of;
+use node_shard::LAST_TIME;
 use wire_read::Message;
 use wire_read::decode;
 
@@ -20,7 +21,7 @@ pub fn write_message(
     ensures { λ r. ⌜ WritesBytes (buffers (now (header .entry)) (now (stores .entry)) (now (answer .entry))) (now (refused .entry)) clock least
         (now (message .entry)) (ended r (buffers (now (header .exit)) (now (stores .exit)) (now (answer .exit)))) ⌝ }
 {
-    if 4611686018427387904 < clock {
+    if LAST_TIME < clock {
         return 21;
     }
     let Message::Write(p) = decode(message) else {

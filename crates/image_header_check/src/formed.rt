@@ -11,6 +11,7 @@ ghost use Rattle.image_header.specs.Image.{nodeAt};
 ghost use Rattle.image_header_check.specs.Rows.{Counts};
 use image_parts::keys::key_at;
 use map_tables::names::key_below;
+use node_shard::LAST_TIME;
 use node_shard::rows::both;
 
 // The peers from `at` on.
@@ -20,7 +21,7 @@ fn acks_fit(s: &[u8], at: usize, count: usize) -> bool
 {
     let mut i: usize = 0;
     while i < count {
-        if 4611686018427387904 < num::get8(s, at + 32 * i + 8) {
+        if LAST_TIME < num::get8(s, at + 32 * i + 8) {
             return false;
         }
         i += 1;

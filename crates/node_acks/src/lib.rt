@@ -4,6 +4,7 @@ ghost use mathlib.Core.Path.{_≡_};
 ghost use mathlib.Core.Bool.{false};
 ghost use Rattle.spec.specs.Node.Ack.{badReply, ackedThrough, joins, ackRow};
 ghost use Rattle.node_shard.specs.Acks.{replyOf};
+use node_shard::LAST_TIME;
 use node_shard::Reply;
 use node_shard::rows::both;
 use node_shard::rows::either;
@@ -15,10 +16,10 @@ pub fn bad(r: Reply) -> bool
     ensures { λ b. ⌜ b ≡ badReply (replyOf r) ⌝ }
 {
     match r {
-        Reply::Stored(t) => 4611686018427387904 < t,
-        Reply::Gap(n) => either(n == 0, 4611686018427387904 < n),
+        Reply::Stored(t) => LAST_TIME < t,
+        Reply::Gap(n) => either(n == 0, LAST_TIME < n),
         Reply::Stale(_) => false,
-        Reply::Adopted(t) => 4611686018427387904 < t,
+        Reply::Adopted(t) => LAST_TIME < t,
     }
 }
 

@@ -10,6 +10,9 @@ use spec::Role;
 
 pub mod rows;
 
+// The largest reading of a clock, and the largest offset that a peer may say: 2^62.
+pub const LAST_TIME: u64 = 4611686018427387904;
+
 // One held shard without its key and its log. `last` is the log's length, `holders` and `count` say how many replicas and rows are in use;
 // what lies past them is free.
 pub struct Held {
