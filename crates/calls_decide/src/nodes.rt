@@ -5,6 +5,7 @@ ghost use Rattle.spec.specs.Map.Create.{nodeAt};
 ghost use Rattle.map_tables.specs.View.{answerOf, viewNodes};
 ghost use Rattle.image_map.specs.Image.{nodesAt};
 ghost use Rattle.image_map_put.specs.Few.{Few};
+use image_map_check::layout::INCARNATION;
 use image_map_check::layout::NODE;
 use image_map_check::layout::NODES;
 use image_map_check::layout::NODES_USED;
@@ -17,9 +18,6 @@ use map_tables::answers::no_key;
 use map_tables::answers::refused;
 use map_tables::answers::rejected;
 use spec::DataNodeId;
-
-// Where a node's row has its incarnation.
-const INCARNATION: usize = 8;
 
 // 7, 23.
 pub fn register_answer(map: &[u8], node: DataNodeId, incarnation: u64) -> Verdict

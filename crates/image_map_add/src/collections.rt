@@ -11,14 +11,13 @@ ghost use Rattle.image_map_put.specs.Few.{Few};
 ghost use Rattle.image_map_put.specs.Rows.{readAs};
 ghost use Rattle.image_map_edit.specs.Becomes.{CollectionsBecome};
 use image_map_check::layout::COLLECTION;
+use image_map_check::layout::COLLECTION_WORDS;
 use image_map_check::layout::COLLECTIONS;
 use image_map_check::layout::COLLECTIONS_USED;
 use image_map_check::room::collection_room;
 use image_map_row::collections::put_collection;
 use image_move::move_up;
 use map_tables::CollectionRow;
-
-const COLLECTION_WORDS: usize = 7;
 
 // Before those of the names above it.
 pub fn collection_put(out: &mut [u8], row: CollectionRow)

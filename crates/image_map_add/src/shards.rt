@@ -16,6 +16,7 @@ ghost use Rattle.image_map_put.specs.Few.{Few};
 ghost use Rattle.image_map_put.specs.Rows.{readAs};
 ghost use Rattle.image_map_edit.specs.Becomes.{ShardsBecome};
 use image_map_check::layout::SHARD;
+use image_map_check::layout::SHARD_WORDS;
 use image_map_check::layout::SHARDS;
 use image_map_check::layout::SHARDS_USED;
 use image_map_check::room::shard_room;
@@ -25,8 +26,6 @@ use image_parts::keys::key_at;
 use map_tables::ShardKey;
 use map_tables::ShardRow;
 use map_tables::names::key_below;
-
-const SHARD_WORDS: usize = 34;
 
 // Whether the place is in use, and not by a later key.
 fn is_level(s: &[u8], count: usize, place: usize, key: ShardKey) -> bool

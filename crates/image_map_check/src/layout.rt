@@ -6,13 +6,23 @@ pub const NODES: usize = 40;
 
 pub const NODE: usize = 96;
 
+// Where a node's row has its incarnation, and whether it is alive.
+pub const INCARNATION: usize = 8;
+
+pub const ALIVE: usize = 16;
+
 pub const COLLECTIONS: usize = 3112;
 
 pub const COLLECTION: usize = 56;
 
+// The same in words of 8 bytes.
+pub const COLLECTION_WORDS: usize = 7;
+
 pub const SHARDS: usize = 4008;
 
 pub const SHARD: usize = 272;
+
+pub const SHARD_WORDS: usize = 34;
 
 pub const SESSIONS: usize = 21416;
 

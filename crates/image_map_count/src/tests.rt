@@ -9,6 +9,7 @@ ghost use Rattle.image_map_check.specs.Places.{NodesCount};
 ghost use Rattle.spec_count.specs.Closed.{aliveAmong, roomFor};
 ghost use Rattle.image_map_count.specs.Read.{viewIds, Formed};
 use crate::IdSet;
+use image_map_check::layout::ALIVE;
 use image_map_check::layout::COLLECTIONS_USED;
 use image_map_check::layout::NODE;
 use image_map_check::layout::NODES;
@@ -20,9 +21,6 @@ use image_map_check::place::shard_place;
 use image_parts::codes::flag_of;
 use map_tables::Name;
 use map_tables::ShardKey;
-
-// Where the row of a node says whether it is alive.
-const ALIVE: usize = 16;
 
 // 2: the name is taken.
 pub fn is_taken(map: &[u8], name: Name) -> bool

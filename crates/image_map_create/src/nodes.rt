@@ -3,17 +3,14 @@ ghost use mathlib.Core.Path.{_≡_};
 ghost use Rattle.spec.specs.Map.Create.{nodeAt, isAlive, incarnationOf};
 ghost use Rattle.image_map_put.specs.Few.{Few};
 ghost use Rattle.image_map_put.specs.Rows.{readAs};
+use image_map_check::layout::ALIVE;
+use image_map_check::layout::INCARNATION;
 use image_map_check::layout::NODE;
 use image_map_check::layout::NODES;
 use image_map_check::layout::NODES_USED;
 use image_map_check::place::node_place;
 use image_parts::codes::flag_of;
 use spec::DataNodeId;
-
-// Where a node's row has its incarnation, and whether it is alive.
-const INCARNATION: usize = 8;
-
-const ALIVE: usize = 16;
 
 pub fn is_alive(map: &[u8], node: DataNodeId) -> bool
     requires { ⌜ Few (now map) ⌝ }

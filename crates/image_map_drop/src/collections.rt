@@ -8,12 +8,10 @@ ghost use Rattle.image_map_put.specs.Few.{Few};
 ghost use Rattle.image_map_put.specs.Rows.{readAs};
 ghost use Rattle.image_map_edit.specs.Becomes.{CollectionsBecome};
 use crate::rows::rows_without;
+use image_map_check::layout::COLLECTION_WORDS;
 use image_map_check::layout::COLLECTIONS;
 use image_map_check::layout::COLLECTIONS_USED;
 use map_tables::Name;
-
-// How many words of 8 bytes a row has.
-const COLLECTION_WORDS: usize = 7;
 
 // The collections but the one of that name.
 pub fn collections_without(out: &mut [u8], name: Name)

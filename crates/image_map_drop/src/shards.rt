@@ -8,12 +8,10 @@ ghost use Rattle.image_map_put.specs.Few.{Few};
 ghost use Rattle.image_map_put.specs.Rows.{readAs};
 ghost use Rattle.image_map_edit.specs.Becomes.{ShardsBecome};
 use crate::rows::rows_without;
+use image_map_check::layout::SHARD_WORDS;
 use image_map_check::layout::SHARDS;
 use image_map_check::layout::SHARDS_USED;
 use map_tables::Name;
-
-// How many words of 8 bytes a row has.
-const SHARD_WORDS: usize = 34;
 
 // The shards but those of that collection: the key of a row begins with the collection's name.
 pub fn shards_without(out: &mut [u8], name: Name)

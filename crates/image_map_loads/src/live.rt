@@ -5,15 +5,13 @@ ghost use lib.ListN.{length};
 ghost use Rattle.image_map_row.specs.Rows.{nodeAt};
 ghost use Rattle.image_map_loads.specs.Loads.{Used, Live};
 use crate::replicas::replicas_of;
+use image_map_check::layout::ALIVE;
 use image_map_check::layout::NODE;
 use image_map_check::layout::NODES;
 use image_map_check::layout::NODES_USED;
 use image_map_check::layout::SHARDS_USED;
 use image_parts::codes::flag_of;
 use map_place::Loads;
-
-// Where the row of a node says whether it is alive.
-const ALIVE: usize = 16;
 
 pub fn is_alive(s: &[u8], at: usize) -> bool
     requires { ⌜ at + 96 ≤ length (now s) ⌝ }

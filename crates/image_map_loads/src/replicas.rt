@@ -16,7 +16,7 @@ pub const HELD: usize = 64;
 
 pub const REPLICAS: usize = 80;
 
-const REPLICA: usize = 16;
+pub const REPLICA: usize = 16;
 
 // Of the replicas from `at` on. A node that is listed twice counts twice.
 pub fn replicas_on(s: &[u8], at: usize, count: usize, node: u64) -> u64

@@ -10,9 +10,7 @@ ghost use Rattle.image_parts.specs.Parts.{replicasAt};
 ghost use Rattle.image_map.specs.Image.{nodesAt};
 ghost use Rattle.image_map_check.specs.Places.{NodesCount};
 use image_map_check::place::node_place;
-
-// How long a record is.
-const REPLICA: usize = 16;
+use image_map_loads::replicas::REPLICA;
 
 fn is_known(s: &[u8], nodes: usize, node: u64) -> bool
     requires { ⌜ NodesCount (now s) nodes ⌝ }

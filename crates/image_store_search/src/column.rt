@@ -3,6 +3,9 @@
 
 use crate::four::elements_four;
 use crate::four::float_at;
+use image_store_check::columns::FLOATS;
+use image_store_check::columns::LENGTHS;
+use image_store_check::columns::PLACES;
 use spec::Metric;
 ghost use mathlib.Core.Path.{_≡_};
 ghost use mathlib.Core.Bool.{true};
@@ -12,13 +15,6 @@ ghost use Rattle.float_distance.specs.Halves.{elementOf};
 ghost use Rattle.image_store.specs.Image.{words};
 ghost use Rattle.image_store_search.specs.Four.{Patterns, vectorAt};
 ghost use Rattle.image_store_search.specs.Column.{Named, entryOf, startOf, lengthOf, vectorIn, FourLong, Filled};
-
-// Where a store's lengths, floats and offsets begin.
-const LENGTHS: usize = 25600;
-
-const FLOATS: usize = 26624;
-
-const PLACES: usize = 165888;
 
 fn wide(x: u8) -> usize
     ensures { λ r. ⌜ r ≡ x ⌝ }

@@ -2,6 +2,7 @@
 
 use crate::column::fill;
 use crate::column::read_words;
+use image_store_check::columns::KEYS;
 use log_select::select::Hits;
 use log_select::select::choose;
 use spec::Metric;
@@ -12,9 +13,6 @@ ghost use Rattle.spec.specs.Nearest.Distance.{Bounded};
 ghost use Rattle.image_store.specs.Image.{wellFormedImage};
 ghost use Rattle.image_store_check.specs.Test.{Stands};
 ghost use Rattle.image_store_search.specs.Nearest.{NearestIn};
-
-// Where a store's ids of rows begin.
-const KEYS: usize = 157696;
 
 // The first k of the stored vectors, in order, of a store that passed its test (24).
 pub fn nearest(
