@@ -15,8 +15,8 @@ use Rattle.log_store.specs.Align.{paired, tableOf}
 use Rattle.log_store.specs.Store.{Store, storeLog}
 use Rattle.log_calls.specs.Fits.{lentFits}
 use Rattle.node_log_reads.specs.Ends.{endsLent, leftIn, epochOf, endOf, EndsAnswered}
-use Rattle.node_log_reads.specs.declared.ends.Told.{Told}
-use Rattle.node_log_reads.specs.declared.ends.Told.the-variants.{Pairs, Refused}
+use Rattle.node_log_reads.specs.declared.ends.EndsAnswer.{EndsAnswer}
+use Rattle.node_log_reads.specs.declared.ends.EndsAnswer.the-variants.{Pairs, Refused}
 
 -- ---- a column copied: one number more
 pub copied-on : (from out : List ℕ) (i : ℕ) → i < length from → i < length out

@@ -9,7 +9,7 @@ ghost use Rattle.node_log_reads.specs.Ends.{EndsAnswered};
 use log_calls::fits::lent_fits;
 
 // How many pairs the table has, or the number of the refusal.
-pub enum Told {
+pub enum EndsAnswer {
     Pairs(usize),
     Refused(u8),
 }
@@ -41,7 +41,7 @@ pub fn epoch_ends(
     stored: usize,
     froms: &mut [u64],
     ends: &mut [u64],
-) -> Told
+) -> EndsAnswer
     ensures { λ r. ⌜ EndsAnswered (lent (columns (now (epochs .entry)) (now (offsets .entry)) (now (ids .entry)) (now (codes .entry)) (now (lengths .entry)) (now (floats .entry)))
         (now (keys .entry)) (now (places .entry)) count stored)
         (now (froms .entry)) (now (froms .exit)) (now (ends .entry)) (now (ends .exit)) r ⌝ }
@@ -58,18 +58,18 @@ pub fn epoch_ends(
         count,
         stored,
     ) {
-        return Told::Refused(24);
+        return EndsAnswer::Refused(24);
     }
     let mut each = [0u64; 1024];
     let mut last = [0u64; 1024];
     let n = log_store::align::epoch_ends(epochs, offsets, count, &mut each, &mut last);
     if froms.len() < n {
-        return Told::Refused(23);
+        return EndsAnswer::Refused(23);
     }
     if ends.len() < n {
-        return Told::Refused(23);
+        return EndsAnswer::Refused(23);
     }
     copy_first(froms, &each, n);
     copy_first(ends, &last, n);
-    Told::Pairs(n)
+    EndsAnswer::Pairs(n)
 }

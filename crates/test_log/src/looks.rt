@@ -11,7 +11,7 @@ use crate::shown::vector;
 use crate::shown::vectors;
 use log_calls::searches::search;
 use log_search::answer::Found;
-use node_log_reads::ends::Told;
+use node_log_reads::ends::EndsAnswer;
 use node_log_reads::ends::epoch_ends;
 use node_log_reads::vectors::Count;
 use node_log_reads::vectors::Emptiness;
@@ -153,8 +153,8 @@ fn ends(
         &mut last,
     );
     match told {
-        Told::Pairs(n) => pairs(&froms, &last, n),
-        Told::Refused(x) => refused(x),
+        EndsAnswer::Pairs(n) => pairs(&froms, &last, n),
+        EndsAnswer::Refused(x) => refused(x),
     }
 }
 
