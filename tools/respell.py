@@ -104,6 +104,7 @@ class Turner:
     def antt(self, text, labels=()):
         mine = {it[0] for it in declared(text)} | {word for it in re.findall(r"(?m)^\s*use [^\n]*\{([^}\n]*)\}", text) for word in re.split(r"[,\s]+", it)}
         laws = self.clear & mine
+        modules = {it[1] for it in re.findall(r"(?m)^\s*use (Rattle\.\S+) as ([^\s;]+)", text) if it[0].rpartition(".")[2] not in ("Tie", "Reads", "Lts", "Goals", "Given")}
 
         def turn(m):
             word, at = m[0], m.start()
@@ -113,7 +114,7 @@ class Turner:
                 return word
             if at and text[at - 1] == ".":
                 head = re.search(r"[^\s(){};,@\"«»`]*$", text[:at])[0]
-                if head.startswith(("Rattle.", "package.")):
+                if head.startswith(("Rattle.", "package.")) or head[:-1] in modules:
                     return self.new[word]
                 if "-" in word and (labels or word not in self.fields):
                     return word

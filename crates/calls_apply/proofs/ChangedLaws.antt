@@ -56,7 +56,7 @@ module _ (s : List ℕ) (q : Request) (fr : Fresh s q) (c : Change) (e : Epoch) 
     abbrev z : Stands s n hit q.key
     z = stands s q fr n hit count found
 
-    accepts_it : change_answer (view_key q.key) e.0 (change_of c) (model.shardAt (view_shards (shards_at s)) (view_key q.key)) ≡ accepts
+    accepts_it : change_answer (view_key q.key) e.0 (change_of c) (model.shard_at (view_shards (shards_at s)) (view_key q.key)) ≡ accepts
     unfolding map_at
     accepts_it = sym (decide_of (view_map m) (view_key q.key) e.0 (change_of c)) ∙ sym (decided-by s q (OfShard c e) asks []) ∙ ok []
 
@@ -74,12 +74,12 @@ module _ (s : List ℕ) (q : Request) (fr : Fresh s q) (c : Change) (e : Epoch) 
     abbrev old : ShardRow
     old = shard_at s (4008 + 272 * hit)
 
-    there : model.shardAt (view_map m).shards (view_key q.key) ≡ some (view_shard old)
+    there : model.shard_at (view_map m).shards (view_key q.key) ≡ some (view_shard old)
     unfolding map_at
     there = shard_some s n hit q.key z hit_inside
 
     pub takes : Takes old c
-    unfolding model.shardAt
+    unfolding model.shard_at
     takes = record {
       sized = shard-sized s n hit q.key z hit_inside;
       fits = every-find shard_fits (is_shard (view_key q.key)) (view_map m).shards (view_shard old) (map-parts (view_map m) fr.ready.settleable.formed).2.2 there;

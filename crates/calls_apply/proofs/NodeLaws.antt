@@ -86,12 +86,12 @@ module _ (s : List ℕ) (q : Request) (fr : Fresh s q) (n : DataNodeId) (i : ℕ
             let w : rejects (said.not_at_incarnation n.0 i) ≡ accepts = rw none at dead-accepts in
             let y : ◌≡◌ {A = ℕ} 0 1 = cc in absurd (omega arith)
 
-    module _ (row : NodeRow) (is : view_node row ≡ dead (view_node (rows.nodeAt s (40 + 96 * hit)))) where
+    module _ (row : NodeRow) (is : view_node row ≡ dead (view_node (rows.node_at s (40 + 96 * hit)))) where
       abbrev marked : List tables.NodeInfo
       marked = set nodes hit (view_node row)
 
       marked-is : marked ≡ update (is_node n.0) dead nodes
-      marked-is = set_is (number_at 8 s 8) (rows.nodeAt s) 96 40 no_node 32 few.nodes view_node (is_node n.0) hit z.found dead_inside dead (view_node row) is
+      marked-is = set_is (number_at 8 s 8) (rows.node_at s) 96 40 no_node 32 few.nodes view_node (is_node n.0) hit z.found dead_inside dead (view_node row) is
 
       pub dead-taken : (t : List ℕ) → NodesBecome s t marked → Taken s t q
       unfolding commit

@@ -119,11 +119,11 @@ module _ (h s a c : List ℕ) (clock least : ℕ) (m : List ℕ) where
   bytes-late e = record { late = λ z. refl; undecoded = λ z. refl; read = λ z v q. not_both _ e z }
 
   module _ (early : late_time clock ≡ false) where
-    pub bytes-undecoded : message.decodeWrite m ≡ none → WritesBytes u c clock least m (ended 21 u)
+    pub bytes-undecoded : message.decode_write m ≡ none → WritesBytes u c clock least m (ended 21 u)
     bytes-undecoded e = record { late = λ z. refl; undecoded = λ z. refl; read = λ z v q. none_some (sym e ∙ q) }
 
     module _ (p : WritePart) (i : IsWrite m p) where
-      by_read : (e : WriteEnded) → ((v : message.Write) → message.decodeWrite m ≡ some v → WritesRead u c clock least m v e) → WritesBytes u c clock least m e
+      by_read : (e : WriteEnded) → ((v : message.Write) → message.decode_write m ≡ some v → WritesRead u c clock least m v e) → WritesBytes u c clock least m e
       by_read e f = record {
         late = λ z. not_both _ z early;
         undecoded = λ z. none_some (sym z ∙ (write_decoded m p i).decoded);
@@ -131,7 +131,7 @@ module _ (h s a c : List ℕ) (clock least : ℕ) (m : List ℕ) where
       }
 
       module _ (t : Bool) (tested : t ≡ op_in_domain (op_in m p.op)) where
-        tells : (v : message.Write) → message.decodeWrite m ≡ some v → t ≡ op_in_domain v.op
+        tells : (v : message.Write) → message.decode_write m ≡ some v → t ≡ op_in_domain v.op
         tells v q = tested ∙ ap op_in_domain (write-op m p i v q)
 
         pub bytes_outside : t ≡ false → WritesBytes u c clock least m (ended 22 u)

@@ -47,8 +47,8 @@ pub record WritesRead (b : Buffers) (c : List ℕ) (clock least : ℕ) (m : List
 
 pub record WritesBytes (b : Buffers) (c : List ℕ) (clock least : ℕ) (m : List ℕ) (e : WriteEnded) : Type 0 where
   pub late : late_time clock ≡ true → e ≡ ended 21 b
-  pub undecoded : message.decodeWrite m ≡ none → e ≡ ended 21 b
-  pub read : late_time clock ≡ false → (v : message.Write) → message.decodeWrite m ≡ some v → WritesRead b c clock least m v e
+  pub undecoded : message.decode_write m ≡ none → e ≡ ended 21 b
+  pub read : late_time clock ≡ false → (v : message.Write) → message.decode_write m ≡ some v → WritesRead b c clock least m v e
 
 -- c' the count's bytes at exit: one more for a refusal of any number
 pub record WritesImages (b b' : Buffers) (c c' : List ℕ) (clock least : ℕ) (m : List ℕ) (r : ℕ) : Type 0 where

@@ -37,8 +37,8 @@ abbrev Fits : ℕ → client.SearchAnswer → Type 0
 Fits most (client.found h) = length h ≤ most
 Fits most (client.search_refused x) = Unit {0}
 
-held_fits : (lease : Bool) (most epoch k : ℕ) (q : List Float) (h : held.Held) → Fits most (client.searchHeld lease most epoch k q h).answer
-unfolding client.searchHeld
+held_fits : (lease : Bool) (most epoch k : ℕ) (q : List Float) (h : held.Held) → Fits most (client.search_held lease most epoch k q h).answer
+unfolding client.search_held
 held_fits lease most epoch k q h =
     let P : Result client.SearchAnswer held.Held → Type 0 = λ r. Fits most r.answer in
     by-test P (not (leads_at h.role epoch)) (λ e. tt)
@@ -49,18 +49,18 @@ module _ (lent : Key → Bool) (n : held.Node) (clock most : ℕ) where
   abbrev Fit : Result client.SearchAnswer held.Node → Type 0
   Fit r = Fits most r.answer
 
-  of_fits : (o : Option message.Query) → Fit (calls.searchOf lent n clock most o)
-  unfolding client.onSearch
+  of_fits : (o : Option message.Query) → Fit (calls.search_of lent n clock most o)
+  unfolding client.on_search
   of_fits none = tt
   of_fits (some v) =
       by-test Fit (not (patterns_in_domain v.bits)) (λ e. tt)
       (λ e. by-test Fit (not (lent v.key)) (λ f. tt)
-      (λ f. at_cases n v.key (client.search_refused unknown_shard) (client.searchHeld (leased n clock) most v.epoch v.k (floats_of v.bits)) Fit
+      (λ f. at_cases n v.key (client.search_refused unknown_shard) (client.search_held (leased n clock) most v.epoch v.k (floats_of v.bits)) Fit
       (λ g. tt) (λ h g. held_fits (leased n clock) most v.epoch v.k (floats_of v.bits) h)))
 
-  with-fits : (m : List ℕ) → Fit (calls.searchWith lent n clock most m)
-  unfolding calls.searchWith
-  with-fits m = by-test Fit (calls.lateTime clock) (λ e. tt) (λ e. of_fits (message.decodeSearch m))
+  with-fits : (m : List ℕ) → Fit (calls.search_with lent n clock most m)
+  unfolding calls.search_with
+  with-fits m = by-test Fit (calls.late_time clock) (λ e. tt) (λ e. of_fits (message.decode_search m))
 
 -- ---- by the call's contract
 
@@ -89,10 +89,10 @@ module _ (n : Node) (a : LentStore) (m : List ℕ) (clock : ℕ) (o p : Output) 
       let s = holding some_stores slot a in
       let e = d.same s slot own (holding_changes some_stores slot a a).before in
       subst (λ (x : ℕ). x ≤ room o) (sym (ap (λ (z : SearchAnswered). found_of z.answer) e))
-      (word_fits (room o) (calls.searchWith (lent_for s n a) (view_node s n) clock (room o) m).answer
+      (word_fits (room o) (calls.search_with (lent_for s n a) (view_node s n) clock (room o) m).answer
       (with-fits (lent_for s n a) (view_node s n) clock (room o) m))
 
   -- whatever the bytes are read as
-  by_read : (q : Option message.Query) → message.decodeSearch m ≡ q → found_of r.answer ≤ room o
+  by_read : (q : Option message.Query) → message.decode_search m ≡ q → found_of r.answer ≤ room o
   by_read none e = by-slot 0 (λ v f. none_some (sym e ∙ f))
   by_read (some w) e = by-slot (slot_of n w.key) (λ v f. ap (λ (z : message.Query). slot_of n z.key) (some_same (sym e ∙ f)))

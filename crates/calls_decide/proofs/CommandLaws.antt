@@ -81,7 +81,7 @@ module _ (s : List ℕ) (q : Request) (fr : Fresh s q) where
     dead-decided asks v answered = record { answer = λ bs. answered ∙ sym (decided-by s q (MarkNodeDead n i) asks bs) }
 
   module _ (c : Change) (e : Epoch) (asks : q.command ≡ OfShard c e) where
-    pub change-decided : (v : Verdict) → answer_of v ≡ change_answer (view_key q.key) e.0 (change_of c) (model.shardAt (view_shards (shards_at s)) (view_key q.key))
+    pub change-decided : (v : Verdict) → answer_of v ≡ change_answer (view_key q.key) e.0 (change_of c) (model.shard_at (view_shards (shards_at s)) (view_key q.key))
         → Decided (map_at s) q v
     unfolding map_at
     change-decided v answered = record {

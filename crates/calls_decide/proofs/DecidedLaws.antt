@@ -55,7 +55,7 @@ module _ (s : List ℕ) (q : Request) (place : ℕ) (k : Known s q place) where
   abbrev row : SessionRow
   row = session_at s (21416 + 80 * place)
 
-  present : model.sessionAt (view_map (map_at s)).sessions q.client ≡ some (view_session row)
+  present : model.session_at (view_map (map_at s)).sessions q.client ≡ some (view_session row)
   unfolding map_at
   present = session_some s k.ready.few.sessions q.client place k.found k.inside
 
@@ -76,7 +76,7 @@ module _ (s : List ℕ) (q : Request) (place : ℕ) (k : Known s q place) where
 
 module _ (s : List ℕ) (q : Request) (rd : Ready s q) (place : ℕ) (found : place ≡ first_at (is_client q.client) (view_sessions (sessions_at s)))
     (past : number_at 8 s 32 ≤ place) where
-  absent : model.sessionAt (view_map (map_at s)).sessions q.client ≡ none
+  absent : model.session_at (view_map (map_at s)).sessions q.client ≡ none
   unfolding map_at
   absent = session-none s rd.few.sessions q.client place found past
 

@@ -47,7 +47,7 @@ module _ (s : List ℕ) (id incarnation : ℕ) (room : 10288 ≤ length s) where
     made = λ h. record {
       answer = a;
       image = e.image ∙ put-free free;
-      leaves = leaves_of s t (with_free id incarnation free) (e.becomes room) (λ st. held.emptyNode id incarnation) (λ st. refl) (λ st. []) (λ st. refl);
+      leaves = leaves_of s t (with_free id incarnation free) (e.becomes room) (λ st. held.empty_node id incarnation) (λ st. refl) (λ st. []) (λ st. refl);
       formed = (e.becomes room).formed (bare free);
     };
   }

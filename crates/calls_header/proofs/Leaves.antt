@@ -55,7 +55,7 @@ module _ (s t : List ℕ) (lent : header_lent s ≡ true) (n : Node) (becomes : 
 -- a map is taken note of only by a header that is not malformed
 module _ (n : Node) (m : ShardMap) (fresh : ℕ) (r : NodeShown) (h : HearsMap n m fresh r) where
   refused : formed_node n ≡ false → is_shown r.answer ≡ false
-  unfolding calls.shownWith ◌and◌
+  unfolding calls.shown_with ◌and◌
   refused q = ap (λ (t : ShownAnswered). is_shown t.answer) (h.same some_stores) ∙ rw (sym (formed-lent n some_stores) ∙ q)
 
   pub shown-formed : is_shown r.answer ≡ true → formed_node n ≡ true

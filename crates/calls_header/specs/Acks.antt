@@ -30,10 +30,10 @@ sent_at step = cond (eqb step 2) S.Align (cond (eqb step 3) S.Replicate S.Copy)
 -- no reply, or one that no peer gives
 abbrev pub no_reply : Option message.Reply → Bool
 no_reply none = true
-no_reply (some r) = ack.badReply r
+no_reply (some r) = ack.bad_reply r
 
 abbrev pub unread_reply : List ℕ → Bool
-unread_reply reply = no_reply (message.decodeReply reply)
+unread_reply reply = no_reply (message.decode_reply reply)
 
 -- no name, no code of a step, or no reply
 abbrev pub unread_ack : List ℕ → ℕ → List ℕ → Bool
@@ -53,7 +53,7 @@ is_acked (A.Refused k) = false
 -- the specification's ack, on the header that the bytes are read as
 abbrev pub acked : (s name reply : List ℕ) → (shard epoch peer step : ℕ) → Stores → Result ack.AckAnswer held.Node
 acked s name reply shard epoch peer step st =
-    calls.ackWith (lent_node st (node_at s)) (view_node st (node_at s)) (key_given name shard) epoch peer (sent_of (sent_at step)) reply
+    calls.ack_with (lent_node st (node_at s)) (view_node st (node_at s)) (key_given name shard) epoch peer (sent_of (sent_at step)) reply
 
 -- the image holds s before and t after
 pub record AcksImage (s t name reply : List ℕ) (shard epoch peer step r : ℕ) : Type 0 where

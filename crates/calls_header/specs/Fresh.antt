@@ -22,7 +22,7 @@ fresh_node id incarnation = record {
 pub record FreshImage (s t : List ℕ) (id incarnation r : ℕ) : Type 0 where
   pub answer : r ≡ 0
   pub image : t ≡ header_written s (fresh_node id incarnation)
-  pub leaves : Leaves s t (λ st. held.emptyNode id incarnation) (λ st. [])
+  pub leaves : Leaves s t (λ st. held.empty_node id incarnation) (λ st. [])
   pub formed : formed_node (node_at t) ≡ true
 
 -- the image holds s before and t after

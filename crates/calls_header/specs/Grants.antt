@@ -27,7 +27,7 @@ is_granted (G.Refused k) = false
 
 -- the specification's grant, on the header that the bytes are read as
 abbrev pub granted : List ℕ → (incarnation sent lease : ℕ) → Stores → Result leases.GrantAnswer held.Node
-granted s incarnation sent lease st = calls.grantWith (lent_node st (node_at s)) (view_node st (node_at s)) incarnation sent lease
+granted s incarnation sent lease st = calls.grant_with (lent_node st (node_at s)) (view_node st (node_at s)) incarnation sent lease
 
 -- the image holds s before and t after
 pub record GrantsImage (s t : List ℕ) (incarnation sent lease r : ℕ) : Type 0 where
@@ -42,4 +42,4 @@ pub record GrantsImage (s t : List ℕ) (incarnation sent lease r : ℕ) : Type 
 
 abbrev pub Grants : (s t : List ℕ) → (incarnation sent lease r : ℕ) → Type 0
 Grants s t incarnation sent lease r =
-    Asked (calls.lateTime sent or calls.lateTime lease) (header_lent s) r (t ≡ s) (GrantsImage s t incarnation sent lease r)
+    Asked (calls.late_time sent or calls.late_time lease) (header_lent s) r (t ≡ s) (GrantsImage s t incarnation sent lease r)

@@ -39,7 +39,7 @@ is_settled (O.Refused k) = false
 -- the specification's outcome, on the header that the bytes are read as
 abbrev pub settled : (s name : List ℕ) → (shard epoch peer command applied : ℕ) → Stores → Result ack.OutcomeAnswer held.Node
 settled s name shard epoch peer command applied st =
-    calls.outcomeWith (lent_node st (node_at s)) (view_node st (node_at s)) (key_given name shard) epoch peer (proposal_of (proposal_at command)) (eqb applied 1)
+    calls.outcome_with (lent_node st (node_at s)) (view_node st (node_at s)) (key_given name shard) epoch peer (proposal_of (proposal_at command)) (eqb applied 1)
 
 -- the image holds s before and t after
 pub record OutcomesImage (s t name : List ℕ) (shard epoch peer command applied r : ℕ) : Type 0 where

@@ -57,7 +57,7 @@ pub record ShowPut (s t p q a b : List ℕ) (x : NodeShown) (r : ℕ) : Type 0 w
 -- the specification's map shown, on the header and the map that the bytes are read as; the node after it, and the slots of its shards
 abbrev pub shown_call : (s m : List ℕ) → (fresh : ℕ) → Stores → Result show.ShownAnswer held.Node
 shown_call s m fresh st =
-    calls.shownWith (lent_node st (node_at s) and well_formed_lent (map_at m)) (view_node st (node_at s)) fresh (view_map (map_at m))
+    calls.shown_with (lent_node st (node_at s) and well_formed_lent (map_at m)) (view_node st (node_at s)) fresh (view_map (map_at m))
 
 abbrev pub shown_after : (s m : List ℕ) → (fresh : ℕ) → Stores → held.Node
 shown_after s m fresh st = (shown_call s m fresh st).after

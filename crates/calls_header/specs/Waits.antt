@@ -25,7 +25,7 @@ use Rattle.calls_header.specs.Leaves.{LeavesSlots, Stays, StaysFormed}
 
 -- no name, or a time above 2^62
 abbrev pub unread_wait : List ℕ → (now timeout : ℕ) → Bool
-unread_wait name now timeout = unread_name name (calls.lateTime now or calls.lateTime timeout)
+unread_wait name now timeout = unread_name name (calls.late_time now or calls.late_time timeout)
 
 -- ---- what is left
 
@@ -92,7 +92,7 @@ pub record WaitPut (s t p q a b : List ℕ) (x : NodeWaited) (r : ℕ) : Type 0 
 -- the specification's wait, on the header that the bytes are read as
 abbrev pub waited : (s name : List ℕ) → (shard epoch offset now timeout : ℕ) → Stores → Result client.WaitAnswer held.Node
 waited s name shard epoch offset now timeout st =
-    calls.waitWith (lent_node st (node_at s)) (view_node st (node_at s)) now timeout (key_given name shard) epoch offset
+    calls.wait_with (lent_node st (node_at s)) (view_node st (node_at s)) now timeout (key_given name shard) epoch offset
 
 -- the header's image holds s before and t after, `peers` p and q, `answer` a and b
 pub record WaitsImage (s t p q a b name : List ℕ) (shard epoch offset now timeout r : ℕ) : Type 0 where

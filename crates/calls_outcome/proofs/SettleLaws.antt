@@ -25,7 +25,7 @@ use Rattle.calls_outcome.specs.Settled.{OutcomesRow}
 
 module _ (s : List ℕ) (row me epoch peer : ℕ) (left : Bool) (role : Role) (role_is : role ≡ role_at s (row + 108)) where
   leads-is : (b : Bool) → leads_at role epoch ≡ b → leads_at (held_row_at s row).held.role epoch ≡ b
-  leads-is b e = ap (λ (x : Role). leads_at x epoch) (front.role-is s row ∙ sym role_is) ∙ e
+  leads-is b e = ap (λ (x : Role). leads_at x epoch) (front.role_is s row ∙ sym role_is) ∙ e
 
   -- no primary at that epoch
   pub settle_not : leads_at role epoch ≡ false → OutcomesRow s s row me epoch peer left

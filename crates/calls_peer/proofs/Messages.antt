@@ -32,7 +32,7 @@ module _ (m : List ℕ) (p : ReplicatePart) (i : message_of m ≡ Replicate p) (
   abbrev replicated : message.Replicated
   replicated = (replicate_decoded m p i).read
 
-  replicated-is : message.decodeReplicate m ≡ some replicated
+  replicated-is : message.decode_replicate m ≡ some replicated
   replicated-is = (replicate_decoded m p i).decoded
 
   replicated-fine : f ≡ op_in_domain replicated.op
@@ -52,7 +52,7 @@ module _ (m : List ℕ) (p : NewEpochPart) (i : message_of m ≡ NewEpoch p) (b 
   abbrev announced : message.NewEpoch
   announced = (new_epoch_decoded m p i).read
 
-  announced-is : message.decodeNewEpoch m ≡ some announced
+  announced-is : message.decode_new_epoch m ≡ some announced
   announced-is = (new_epoch_decoded m p i).decoded
 
   pub new_epoch_inside : (k : Key) → k ≡ key_in m p.key → (c : Buffers) (r : ℕ) → AtShard NewEpochsAt announces k m b c r → NewEpochsImage m b c r
@@ -66,7 +66,7 @@ module _ (m : List ℕ) (p : CopyPart) (i : message_of m ≡ CopyShard p) (b : B
     abbrev copied : message.Copied
     copied = (copy_decoded m p i).read
 
-    copied_is : message.decodeCopyShard m ≡ some copied
+    copied_is : message.decode_copy_shard m ≡ some copied
     copied_is = (copy_decoded m p i).decoded
 
     copied-fine : f ≡ every entry_in_domain copied.entries

@@ -59,21 +59,21 @@ pub record Serves (A : Type 0) (read : Option A) (fine : A → Bool) (key : A �
 
 -- 20
 abbrev pub replicates : Deed
-replicates m lent v = calls.replicateWith lent v m
+replicates m lent v = calls.replicate_with lent v m
 
 abbrev pub ReplicatesImage : List ℕ → (b c : Buffers) → ℕ → Type 0
-ReplicatesImage m = Serves message.Replicated (message.decodeReplicate m) (λ v. op_in_domain v.op) (λ v. v.key) ReplicatesAt replicates m
+ReplicatesImage m = Serves message.Replicated (message.decode_replicate m) (λ v. op_in_domain v.op) (λ v. v.key) ReplicatesAt replicates m
 
 -- 21
 abbrev pub announces : Deed
-announces m lent v = calls.newEpochWith lent v m
+announces m lent v = calls.new_epoch_with lent v m
 
 abbrev pub NewEpochsImage : List ℕ → (b c : Buffers) → ℕ → Type 0
-NewEpochsImage m = Serves message.NewEpoch (message.decodeNewEpoch m) (λ v. true) (λ v. v.key) NewEpochsAt announces m
+NewEpochsImage m = Serves message.NewEpoch (message.decode_new_epoch m) (λ v. true) (λ v. v.key) NewEpochsAt announces m
 
 -- 22
 abbrev pub copies : Deed
-copies m lent v = calls.copyWith lent v m
+copies m lent v = calls.copy_with lent v m
 
 abbrev pub CopiesImage : List ℕ → (b c : Buffers) → ℕ → Type 0
-CopiesImage m = Serves message.Copied (message.decodeCopyShard m) (λ v. every entry_in_domain v.entries) (λ v. v.key) CopiesAt copies m
+CopiesImage m = Serves message.Copied (message.decode_copy_shard m) (λ v. every entry_in_domain v.entries) (λ v. v.key) CopiesAt copies m

@@ -38,7 +38,7 @@ ended r b = record { answer = r; left = b }
 
 -- the reply goes back, and the images become h and s; without room for the reply's nine bytes it is 23, and nothing is written
 abbrev pub sends : Buffers → (h s : List ℕ) → message.Reply → Ended
-sends b h s w = cond (leb 9 (length b.reply)) (ended 0 (buffers h s (sets b.reply 0 (message.encodeReply w)))) (ended 23 b)
+sends b h s w = cond (leb 9 (length b.reply)) (ended 0 (buffers h s (sets b.reply 0 (message.encode_reply w)))) (ended 23 b)
 
 -- the call left the images h and s, which are written unless it was turned down: by StaleEpoch, or by a refusal's number
 abbrev pub ended_as : Buffers → (h s : List ℕ) → PeerReply → Ended
@@ -63,7 +63,7 @@ outcome (P.Refused r) = O.Refused r
 -- a reply written into a buffer that was s and is t, with the number r
 pub record Replies (w : Reply) (s t : List ℕ) (r : ℕ) : Type 0 where
   pub answer : r ≡ cond (leb 9 (length s)) 0 23
-  pub bytes : t ≡ cond (leb 9 (length s)) (sets s 0 (message.encodeReply (reply_given w))) s
+  pub bytes : t ≡ cond (leb 9 (length s)) (sets s 0 (message.encode_reply (reply_given w))) s
 
 -- the buffers b became c with the number r; a call that was not turned down has written what it left, if its reply was sent
 pub record Finished (b c : Buffers) (n : Node) (at : ℕ) (l : LentStore) (a : PeerAnswer) (r : ℕ) : Type 0 where

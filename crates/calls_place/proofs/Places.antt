@@ -41,15 +41,15 @@ placed-live s sp l x w live e =
 module _ (s : List ℕ) (key : ShardKey) (w : well_formed_lent (map_at s) ≡ true) (u : Used s) (at : ℕ)
     (is : at ≡ first_at (is_shard (view_key key)) (view_shards (shards_at s))) where
   pub absent : number_at 8 s 24 ≤ at → nobody ≡ replacement_lent (map_at s) key
-  unfolding map_at model.shardAt replace_in
+  unfolding map_at model.shard_at replace_in
   absent h = sym (replace-on (map_at s) key w none (row_missed 64 272 4008 (shard_at s) no_shard (number_at 8 s 24) view_shard u.shards.count (is_shard (view_key key)) at is h))
 
   module _ (h : at < number_at 8 s 24) where
     abbrev row : ShardRow
     row = shard_at s (4008 + 272 * at)
 
-    there : model.shardAt (view_shards (map_at s).shards) (view_key key) ≡ some (view_shard row)
-    unfolding map_at model.shardAt
+    there : model.shard_at (view_shards (map_at s).shards) (view_key key) ≡ some (view_shard row)
+    unfolding map_at model.shard_at
     there = row-found 64 272 4008 (shard_at s) no_shard (number_at 8 s 24) view_shard u.shards.count (is_shard (view_key key)) at is h
 
     free_of : replace_in (view_map (map_at s)) (some (view_shard row)) ≡ replaced_with (lightest (free_in s (view_shard row).replicas))

@@ -28,8 +28,8 @@ use Rattle.image_header_set.specs.Version.{version_set}
 use Rattle.image_show.specs.Quiet.{QuietMap}
 use Rattle.calls_show.specs.Shown.{no_starts}
 
-all_none : (l : List held.Held) → show.allStarts (map show.still l) ≡ []
-unfolding show.allStarts
+all_none : (l : List held.Held) → show.all_starts (map show.still l) ≡ []
+unfolding show.all_starts
 all_none [] = refl
 all_none (h ∷ l) = all_none l
 
@@ -50,21 +50,21 @@ module _ (n : Node) (m : ShardMap) (formed : formed_node n ≡ true) (q : QuietM
   abbrev held_in : Stores → List held.Held
   held_in s = (view_node s n).held
 
-  room : (s : Stores) → show.tooMany (shards_after s n m) ≡ false
+  room : (s : Stores) → show.too_many (shards_after s n m) ≡ false
   unfolding ◌or◌
   room s =
       let a = length-map (held_in s) show.still in
       let b = length-map (used n) (view_held_row s) in
       let c = length-take n.count n.held in
       let d = header-few n formed in
-      ap show.tooMany (q.same s)
+      ap show.too_many (q.same s)
       ∙ rw (le-ltb max_held (length (map show.still (held_in s))) (omega arith)) (none_over s (used n) (header-fit n formed))
 
   -- the same node, which knows the map
   pub quiet_taken : (version : ℕ) → version ≡ m.version → TakesMap n m (no_starts (version_set n version))
   quiet_taken version is = record {
     same = λ s.
-        unfold show.takeMap view_starts in
+        unfold show.take_map view_starts in
         sym (rw (room s) (rw (q.same s, all_none (held_in s), all_held (held_in s), ← is)));
     slots = header-apart n formed;
     slots_are = λ s. unfold slots_after in slots_are_same n formed s;

@@ -59,31 +59,31 @@ still s at = record { outside = record { long = refl; front = refl; back = refl 
 -- ---- a new record
 
 module _ (s m : List ℕ) (at me : ℕ) (row : ShardRow) (n : ℕ)
-    (g : PeersGrow s m at (show.withRows me (view_in_sync row.insync) (view_holders row.replicas) []) n) where
+    (g : PeersGrow s m at (show.with_rows me (view_in_sync row.insync) (view_holders row.replicas) []) n) where
   pub rise_over : 32 < n → Rises s m at me row 33
   rise_over h = grows_over s m at _ n 0 _ g h
 
   pub rise-fits : (u t : List ℕ) (own : Bool) → n ≤ 32 → RowBecomes m u at (count_set (held_row_at m at) n) → RowBecomes u t at (record_set (held_row_at u at) row.epoch own)
-      → own ≡ any (show.isNode me) (view_in_sync row.insync) → Rises s t at me row 0
+      → own ≡ any (show.is_node me) (view_in_sync row.insync) → Rises s t at me row 0
   rise-fits u t own le a b e =
-      grows_fit s m u t at _ n 0 0 (λ w. record_set w row.epoch (any (show.isNode me) (view_in_sync row.insync))) (λ w. (refl, refl)) g le a
+      grows_fit s m u t at _ n 0 0 (λ w. record_set w row.epoch (any (show.is_node me) (view_in_sync row.insync))) (λ w. (refl, refl)) g le a
       (subst (λ (o : Bool). RowBecomes u t at (record_set (held_row_at u at) row.epoch o)) e b) refl (omega arith)
 
 -- ---- a record that stays
 
 module _ (s k m : List ℕ) (at me : ℕ) (row : ShardRow) (was n : ℕ) (is : was ≡ number_at 8 s (at + 88))
     (a : PeersBecome s k at was (map (show.retained (view_holders row.replicas)) (take was (peers_in s at))))
-    (g : PeersGrow k m at (show.withRows me [] (view_holders row.replicas) (take was (peers_in k at))) n) where
+    (g : PeersGrow k m at (show.with_rows me [] (view_holders row.replicas) (take was (peers_in k at))) n) where
   abbrev rows : ℕ → List Peer
-  rows c = show.withRows me [] (view_holders row.replicas) (map (show.retained (view_holders row.replicas)) (take c (peers_in s at)))
+  rows c = show.with_rows me [] (view_holders row.replicas) (map (show.retained (view_holders row.replicas)) (take c (peers_in s at)))
 
   count : was ≡ (held_row_at s at).held.count
   count = is ∙ sym (count-is s at)
 
   both : PeersGrow s m at (rows (held_row_at s at).held.count) n
   both =
-      let e : show.withRows me [] (view_holders row.replicas) (take was (peers_in k at)) ≡ rows (held_row_at s at).held.count =
-      ap (show.withRows me [] (view_holders row.replicas)) a.rows ∙ ap rows count in
+      let e : show.with_rows me [] (view_holders row.replicas) (take was (peers_in k at)) ≡ rows (held_row_at s at).held.count =
+      ap (show.with_rows me [] (view_holders row.replicas)) a.rows ∙ ap rows count in
       record {
         most = g.most;
         outside = outside_then a.becomes.outside g.outside;

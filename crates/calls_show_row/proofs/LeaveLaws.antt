@@ -42,16 +42,16 @@ use Rattle.calls_show_row.specs.Leave.{rows_set, Grows, Rises, Stays, starts_bet
 -- ---- the definition by its tests
 
 module _ (me : ℕ) (i : ShardInfo) (metric : Metric) (h : held.Held) where
-  by_left : show.isPrimary i.primary me ≡ false → show.showHeld me i metric h ≡ show.still (demoted (show.refreshed i h))
-  unfolding show.showHeld
+  by_left : show.is_primary i.primary me ≡ false → show.show_held me i metric h ≡ show.still (demoted (show.refreshed i h))
+  unfolding show.show_held
   by_left e = rw e
 
-  by-rise : show.isPrimary i.primary me ≡ true → show.promotes h i ≡ true → show.showHeld me i metric h ≡ show.promotedTo me i metric h
-  unfolding show.showHeld
+  by-rise : show.is_primary i.primary me ≡ true → show.promotes h i ≡ true → show.show_held me i metric h ≡ show.promoted_to me i metric h
+  unfolding show.show_held
   by-rise e u = rw (e, u)
 
-  by_stay : show.isPrimary i.primary me ≡ true → show.promotes h i ≡ false → show.showHeld me i metric h ≡ show.keptAs me i metric h h.role
-  unfolding show.showHeld
+  by_stay : show.is_primary i.primary me ≡ true → show.promotes h i ≡ false → show.show_held me i metric h ≡ show.kept_as me i metric h h.role
+  unfolding show.show_held
   by_stay e u = rw (e, u)
 
 -- rows in use of an array are no more than their number
@@ -106,8 +106,8 @@ module _ (s m t : List ℕ) (at me : ℕ) (row : ShardRow) (b : RowBecomes s m a
   }
 
   module _ (leader : Leader) (is : leader_of leader ≡ (view_shard row).primary) where
-    named : (c : Bool) → leader_is leader me ≡ c → show.isPrimary (view_shard row).primary me ≡ c
-    named c e = ap (λ (o : Option ℕ). show.isPrimary o me) (sym is) ∙ sym (leader-is leader me) ∙ e
+    named : (c : Bool) → leader_is leader me ≡ c → show.is_primary (view_shard row).primary me ≡ c
+    named c e = ap (λ (o : Option ℕ). show.is_primary o me) (sym is) ∙ sym (leader-is leader me) ∙ e
 
     -- another node is primary, or none
     pub leaves-left : leader_is leader me ≡ false → RowBecomes m t at (kept_as (held_row_at m at) (stepped_down (held_row_at m at).held)) → Leaves s t at me row 0
@@ -161,14 +161,14 @@ module _ (s m t : List ℕ) (at me : ℕ) (row : ShardRow) (b : RowBecomes s m a
       risen c e = ap (λ (w : HeldRow). rises w.held.role w.held.epoch.0 row.epoch.0) (sym b.row) ∙ e
 
       module _ (up : rises (held_row_at m at).held.role (held_row_at m at).held.epoch.0 row.epoch.0 ≡ true) where
-        by_up : (st : Stores) (metric : Metric) → showing me row metric st x ≡ show.promotedTo me i metric (view_held_row st x)
+        by_up : (st : Stores) (metric : Metric) → showing me row metric st x ≡ show.promoted_to me i metric (view_held_row st x)
         by_up st metric = by-rise me i metric (view_held_row st x) (named true led) (risen true up)
 
         abbrev own : Bool
-        own = any (show.isNode me) (view_in_sync row.insync)
+        own = any (show.is_node me) (view_in_sync row.insync)
 
         abbrev fresh : List Peer
-        fresh = show.withRows me (view_in_sync row.insync) (view_holders row.replicas) []
+        fresh = show.with_rows me (view_in_sync row.insync) (view_holders row.replicas) []
 
         top : max x.held.epoch.0 row.epoch.0 ≡ row.epoch.0
         top =
@@ -177,16 +177,16 @@ module _ (s m t : List ℕ) (at me : ℕ) (row : ShardRow) (b : RowBecomes s m a
             omega arith
 
         up_held : (st : Stores) (metric : Metric) (ps : List Peer) (n : ℕ) → take n ps ≡ fresh
-            → view_held_row st (record_set (rows_set z ps n) row.epoch own) ≡ (show.promotedTo me i metric (view_held_row st x)).held
-        unfolding show.promotedTo promote
+            → view_held_row st (record_set (rows_set z ps n) row.epoch own) ≡ (show.promoted_to me i metric (view_held_row st x)).held
+        unfolding show.promoted_to promote
         up_held st metric ps n e = rw (e, st.long x.slot x.held.last, top)
 
-        up_start : (st : Stores) (metric : Metric) → (show.promotedTo me i metric (view_held_row st x)).start ≡ show.starts (view_key x.key) row.epoch.0 metric [] fresh
-        unfolding show.promotedTo
+        up_start : (st : Stores) (metric : Metric) → (show.promoted_to me i metric (view_held_row st x)).start ≡ show.starts (view_key x.key) row.epoch.0 metric [] fresh
+        unfolding show.promoted_to
         up_start st metric = refl
 
-        up_peers : (st : Stores) (metric : Metric) → (show.promotedTo me i metric (view_held_row st x)).held.peers ≡ fresh
-        unfolding show.promotedTo
+        up_peers : (st : Stores) (metric : Metric) → (show.promoted_to me i metric (view_held_row st x)).held.peers ≡ fresh
+        unfolding show.promoted_to
         up_peers st metric = refl
 
         -- a new record
@@ -209,16 +209,16 @@ module _ (s m t : List ℕ) (at me : ℕ) (row : ShardRow) (b : RowBecomes s m a
 
       module _ (same : rises (held_row_at m at).held.role (held_row_at m at).held.epoch.0 row.epoch.0 ≡ false) where
         by_role : (role : Role) → (held_row_at m at).held.role ≡ role → (st : Stores) (metric : Metric)
-            → showing me row metric st x ≡ show.keptAs me i metric (view_held_row st x) role
+            → showing me row metric st x ≡ show.kept_as me i metric (view_held_row st x) role
         by_role role e st metric =
             by_stay me i metric (view_held_row st x) (named true led) (risen false same)
-            ∙ ap (show.keptAs me i metric (view_held_row st x)) (sym (ap (λ (w : HeldRow). w.held.role) b.row) ∙ e)
+            ∙ ap (show.kept_as me i metric (view_held_row st x)) (sym (ap (λ (w : HeldRow). w.held.role) b.row) ∙ e)
 
         -- a record that stays
         module _ (e : Epoch) (o : Offset) (role : (held_row_at m at).held.role ≡ Primary e o) where
           abbrev rows : HeldRow → List Peer
           rows w =
-              show.withRows me [] (view_holders row.replicas) (map (show.retained (view_holders row.replicas)) (take w.held.count w.held.peers))
+              show.with_rows me [] (view_holders row.replicas) (map (show.retained (view_holders row.replicas)) (take w.held.count w.held.peers))
 
           role_x : x.held.role ≡ Primary e o
           role_x = sym (ap (λ (w : HeldRow). w.held.role) b.row) ∙ role
@@ -227,17 +227,17 @@ module _ (s m t : List ℕ) (at me : ℕ) (row : ShardRow) (b : RowBecomes s m a
           rows_same = ap rows b.row
 
           on-held : (st : Stores) (metric : Metric) (ps : List Peer) (n : ℕ) → take n ps ≡ rows x
-              → view_held_row st (rows_set z ps n) ≡ (show.keptAs me i metric (view_held_row st x) (Primary e o)).held
-          unfolding show.keptAs
+              → view_held_row st (rows_set z ps n) ≡ (show.kept_as me i metric (view_held_row st x) (Primary e o)).held
+          unfolding show.kept_as
           on-held st metric ps n q = rw (q, role_x)
 
-          on-start : (st : Stores) (metric : Metric) → (show.keptAs me i metric (view_held_row st x) (Primary e o)).start
+          on-start : (st : Stores) (metric : Metric) → (show.kept_as me i metric (view_held_row st x) (Primary e o)).start
               ≡ show.starts (view_key x.key) e.0 metric (take x.held.count x.held.peers) (rows x)
-          unfolding show.keptAs
+          unfolding show.kept_as
           on-start st metric = refl
 
-          on-peers : (st : Stores) (metric : Metric) → (show.keptAs me i metric (view_held_row st x) (Primary e o)).held.peers ≡ rows x
-          unfolding show.keptAs
+          on-peers : (st : Stores) (metric : Metric) → (show.kept_as me i metric (view_held_row st x) (Primary e o)).held.peers ≡ rows x
+          unfolding show.kept_as
           on-peers st metric = refl
 
           pub leaves_stay : (r : ℕ) → Stays m t at me row r → Leaves s t at me row r
@@ -277,5 +277,5 @@ module _ (s m t : List ℕ) (at me : ℕ) (row : ShardRow) (b : RowBecomes s m a
               ∙ starts_none (view_key x.key) (record_epoch x.held.role) metric (take x.held.count x.held.peers));
         }
       where
-        kept : (st : Stores) (metric : Metric) → show.keptAs me i metric (view_held_row st x) Backup ≡ show.still (show.refreshed i (view_held_row st x))
-        kept st metric = unfold show.keptAs in refl
+        kept : (st : Stores) (metric : Metric) → show.kept_as me i metric (view_held_row st x) Backup ≡ show.still (show.refreshed i (view_held_row st x))
+        kept st metric = unfold show.kept_as in refl

@@ -71,10 +71,10 @@ module _ (s : List ℕ) (at was : ℕ) (few : was ≤ 32) (t : List ℕ) (to i :
   inside : was ≤ length (peers_at s at)
   inside = let e = peers_long s at in omega arith
 
-  pub is-new : was ≤ r → show.isNew (take was (peers_at s at)) peer ≡ true
+  pub is-new : was ≤ r → show.is_new (take was (peers_at s at)) peer ≡ true
   is-new h = ap not (row-absent (of_node peer.node.0) (peers_at s at) was r inside place_is h)
 
-  pub is_known : r < was → show.isNew (take was (peers_at s at)) peer ≡ false
+  pub is_known : r < was → show.is_new (take was (peers_at s at)) peer ≡ false
   is_known h = ap not (row-there (of_node peer.node.0) (peers_at s at) was r inside place_is h)
 
 -- ---- a row copied

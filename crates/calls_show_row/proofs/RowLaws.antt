@@ -65,14 +65,14 @@ module _ (s : List ℕ) (at me : ℕ) (row : ShardRow) (b : List ℕ) (same : he
       after-few = let p = (w.shows le).peers in let c = count-is t 0 in omega arith
 
       pub needs_some : (n k : ℕ) → n ≡ number_at 8 t 88
-          → k ≡ length (collect (show.isNew (take r (peers_at s (at + 256)))) node_of (take n (peers_at t 256))) → Needs (held_row_at s at) me row k
+          → k ≡ length (collect (show.is_new (take r (peers_at s (at + 256)))) node_of (take n (peers_at t 256))) → Needs (held_row_at s at) me row k
       unfolding show.starts
       needs_some n k e q =
           let old = take r (peers_at s (at + 256)) in
           let rows = take n (peers_at t 256) in
           let a = after-few in
           let m = length-take n (peers_at t 256) in
-          let o = collect-most (show.isNew old) node_of rows in
+          let o = collect-most (show.is_new old) node_of rows in
           let few : k ≤ 32 = omega arith in
           record {
             most = omega arith;
@@ -81,12 +81,12 @@ module _ (s : List ℕ) (at me : ℕ) (row : ShardRow) (b : List ℕ) (same : he
           }
         where
           count : (st : Stores) (metric : Metric) → length (starts_between r (peers_at s (at + 256)) (held_row_at t 0) metric)
-              ≡ length (collect (show.isNew (take r (peers_at s (at + 256)))) node_of (take n (peers_at t 256)))
+              ≡ length (collect (show.is_new (take r (peers_at s (at + 256)))) node_of (take n (peers_at t 256)))
           count st metric =
-              collect-same (show.isNew (take r (peers_at s (at + 256)))) (show.workerFor (view_key (held_row_at t 0).key) (record_epoch (held_row_at t 0).held.role) metric) node_of
+              collect-same (show.is_new (take r (peers_at s (at + 256)))) (show.worker_for (view_key (held_row_at t 0).key) (record_epoch (held_row_at t 0).held.role) metric) node_of
               (take (held_row_at t 0).held.count (held_row_at t 0).held.peers)
-              ∙ ap (λ (j : ℕ). length (collect (show.isNew (take r (peers_at s (at + 256)))) node_of (take j (held_row_at t 0).held.peers))) (count-is t 0 ∙ sym e)
-              ∙ ap (λ (l : List Peer). length (collect (show.isNew (take r (peers_at s (at + 256)))) node_of (take n l))) (peers-is t 0)
+              ∙ ap (λ (j : ℕ). length (collect (show.is_new (take r (peers_at s (at + 256)))) node_of (take j (held_row_at t 0).held.peers))) (count-is t 0 ∙ sym e)
+              ∙ ap (λ (l : List Peer). length (collect (show.is_new (take r (peers_at s (at + 256)))) node_of (take n l))) (peers-is t 0)
 
       module _ (metric : Metric) where
         pub room-new : (p : List ℕ) (to : ℕ) → Holds p to (held_row_at s at) me row metric

@@ -61,14 +61,14 @@ module _ (s : List ℕ) (to : ℕ) (all : List show.Worker) where
 
 -- a worker by its peer's number
 pub worker_as : (k : ShardKey) (epoch v : ℕ) (metric : Metric) (p : Peer) → v ≡ p.node.0 → {m t : List ℕ} {next : ℕ}
-    → Stored m t next (worker_bytes (worker_at (view_key k) epoch metric (record { 0 = v }))) 54 → Stored m t next (worker_bytes (show.workerFor (view_key k) epoch metric p)) 54
+    → Stored m t next (worker_bytes (worker_at (view_key k) epoch metric (record { 0 = v }))) 54 → Stored m t next (worker_bytes (show.worker_for (view_key k) epoch metric p)) 54
 worker_as k epoch v metric p e {m} {t} {next} h =
     subst (λ (j : ℕ). Stored m t next (worker_bytes (worker_at (view_key k) epoch metric (record { 0 = j }))) 54) e h
 
 -- the workers to start, by what the bytes of the row after hold
 pub starts_are : (old : List Peer) (t : List ℕ) (was : ℕ) (metric : Metric) (key : ShardKey) (role : Role) (epoch count : ℕ) → key ≡ key_at t 0 → role ≡ role_at t 108
     → epoch ≡ record_epoch role → count ≡ number_at 8 t 88
-    → starts_between was old (held_row_at t 0) metric ≡ collect (show.isNew (take was old)) (show.workerFor (view_key key) epoch metric) (take count (peers_at t 256))
+    → starts_between was old (held_row_at t 0) metric ≡ collect (show.is_new (take was old)) (show.worker_for (view_key key) epoch metric) (take count (peers_at t 256))
 unfolding show.starts
 starts_are old t was metric key role epoch count a b c d =
     rw (key-is t 0, ← a, role_is t 0, ← b, ← c, count-is t 0, ← d, peers-is t 0)

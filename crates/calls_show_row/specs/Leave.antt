@@ -40,14 +40,14 @@ pub record Grows (s t : List ℕ) (at : ℕ) (l : List Peer) (was : ℕ) (f : He
 -- a new record: a row for each other holder, and none known before
 abbrev pub Rises : (s t : List ℕ) → (at me : ℕ) → ShardRow → ℕ → Type 0
 Rises s t at me row r =
-    Grows s t at (show.withRows me (view_in_sync row.insync) (view_holders row.replicas) []) 0
-    (λ x. record_set x row.epoch (any (show.isNode me) (view_in_sync row.insync))) r
+    Grows s t at (show.with_rows me (view_in_sync row.insync) (view_holders row.replicas) []) 0
+    (λ x. record_set x row.epoch (any (show.is_node me) (view_in_sync row.insync))) r
 
 -- a record that stays: the peers with those that are new, and the ack set as far as the map lists it
 abbrev pub Stays : (s t : List ℕ) → (at me : ℕ) → ShardRow → ℕ → Type 0
 Stays s t at me row r =
     Grows s t at
-    (show.withRows me [] (view_holders row.replicas)
+    (show.with_rows me [] (view_holders row.replicas)
     (map (show.retained (view_holders row.replicas)) (take (held_row_at s at).held.count (held_row_at s at).held.peers)))
     (held_row_at s at).held.count (λ x. x) r
 

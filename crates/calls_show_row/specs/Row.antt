@@ -15,7 +15,7 @@ use Rattle.calls_header.specs.Shows.{start_bytes}
 
 -- the shard x as a row of the map leaves it, with the workers to start: the specification's definition
 abbrev pub showing : (me : ℕ) → ShardRow → Metric → Stores → HeldRow → show.Showing
-showing me row metric st x = show.showHeld me (view_shard row) metric (view_held_row st x)
+showing me row metric st x = show.show_held me (view_shard row) metric (view_held_row st x)
 
 -- a row of the header stands there with its peers in use, and the map's row has its lists in their arrays
 pub record Ready (s : List ℕ) (at : ℕ) (row : ShardRow) : Type 0 where

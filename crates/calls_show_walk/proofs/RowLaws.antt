@@ -77,15 +77,15 @@ copied s u v to from n room there is e =
 -- ---- workers, by their nodes
 
 collect-nodes : (k : Key) (e : ℕ) (metric : Metric) (p : Peer → Bool) (l : List Peer)
-    → collect p (show.workerFor k e metric) l ≡ map (worker_at k e metric) (collect p node_of l)
+    → collect p (show.worker_for k e metric) l ≡ map (worker_at k e metric) (collect p node_of l)
 unfolding collect
 collect-nodes k e metric p [] = refl
 collect-nodes k e metric p (x ∷ l) = go (p x) (collect-nodes k e metric p l)
   where
-    go : (b : Bool) → collect p (show.workerFor k e metric) l ≡ map (worker_at k e metric) (collect p node_of l)
-        → cond b (show.workerFor k e metric x ∷ collect p (show.workerFor k e metric) l) (collect p (show.workerFor k e metric) l)
+    go : (b : Bool) → collect p (show.worker_for k e metric) l ≡ map (worker_at k e metric) (collect p node_of l)
+        → cond b (show.worker_for k e metric x ∷ collect p (show.worker_for k e metric) l) (collect p (show.worker_for k e metric) l)
         ≡ map (worker_at k e metric) (cond b (node_of x ∷ collect p node_of l) (collect p node_of l))
-    go true q = ap (λ (r : List show.Worker). show.workerFor k e metric x ∷ r) q
+    go true q = ap (λ (r : List show.Worker). show.worker_for k e metric x ∷ r) q
     go false q = q
 
 record ByNodes (k : Key) (metric : Metric) (x : show.Showing) : Type 0 where
@@ -93,20 +93,20 @@ record ByNodes (k : Key) (metric : Metric) (x : show.Showing) : Type 0 where
   pub nodes : List DataNodeId
   pub same : x.start ≡ map (worker_at k epoch metric) nodes
 
-by-nodes : (me : ℕ) (i : tables.ShardInfo) (metric : Metric) (h : held.Held) → ByNodes h.key metric (show.showHeld me i metric h)
-unfolding show.showHeld show.promotedTo show.keptAs show.starts
-by-nodes me i metric h = pick (show.isPrimary i.primary me) (show.promotes h i) first (kept h.role) (still h.key metric)
+by-nodes : (me : ℕ) (i : tables.ShardInfo) (metric : Metric) (h : held.Held) → ByNodes h.key metric (show.show_held me i metric h)
+unfolding show.show_held show.promoted_to show.kept_as show.starts
+by-nodes me i metric h = pick (show.is_primary i.primary me) (show.promotes h i) first (kept h.role) (still h.key metric)
   where
-    first : ByNodes h.key metric (show.promotedTo me i metric h)
+    first : ByNodes h.key metric (show.promoted_to me i metric h)
     first =
-        let rows = show.withRows me i.insync i.replicas [] in
-        record { epoch = i.epoch; nodes = collect (show.isNew []) node_of rows; same = collect-nodes h.key i.epoch metric (show.isNew []) rows }
+        let rows = show.with_rows me i.insync i.replicas [] in
+        record { epoch = i.epoch; nodes = collect (show.is_new []) node_of rows; same = collect-nodes h.key i.epoch metric (show.is_new []) rows }
 
-    kept : (r : Role) → ByNodes h.key metric (show.keptAs me i metric h r)
+    kept : (r : Role) → ByNodes h.key metric (show.kept_as me i metric h r)
     kept Backup = record { epoch = 0; nodes = []; same = refl }
     kept (Primary e o) =
-        let rows = show.withRows me [] i.replicas (map (show.retained i.replicas) h.peers) in
-        record { epoch = e.0; nodes = collect (show.isNew h.peers) node_of rows; same = collect-nodes h.key e.0 metric (show.isNew h.peers) rows }
+        let rows = show.with_rows me [] i.replicas (map (show.retained i.replicas) h.peers) in
+        record { epoch = e.0; nodes = collect (show.is_new h.peers) node_of rows; same = collect-nodes h.key e.0 metric (show.is_new h.peers) rows }
 
     still : (k : Key) (m : Metric) {g : held.Held} → ByNodes k m (show.still g)
     still k m = record { epoch = 0; nodes = []; same = refl }
@@ -119,9 +119,9 @@ by-nodes me i metric h = pick (show.isPrimary i.primary me) (show.promotes h i) 
 
 -- whatever the stores hold
 same-starts : (me : ℕ) (row : ShardRow) (metric : Metric) (s st : Stores) (x : HeldRow) → (showing me row metric s x).start ≡ (showing me row metric st x).start
-unfolding show.showHeld show.promotedTo show.keptAs
+unfolding show.show_held show.promoted_to show.kept_as
 same-starts me row metric s st x =
-    pick (show.isPrimary i.primary me) (show.promotes (view_held_row s x) i)
+    pick (show.is_primary i.primary me) (show.promotes (view_held_row s x) i)
     (first (view_held_row s x)) (kept (view_held_row s x) x.held.role) (left (view_held_row s x))
     (first (view_held_row st x)) (kept (view_held_row st x) x.held.role) (left (view_held_row st x)) refl (same x.held.role) refl
   where
@@ -129,10 +129,10 @@ same-starts me row metric s st x =
     i = view_shard row
 
     first : held.Held → show.Showing
-    first h = show.promotedTo me i metric h
+    first h = show.promoted_to me i metric h
 
     kept : held.Held → Role → show.Showing
-    kept h r = show.keptAs me i metric h r
+    kept h r = show.kept_as me i metric h r
 
     left : held.Held → show.Showing
     left h = show.still (demoted (show.refreshed i h))
@@ -174,13 +174,13 @@ module _ (n : Node) (t : Collections) (row : ShardRow) where
   me = n.id.0
 
   abbrev pub Lacks : Type 0
-  Lacks = (m : tables.Map) → m.collections ≡ view_collections t → show.collectionMetric m name ≡ none
+  Lacks = (m : tables.Map) → m.collections ≡ view_collections t → show.collection_metric m name ≡ none
 
   abbrev pub Has : Metric → Type 0
-  Has metric = (m : tables.Map) → m.collections ≡ view_collections t → show.collectionMetric m name ≡ some metric
+  Has metric = (m : tables.Map) → m.collections ≡ view_collections t → show.collection_metric m name ≡ some metric
 
   abbrev answer : Stores → Option Metric → Option show.Showing
-  answer s o = show.showListed me (view_shard row) o (held_shard (view_node s n) (view_key row.key))
+  answer s o = show.show_listed me (view_shard row) o (held_shard (view_node s n) (view_key row.key))
 
   -- with the collection the shard is held after
   held_after_lem : (metric : Metric) → Has metric → (s : Stores) (m : tables.Map) → m.collections ≡ view_collections t
@@ -189,12 +189,12 @@ module _ (n : Node) (t : Collections) (row : ShardRow) where
     where
       go : (o : Option held.Held) → held_shard (view_node s n) (view_key row.key) ≡ o → (x : show.Showing) × (listed_shown s n m row ≡ some x)
       go none q = (
-        show.showHeld me (view_shard row) metric (begun (view_key row.key) metric),
-        ap (answer s) (has m e) ∙ ap (show.showListed me (view_shard row) (some metric)) q ∙ (unfold show.showListed in refl),
+        show.show_held me (view_shard row) metric (begun (view_key row.key) metric),
+        ap (answer s) (has m e) ∙ ap (show.show_listed me (view_shard row) (some metric)) q ∙ (unfold show.show_listed in refl),
       )
       go (some h) q = (
-        show.showHeld me (view_shard row) metric h,
-        ap (answer s) (has m e) ∙ ap (show.showListed me (view_shard row) (some metric)) q ∙ (unfold show.showListed in refl),
+        show.show_held me (view_shard row) metric h,
+        ap (answer s) (has m e) ∙ ap (show.show_listed me (view_shard row) (some metric)) q ∙ (unfold show.show_listed in refl),
       )
 
   -- a ninth
@@ -229,8 +229,8 @@ module _ (n : Node) (t : Collections) (row : ShardRow) where
         same = λ z. (refl, refl);
         skips = λ z s m e.
             ap (answer s) (lacks m e)
-            ∙ ap (show.showListed me (view_shard row) none) (shard-none s n (view_key row.key) le at is h)
-            ∙ (unfold show.showListed in refl);
+            ∙ ap (show.show_listed me (view_shard row) none) (shard-none s n (view_key row.key) le at is h)
+            ∙ (unfold show.show_listed in refl);
         full = λ z. not_both true refl z;
         takes = λ z. not_both true refl z;
       }
@@ -240,8 +240,8 @@ module _ (n : Node) (t : Collections) (row : ShardRow) where
             → listed_shown s n m row ≡ some (show.still (show.refreshed (view_shard row) (view_held_row s kept)))
         kept-said s m e =
             ap (answer s) (lacks m e)
-            ∙ ap (show.showListed me (view_shard row) none) (shard_some s n (view_key row.key) le at is h)
-            ∙ (unfold show.showListed in refl)
+            ∙ ap (show.show_listed me (view_shard row) none) (shard_some s n (view_key row.key) le at is h)
+            ∙ (unfold show.show_listed in refl)
 
         pub ninth_kept : (u v p q : List ℕ) (count many : ℕ) → 8 ≤ count → Takes n t row u v p q count many (record { skip = false; full = true; workers = many })
         ninth_kept u v p q count many g = record {
@@ -357,8 +357,8 @@ module _ (n : Node) (t : Collections) (row : ShardRow) where
       known-held h u v w p q count many room b r a =
           known kept
           (λ s.
-          ap (show.showListed me (view_shard row) (some metric)) (shard_some s n (view_key row.key) le at is h)
-          ∙ (unfold show.showListed in refl))
+          ap (show.show_listed me (view_shard row) (some metric)) (shard_some s n (view_key row.key) le at is h)
+          ∙ (unfold show.show_listed in refl))
           (λ y k p z l. (slot_held h y p (ap view_key k), ap view_key k ∙ key-at h))
           u v w p q count many room b.row b r a
 
@@ -370,8 +370,8 @@ module _ (n : Node) (t : Collections) (row : ShardRow) where
           let x = begun_set z row.key 8 0 metric in
           known x
           (λ s.
-          ap (show.showListed me (view_shard row) (some metric)) (shard-none s n (view_key row.key) le at is h)
-          ∙ (unfold show.showListed in ap (λ (g : held.Held). some (show.showHeld me (view_shard row) metric g)) (sym (view-bare s x refl refl))))
+          ap (show.show_listed me (view_shard row) (some metric)) (shard-none s n (view_key row.key) le at is h)
+          ∙ (unfold show.show_listed in ap (λ (g : held.Held). some (show.show_held me (view_shard row) metric g)) (sym (view-bare s x refl refl))))
           (λ y k p e l. (slot-first h y (ap view_key k) p l e, ap view_key k))
           u v w p q count many room b.row b r a
 

@@ -79,10 +79,10 @@ stored-take {p} {q} {at} {b} {n} k room =
 -- ---- the walk
 
 -- a list of replicas looked through for this node
-pub listed_by : (s : List ℕ) (id own : ℕ) → id ≡ number_at 8 s 0 → own ≡ number_at 8 s 8 → (l : List Replica) (b : Bool) → b ≡ any (show.listedAs id own) l
-    → any (show.listedAs (node_at s).id.0 (node_at s).incarnation) l ≡ b
+pub listed_by : (s : List ℕ) (id own : ℕ) → id ≡ number_at 8 s 0 → own ≡ number_at 8 s 8 → (l : List Replica) (b : Bool) → b ≡ any (show.listed_as id own) l
+    → any (show.listed_as (node_at s).id.0 (node_at s).incarnation) l ≡ b
 unfolding node_at
-listed_by s id own i o l b e = sym (e ∙ ap (λ (x : ℕ). any (show.listedAs x own) l) i ∙ ap (λ (x : ℕ). any (show.listedAs (number_at 8 s 0) x) l) o)
+listed_by s id own i o l b e = sym (e ∙ ap (λ (x : ℕ). any (show.listed_as x own) l) i ∙ ap (λ (x : ℕ). any (show.listed_as (number_at 8 s 0) x) l) o)
 
 abbrev no_taken : Taken
 no_taken = record { kept = no_held_row; start = no_start }
@@ -148,7 +148,7 @@ module _ (n : Node) (s : List ℕ) (counted : TablesCounted (map_at s)) (u₀ p�
           most = omega arith;
         }
 
-    module _ (h : i < (map_at s).shards.count) (row : ShardRow) (row_is : row ≡ rows.shardAt s (4008 + 272 * i)) where
+    module _ (h : i < (map_at s).shards.count) (row : ShardRow) (row_is : row ≡ rows.shard_at s (4008 + 272 * i)) where
       abbrev there : ShardRow
       there = get_or (map_at s).shards.items i no_row
 
@@ -158,14 +158,14 @@ module _ (n : Node) (s : List ℕ) (counted : TablesCounted (map_at s)) (u₀ p�
       pub going_sized : Sized row
       going_sized = row_sized n s counted g.out count i g.walking h row row_is
 
-      pub going_past : any (show.listedAs n.id.0 n.incarnation) (view_holders row.replicas) ≡ false → Going n s u₀ p₀ u p count many (i + 1)
+      pub going_past : any (show.listed_as n.id.0 n.incarnation) (view_holders row.replicas) ≡ false → Going n s u₀ p₀ u p count many (i + 1)
       going_past e = on (turn_unlisted n s counted g.out count i g.walking h row row_is e)
 
-      module _ (l : any (show.listedAs n.id.0 n.incarnation) (view_holders row.replicas) ≡ true) (v q : List ℕ) (r : RowMade)
+      module _ (l : any (show.listed_as n.id.0 n.incarnation) (view_holders row.replicas) ≡ true) (v q : List ℕ) (r : RowMade)
           (t : Takes n (collections_at s) row u v p q count many r) where
-        on_list : (st : Stores) (m : tables.Map) → show.showShard (view_node st n) m (view_shard there) ≡ listed_shown st n m there
+        on_list : (st : Stores) (m : tables.Map) → show.show_shard (view_node st n) m (view_shard there) ≡ listed_shown st n m there
         on_list st m =
-            listed st n m there (ap (λ (x : ShardRow). any (show.listedAs n.id.0 n.incarnation) (view_holders x.replicas)) (sym here) ∙ l)
+            listed st n m there (ap (λ (x : ShardRow). any (show.listed_as n.id.0 n.incarnation) (view_holders x.replicas)) (sym here) ∙ l)
 
         -- the shard is not held after
         pub going_skip : r.skip ≡ true → Going n s u₀ p₀ v q count many (i + 1)
@@ -186,7 +186,7 @@ module _ (n : Node) (s : List ℕ) (counted : TablesCounted (map_at s)) (u₀ p�
 
         module _ (e : r.skip ≡ false) where
           refused : Refused n (map_at s).collections there count → (st : Stores) (k : tables.Map) → k.collections ≡ view_collections (map_at s).collections
-              → show.tooMany (show.showings (view_node st n) k (view_map (map_at s)).shards) ≡ true
+              → show.too_many (show.showings (view_node st n) k (view_map (map_at s)).shards) ≡ true
           refused (ninth m f) =
               let a = g.few in
               let b = g.long in

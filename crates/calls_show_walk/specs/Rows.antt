@@ -76,13 +76,13 @@ pub record Takes (n : Node) (t : Collections) (row : ShardRow) (u v p q : List �
 -- .. where the map lacks its collection
 abbrev pub Keeps : Node → ShardRow → (u v : List ℕ) → (count many : ℕ) → RowMade → Type 0
 Keeps n row u v count many r =
-    (t : Collections) → ((m : tables.Map) → m.collections ≡ view_collections t → show.collectionMetric m (view_name row.key.collection) ≡ none)
+    (t : Collections) → ((m : tables.Map) → m.collections ≡ view_collections t → show.collection_metric m (view_name row.key.collection) ≡ none)
     → (p : List ℕ) → Takes n t row u v p p count many r
 
 -- .. and where it has it
 abbrev pub Knows : Node → ShardRow → Metric → (u v p q : List ℕ) → (count many : ℕ) → RowMade → Type 0
 Knows n row metric u v p q count many r =
-    (t : Collections) → ((m : tables.Map) → m.collections ≡ view_collections t → show.collectionMetric m (view_name row.key.collection) ≡ some metric)
+    (t : Collections) → ((m : tables.Map) → m.collections ≡ view_collections t → show.collection_metric m (view_name row.key.collection) ≡ some metric)
     → Takes n t row u v p q count many r
 
 -- ---- all of them

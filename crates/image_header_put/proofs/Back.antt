@@ -207,8 +207,8 @@ module _ (s : List ℕ) (count : ℕ) (counts : Counts s count) where
   pub used-rows : (code end : ℕ) → used (with_end (node_at s) code end) ≡ rows s count
   unfolding node_at rows_at
   used-rows code end =
-      ap (λ (k : ℕ). take (number_at 8 s 24) (items k (held_row_at s) 1280 48 ++ replicate (8 - k) place.noHeldRow)) in_use_lem
-      ∙ take_at (items count (held_row_at s) 1280 48) (replicate (8 - count) place.noHeldRow) (number_at 8 s 24) (length-items count (held_row_at s) 1280 48 ∙ sym counts.2)
+      ap (λ (k : ℕ). take (number_at 8 s 24) (items k (held_row_at s) 1280 48 ++ replicate (8 - k) place.no_held_row)) in_use_lem
+      ∙ take_at (items count (held_row_at s) 1280 48) (replicate (8 - count) place.no_held_row) (number_at 8 s 24) (length-items count (held_row_at s) 1280 48 ∙ sym counts.2)
 
   module _ (bytes : Bytes s) (code end : ℕ) (is : EndOf code end) (small : end < 256 ^ 8) where
     fits : Fits (with_end (node_at s) code end)

@@ -328,5 +328,5 @@ module _ (s m t : List ℕ) (count : ℕ) (counts : Counts s count) (at : ℕ) (
   pub row_back : (h : Held) → RowBecomes s m (48 + 1280 * at) (kept_as (held_row_at s (48 + 1280 * at)) h) → Bytes m → HeaderWrites m t (node_at m)
       → HeaderWrites s t (with_shard (node_at s) at h)
   row_back h r bytes w =
-      row_put (kept_as (get_or (node_at s).held at view.noHeldRow) h)
-      (row_as (ap (λ (x : HeldRow). kept_as x h) (sym (row_at s count counts at view.noHeldRow lt))) r) bytes w
+      row_put (kept_as (get_or (node_at s).held at view.no_held_row) h)
+      (row_as (ap (λ (x : HeldRow). kept_as x h) (sym (row_at s count counts at view.no_held_row lt))) r) bytes w

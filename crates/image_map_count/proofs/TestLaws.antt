@@ -86,11 +86,11 @@ module _ (s : List ℕ) (f : Formed s) where
 
 -- a node by its id
 module _ (s : List ℕ) (few : number_at 8 s 8 ≤ 32) (id at : ℕ) (is : at ≡ first_at (is_node id) (view_nodes (nodes_at s))) where
-  pub unknown_dead : number_at 8 s 8 ≤ at → false ≡ is_alive (model.nodeAt (view_nodes (nodes_at s)) id)
-  unfolding model.nodeAt
+  pub unknown_dead : number_at 8 s 8 ≤ at → false ≡ is_alive (model.node_at (view_nodes (nodes_at s)) id)
+  unfolding model.node_at
   unknown_dead h = ap is_alive (sym (row_missed 32 96 40 (node_at s) no_node (number_at 8 s 8) view_node few (is_node id) at is h))
 
   pub known-alive : (b : Bool) (code : ℕ) → at < number_at 8 s 8 → b ≡ flag_of code → code ≡ number_at 4 s (40 + 96 * at + 16)
-      → b ≡ is_alive (model.nodeAt (view_nodes (nodes_at s)) id)
-  unfolding model.nodeAt node_at
+      → b ≡ is_alive (model.node_at (view_nodes (nodes_at s)) id)
+  unfolding model.node_at node_at
   known-alive b code h e q = e ∙ ap flag_of q ∙ ap is_alive (sym (row-found 32 96 40 (node_at s) no_node (number_at 8 s 8) view_node few (is_node id) at is h))

@@ -37,24 +37,24 @@ module _ (s : List ℕ) (few : Few s) (n count place : ℕ) (counts : count ≡ 
   used : (read_as s).nodes ≡ view_nodes (nodes_at s)
   used = sym (ap (map view_node) (rows-used (number_at 8 s 8) (node_at s) 96 40 no_node 32 few.nodes))
 
-  node-none : count ≤ place → model.nodeAt (read_as s).nodes n ≡ none
-  unfolding model.nodeAt
-  node-none h = ap (λ (l : List tables.NodeInfo). model.nodeAt l n) used ∙ missed view_node (nodes_at s).items (number_at 8 s 8) long (is_node n) place is (omega arith)
+  node-none : count ≤ place → model.node_at (read_as s).nodes n ≡ none
+  unfolding model.node_at
+  node-none h = ap (λ (l : List tables.NodeInfo). model.node_at l n) used ∙ missed view_node (nodes_at s).items (number_at 8 s 8) long (is_node n) place is (omega arith)
 
-  node_some : place < count → model.nodeAt (read_as s).nodes n ≡ some (view_node (node_at s (40 + 96 * place)))
-  unfolding model.nodeAt
+  node_some : place < count → model.node_at (read_as s).nodes n ≡ some (view_node (node_at s (40 + 96 * place)))
+  unfolding model.node_at
   node_some h =
-      ap (λ (l : List tables.NodeInfo). model.nodeAt l n) used ∙ found view_node (nodes_at s).items (number_at 8 s 8) long (is_node n) place is no_node (omega arith)
+      ap (λ (l : List tables.NodeInfo). model.node_at l n) used ∙ found view_node (nodes_at s).items (number_at 8 s 8) long (is_node n) place is no_node (omega arith)
       ∙ ap (λ (r : NodeRow). some (view_node r)) (rows_row 32 96 40 (node_at s) no_node (number_at 8 s 8) few.nodes place no_node (omega arith))
 
-  pub alive-none : count ≤ place → false ≡ is_alive (model.nodeAt (read_as s).nodes n)
+  pub alive-none : count ≤ place → false ≡ is_alive (model.node_at (read_as s).nodes n)
   alive-none h = sym (ap is_alive (node-none h))
 
-  pub alive_some : place < count → (v : ℕ) → v ≡ number_at 4 s (40 + 96 * place + 16) → (b : Bool) → b ≡ flag_of v → b ≡ is_alive (model.nodeAt (read_as s).nodes n)
+  pub alive_some : place < count → (v : ℕ) → v ≡ number_at 4 s (40 + 96 * place + 16) → (b : Bool) → b ≡ flag_of v → b ≡ is_alive (model.node_at (read_as s).nodes n)
   alive_some h v e b f = f ∙ ap flag_of e ∙ sym (ap is_alive (node_some h) ∙ alive-is s (40 + 96 * place))
 
-  pub incarnation_none : count ≤ place → 0 ≡ incarnation_of (model.nodeAt (read_as s).nodes n)
+  pub incarnation_none : count ≤ place → 0 ≡ incarnation_of (model.node_at (read_as s).nodes n)
   incarnation_none h = sym (ap incarnation_of (node-none h))
 
-  pub incarnation_some : place < count → (v : ℕ) → v ≡ number_at 8 s (40 + 96 * place + 8) → v ≡ incarnation_of (model.nodeAt (read_as s).nodes n)
+  pub incarnation_some : place < count → (v : ℕ) → v ≡ number_at 8 s (40 + 96 * place + 8) → v ≡ incarnation_of (model.node_at (read_as s).nodes n)
   incarnation_some h v e = e ∙ sym (ap incarnation_of (node_some h) ∙ incarnation_is s (40 + 96 * place))

@@ -42,7 +42,7 @@ module _ {A B : Type 0} (get : List ℕ → ℕ → A) (w base x : ℕ) (free : 
         let done = put_over get w base x free apart same s t n at b row h stored there refl in
         let k = rows_long in
         let is : put lt (v row) (map v rows) ≡ set (map v rows) at (v row) =
-        tables.put-over lt (v row) (v free) strict (map v rows) (omega (arith, here)) (ap (lt (v row)) (row_at h) ∙ level)
+        tables.put_over lt (v row) (v free) strict (map v rows) (omega (arith, here)) (ap (lt (v row)) (row_at h) ∙ level)
         ∙ ap (λ (i : ℕ). set (map v rows) i (v row)) (sym here) in
         let l : length (put lt (v row) (map v rows)) ≡ n = ap length is ∙ length-set (map v rows) at (v row) ∙ rows_long in
         (subst (λ (i : ℕ). Apart s t x base (base + w * i)) (sym l) done.0, ap (map v) done.1 ∙ map-set v rows at row ∙ sym is)

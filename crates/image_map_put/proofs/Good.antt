@@ -123,8 +123,8 @@ shard_of_lem v g =
 abbrev Small : Coded → Type 0
 Small c = (c.first < 256 ^ 8) × (c.second < 256 ^ 8)
 
-small_of : (c a b : ℕ) (k : keys.Key) → a < 256 ^ 8 → b < 256 ^ 8 → Small (outcome_coded (image_outcome (outcome_of (codes.outcomeOf (coded c a b)) k)))
-unfolding codes.outcomeOf codes.rejectionOf
+small_of : (c a b : ℕ) (k : keys.Key) → a < 256 ^ 8 → b < 256 ^ 8 → Small (outcome_coded (image_outcome (outcome_of (codes.outcome_of (coded c a b)) k)))
+unfolding codes.outcome_of codes.rejection_of
 small_of zero a b k p q = (omega arith, omega arith)
 small_of (suc zero) a b k p q = (omega arith, omega arith)
 small_of (suc (suc zero)) a b k p q = (omega arith, omega arith)

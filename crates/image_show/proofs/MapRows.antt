@@ -48,33 +48,33 @@ module _ (s : List ℕ) where
 
   -- the rows in use are in the arrays
   pub nodes-fit : (nodes_at s).count ≤ 32 → (nodes_at s).count ≤ length (nodes_at s).items
-  nodes-fit h = let l = rows_long 32 96 40 (rows.nodeAt s) no_node (number_at 8 s 8) h in omega arith
+  nodes-fit h = let l = rows_long 32 96 40 (rows.node_at s) no_node (number_at 8 s 8) h in omega arith
 
   pub collections-fit : (collections_at s).count ≤ 16 → (collections_at s).count ≤ length (collections_at s).items
-  collections-fit h = let l = rows_long 16 56 3112 (rows.collectionAt s) no_collection (number_at 8 s 16) h in omega arith
+  collections-fit h = let l = rows_long 16 56 3112 (rows.collection_at s) no_collection (number_at 8 s 16) h in omega arith
 
   pub shards-fit : (map_at s).shards.count ≤ 64 → (map_at s).shards.count ≤ length (map_at s).shards.items
   unfolding map_at
-  shards-fit h = let l = rows_long 64 272 4008 (rows.shardAt s) no_shard (number_at 8 s 24) h in omega arith
+  shards-fit h = let l = rows_long 64 272 4008 (rows.shard_at s) no_shard (number_at 8 s 24) h in omega arith
 
   -- and where each stands
-  pub node_row : (nodes_at s).count ≤ 32 → (i : ℕ) (d : NodeRow) → i < (nodes_at s).count → get_or (nodes_at s).items i d ≡ rows.nodeAt s (40 + 96 * i)
-  node_row h i d lt = rows_row 32 96 40 (rows.nodeAt s) no_node (number_at 8 s 8) h i d lt
+  pub node_row : (nodes_at s).count ≤ 32 → (i : ℕ) (d : NodeRow) → i < (nodes_at s).count → get_or (nodes_at s).items i d ≡ rows.node_at s (40 + 96 * i)
+  node_row h i d lt = rows_row 32 96 40 (rows.node_at s) no_node (number_at 8 s 8) h i d lt
 
   pub collection-row : (collections_at s).count ≤ 16 → (i : ℕ) (d : CollectionRow) → i < (collections_at s).count
-      → get_or (collections_at s).items i d ≡ rows.collectionAt s (3112 + 56 * i)
-  collection-row h i d lt = rows_row 16 56 3112 (rows.collectionAt s) no_collection (number_at 8 s 16) h i d lt
+      → get_or (collections_at s).items i d ≡ rows.collection_at s (3112 + 56 * i)
+  collection-row h i d lt = rows_row 16 56 3112 (rows.collection_at s) no_collection (number_at 8 s 16) h i d lt
 
   pub shard-row : (map_at s).shards.count ≤ 64 → (i : ℕ) (d : ShardRow) → i < (map_at s).shards.count
-      → get_or (map_at s).shards.items i d ≡ rows.shardAt s (4008 + 272 * i)
+      → get_or (map_at s).shards.items i d ≡ rows.shard_at s (4008 + 272 * i)
   unfolding map_at
-  shard-row h i d lt = rows_row 64 272 4008 (rows.shardAt s) no_shard (number_at 8 s 24) h i d lt
+  shard-row h i d lt = rows_row 64 272 4008 (rows.shard_at s) no_shard (number_at 8 s 24) h i d lt
 
 -- ---- a turn of the walk
 
 module _ (n : Node) (s : List ℕ) (counted : TablesCounted (map_at s)) (out : List Taken) (count i : ℕ)
     (w : Walking n (map_at s).shards.items (map_at s).shards.count (map_at s).collections out count i) (h : i < (map_at s).shards.count)
-    (row : ShardRow) (row_is : row ≡ rows.shardAt s (4008 + 272 * i)) where
+    (row : ShardRow) (row_is : row ≡ rows.shard_at s (4008 + 272 * i)) where
   abbrev Next : List Taken → (count i : ℕ) → Type 0
   Next o c j = Walking n (map_at s).shards.items (map_at s).shards.count (map_at s).collections o c j
 
@@ -90,20 +90,20 @@ module _ (n : Node) (s : List ℕ) (counted : TablesCounted (map_at s)) (out : L
   pub row_sized : Sized row
   row_sized = subst Sized (sym here) (sized-at (map_at s).shards counted.shards fits i h no_row)
 
-  pub turn_unlisted : any (show.listedAs n.id.0 n.incarnation) (view_holders row.replicas) ≡ false → Next out count (i + 1)
+  pub turn_unlisted : any (show.listed_as n.id.0 n.incarnation) (view_holders row.replicas) ≡ false → Next out count (i + 1)
   turn_unlisted u =
       walk_skip n (map_at s).shards.items (map_at s).shards.count (map_at s).collections out count i w fits h no_row
-      (λ st m e. unlisted st n m there (ap (λ (x : ShardRow). any (show.listedAs n.id.0 n.incarnation) (view_holders x.replicas)) (sym here) ∙ u))
+      (λ st m e. unlisted st n m there (ap (λ (x : ShardRow). any (show.listed_as n.id.0 n.incarnation) (view_holders x.replicas)) (sym here) ∙ u))
 
-  module _ (l : any (show.listedAs n.id.0 n.incarnation) (view_holders row.replicas) ≡ true) (r : RowShown)
+  module _ (l : any (show.listed_as n.id.0 n.incarnation) (view_holders row.replicas) ≡ true) (r : RowShown)
       (shows : ShowsListed n (collections_at s) row r) where
     shown : ShowsListed n (map_at s).collections there r
     unfolding map_at
     shown = subst (λ (x : ShardRow). ShowsListed n (collections_at s) x r) here shows
 
-    on_list : (st : Stores) (m : tables.Map) → show.showShard (view_node st n) m (view_shard there) ≡ listed_shown st n m there
+    on_list : (st : Stores) (m : tables.Map) → show.show_shard (view_node st n) m (view_shard there) ≡ listed_shown st n m there
     on_list st m =
-        listed st n m there (ap (λ (x : ShardRow). any (show.listedAs n.id.0 n.incarnation) (view_holders x.replicas)) (sym here) ∙ l)
+        listed st n m there (ap (λ (x : ShardRow). any (show.listed_as n.id.0 n.incarnation) (view_holders x.replicas)) (sym here) ∙ l)
 
     pub turn_skip : r.skip ≡ true → Next out count (i + 1)
     turn_skip q =

@@ -67,7 +67,7 @@ module _ (n : Node) (m : List ℕ) where
   pub quiet_start : Quieting 0 0
   quiet_start s = refl
 
-  module _ (tables : TablesCounted (map_at m)) (j i : ℕ) (w : Quieting j i) (h : i < total) (row : ShardRow) (is : row ≡ rows.shardAt m (4008 + 272 * i)) where
+  module _ (tables : TablesCounted (map_at m)) (j i : ℕ) (w : Quieting j i) (h : i < total) (row : ShardRow) (is : row ≡ rows.shard_at m (4008 + 272 * i)) where
     abbrev there : ShardRow
     there = get_or shards i no_row
 
@@ -82,10 +82,10 @@ module _ (n : Node) (m : List ℕ) where
 
     -- the definition's answer for the row
     abbrev shown : Stores → Option show.Showing
-    shown s = show.showShard (view_node s n) (view_map (map_at m)) (view_shard row)
+    shown s = show.show_shard (view_node s n) (view_map (map_at m)) (view_shard row)
 
     opened : (s : Stores) → show.showings (view_node s n) (view_map (map_at m)) (map view_shard (take total shards))
-        ≡ map (still_as s) (take j n.held) ++ show.orNot (shown s) (show.showings (view_node s n) (view_map (map_at m)) (map view_shard rest))
+        ≡ map (still_as s) (take j n.held) ++ show.or_not (shown s) (show.showings (view_node s n) (view_map (map_at m)) (map view_shard rest))
     unfolding show.showings
     opened s =
         w s
@@ -95,19 +95,19 @@ module _ (n : Node) (m : List ℕ) where
     pub quiet_sized : Sized row
     quiet_sized = subst Sized here (sized-at (map_at m).shards tables.shards fits i h no_row)
 
-    pub quiet_past : any (show.listedAs n.id.0 n.incarnation) (view_holders row.replicas) ≡ false → Quieting j (i + 1)
+    pub quiet_past : any (show.listed_as n.id.0 n.incarnation) (view_holders row.replicas) ≡ false → Quieting j (i + 1)
     quiet_past u s =
         opened s
-        ∙ ap (λ (o : Option show.Showing). map (still_as s) (take j n.held) ++ show.orNot o (show.showings (view_node s n) (view_map (map_at m)) (map view_shard rest)))
+        ∙ ap (λ (o : Option show.Showing). map (still_as s) (take j n.held) ++ show.or_not o (show.showings (view_node s n) (view_map (map_at m)) (map view_shard rest)))
         (unlisted s n (view_map (map_at m)) row u)
 
-    module _ (l : any (show.listedAs n.id.0 n.incarnation) (view_holders row.replicas) ≡ true) (le : n.count ≤ length n.held) (lt : j < n.count)
+    module _ (l : any (show.listed_as n.id.0 n.incarnation) (view_holders row.replicas) ≡ true) (le : n.count ≤ length n.held) (lt : j < n.count)
         (place : j ≡ lead (other_key (view_key row.key)) (used n)) (q : QuietRow (get_or n.held j no_held_row).held n.id.0 row) where
       abbrev kept : HeldRow
       kept = get_or n.held j no_held_row
 
-      by_metric : (s : Stores) (o : Option Metric) → show.showListed n.id.0 (view_shard row) o (some (view_held_row s kept)) ≡ some (still_as s kept)
-      unfolding show.showListed
+      by_metric : (s : Stores) (o : Option Metric) → show.show_listed n.id.0 (view_shard row) o (some (view_held_row s kept)) ≡ some (still_as s kept)
+      unfolding show.show_listed
       by_metric s none = ap (λ (r : List Replica). some (show.still (record {
         key = (view_held_row s kept).key;
         replica = (view_held_row s kept).replica;
@@ -121,9 +121,9 @@ module _ (n : Node) (m : List ℕ) where
       found : (s : Stores) → shown s ≡ some (still_as s kept)
       found s =
           listed s n (view_map (map_at m)) row l
-          ∙ ap (show.showListed n.id.0 (view_shard row) (show.collectionMetric (view_map (map_at m)) (view_name row.key.collection)))
+          ∙ ap (show.show_listed n.id.0 (view_shard row) (show.collection_metric (view_map (map_at m)) (view_name row.key.collection)))
           (shard_some s n (view_key row.key) le j place lt)
-          ∙ by_metric s (show.collectionMetric (view_map (map_at m)) (view_name row.key.collection))
+          ∙ by_metric s (show.collection_metric (view_map (map_at m)) (view_name row.key.collection))
 
       pub quiet_next : Quieting (j + 1) (i + 1)
       quiet_next s =
@@ -131,7 +131,7 @@ module _ (n : Node) (m : List ℕ) where
           let one : map (still_as s) (take (j + 1) n.held) ≡ map (still_as s) (take j n.held) ++ (still_as s kept ∷ []) =
           ap (map (still_as s)) (take_next n.held j no_held_row (omega arith)) ∙ map-append (still_as s) (take j n.held) (kept ∷ []) in
           opened s
-          ∙ ap (λ (o : Option show.Showing). map (still_as s) (take j n.held) ++ show.orNot o more) (found s)
+          ∙ ap (λ (o : Option show.Showing). map (still_as s) (take j n.held) ++ show.or_not o more) (found s)
           ∙ sym (append_assoc (map (still_as s) (take j n.held)) (still_as s kept ∷ []) more)
           ∙ ap (λ (r : List show.Showing). r ++ more) (sym one)
 
@@ -155,9 +155,9 @@ module _ (s m : List ℕ) (count : ℕ) (counts : Counts s count) (tables : Tabl
   same_count : (node_at s).count ≡ count
   same_count = counted s ∙ counts.2
 
-  module _ (j i : ℕ) (w : Next j i) (h : i < (map_at m).shards.count) (row : ShardRow) (is : row ≡ rows.shardAt m (4008 + 272 * i)) (me own : ℕ)
+  module _ (j i : ℕ) (w : Next j i) (h : i < (map_at m).shards.count) (row : ShardRow) (is : row ≡ rows.shard_at m (4008 + 272 * i)) (me own : ℕ)
       (id : me ≡ number_at 8 s 0) (incarnation : own ≡ number_at 8 s 8) where
-    listed_same : any (show.listedAs (node_at s).id.0 (node_at s).incarnation) (view_holders row.replicas) ≡ any (show.listedAs me own) (view_holders row.replicas)
+    listed_same : any (show.listed_as (node_at s).id.0 (node_at s).incarnation) (view_holders row.replicas) ≡ any (show.listed_as me own) (view_holders row.replicas)
     unfolding node_at
     listed_same = rw (id, incarnation)
 
@@ -165,10 +165,10 @@ module _ (s m : List ℕ) (count : ℕ) (counts : Counts s count) (tables : Tabl
     unfolding node_at
     me-is = id
 
-    pub turn_past : any (show.listedAs me own) (view_holders row.replicas) ≡ false → Next j (i + 1)
+    pub turn_past : any (show.listed_as me own) (view_holders row.replicas) ≡ false → Next j (i + 1)
     turn_past u = quiet_past (node_at s) m tables j i w h row is (listed_same ∙ u)
 
-    pub turn_on : any (show.listedAs me own) (view_holders row.replicas) ≡ true → j < count → (p : ℕ)
+    pub turn_on : any (show.listed_as me own) (view_holders row.replicas) ≡ true → j < count → (p : ℕ)
         → p ≡ lead (other_key (view_key row.key)) (take count (node_at s).held) → p ≡ j → QuietRow (held_row_at s (48 + 1280 * j)).held me row → Next (j + 1) (i + 1)
     turn_on l lt p e z q =
         quiet_next (node_at s) m tables j i w h row is (listed_same ∙ l) (in_array s count counts) (place_in s count counts j lt)

@@ -81,17 +81,17 @@ any-mid p (y ∷ before) x l e = go (p y) (any-mid p before x l e)
     go true q = refl
     go false q = q
 
-none-new : {B : Type 0} (f : Peer → B) (before l : List Peer) → collect (show.isNew (before ++ l)) f l ≡ []
+none-new : {B : Type 0} (f : Peer → B) (before l : List Peer) → collect (show.is_new (before ++ l)) f l ≡ []
 unfolding collect
 none-new f before [] = refl
 none-new f before (p ∷ l) =
     let there = any-mid (of_node p.node.0) before p l (eq-eqb p.node.0 p.node.0 refl) in
     let q : (before ++ (p ∷ [])) ++ l ≡ before ++ (p ∷ l) = append_assoc before (p ∷ []) l in
-    rw there (ap (λ (o : List Peer). collect (show.isNew o) f l) (sym q) ∙ none-new f (before ++ (p ∷ [])) l)
+    rw there (ap (λ (o : List Peer). collect (show.is_new o) f l) (sym q) ∙ none-new f (before ++ (p ∷ [])) l)
 
 pub starts_none : (k : Key) (e : ℕ) (metric : Metric) (l : List Peer) → show.starts k e metric l l ≡ []
 unfolding show.starts
-starts_none k e metric l = none-new (show.workerFor k e metric) [] l
+starts_none k e metric l = none-new (show.worker_for k e metric) [] l
 
 -- ---- the shard as the definition has it
 
@@ -103,22 +103,22 @@ module _ (me : ℕ) (i : ShardInfo) (metric : Metric) (h : held.Held) (same : h.
   fresh-same = ap (λ (r : List Replica). held_as h r h.role h.own h.peers) (sym same)
 
   -- a record that stays, by its role
-  kept-still : (role : Role) → h.role ≡ role → map (show.retained i.replicas) h.peers ≡ h.peers → show.withRows me [] i.replicas h.peers ≡ h.peers
-      → show.keptAs me i metric h role ≡ show.still h
-  unfolding show.keptAs
+  kept-still : (role : Role) → h.role ≡ role → map (show.retained i.replicas) h.peers ≡ h.peers → show.with_rows me [] i.replicas h.peers ≡ h.peers
+      → show.kept_as me i metric h role ≡ show.still h
+  unfolding show.kept_as
   kept-still Backup e m w = ap show.still fresh-same
   kept-still (Primary epoch end) e m w =
       rw (m, w, starts_none h.key epoch.0 metric h.peers)
       (ap (λ (r : List Replica). show.still (held_as h r (Primary epoch end) h.own h.peers)) (sym same)
       ∙ ap (λ (r : Role). show.still (held_as h h.holders r h.own h.peers)) (sym e))
 
-  shown_led : show.isPrimary i.primary me ≡ true → show.promotes h i ≡ false → any (lost i.replicas) h.peers ≡ false
-      → show.withRows me [] i.replicas h.peers ≡ h.peers → show.showHeld me i metric h ≡ show.still h
-  unfolding show.showHeld
+  shown_led : show.is_primary i.primary me ≡ true → show.promotes h i ≡ false → any (lost i.replicas) h.peers ≡ false
+      → show.with_rows me [] i.replicas h.peers ≡ h.peers → show.show_held me i metric h ≡ show.still h
+  unfolding show.show_held
   shown_led p q l w = rw (p, q) (kept-still h.role refl (all-still i.replicas h.peers l) w)
 
-  shown-left : show.isPrimary i.primary me ≡ false → h.role ≡ Backup → h.own ≡ false → h.peers ≡ [] → show.showHeld me i metric h ≡ show.still h
-  unfolding show.showHeld
+  shown-left : show.is_primary i.primary me ≡ false → h.role ≡ Backup → h.own ≡ false → h.peers ≡ [] → show.show_held me i metric h ≡ show.still h
+  unfolding show.show_held
   shown-left p r o l =
       rw p
       (ap (λ (x : List Replica). show.still (held_as h x Backup false [])) (sym same)
@@ -128,13 +128,13 @@ module _ (me : ℕ) (i : ShardInfo) (metric : Metric) (h : held.Held) (same : h.
 
 -- ---- and by the tests
 
-pub leader-is : (l : Leader) (me : ℕ) → leader_is l me ≡ show.isPrimary (leader_of l) me
+pub leader-is : (l : Leader) (me : ℕ) → leader_is l me ≡ show.is_primary (leader_of l) me
 leader-is Nobody me = refl
 leader-is (At n) me = refl
 
 module _ (h : Held) (me : ℕ) (row : ShardRow) (holders : HoldsAs h row.replicas) (leader : Leader) (is : leader_of leader ≡ (view_shard row).primary) where
-  named : (b : Bool) → leader_is leader me ≡ b → show.isPrimary (view_shard row).primary me ≡ b
-  named b e = ap (λ (o : Option ℕ). show.isPrimary o me) (sym is) ∙ sym (leader-is leader me) ∙ e
+  named : (b : Bool) → leader_is leader me ≡ b → show.is_primary (view_shard row).primary me ≡ b
+  named b e = ap (λ (o : Option ℕ). show.is_primary o me) (sym is) ∙ sym (leader-is leader me) ∙ e
 
   pub quiet_led : leader_is leader me ≡ true → LedOn h me row → QuietRow h me row
   quiet_led p w = record {
@@ -159,7 +159,7 @@ module _ (s : List ℕ) (at : ℕ) where
 
   pub led_made : (me : ℕ) (row : ShardRow) (role : Role) (epoch n : ℕ) → role ≡ role_at s (at + 108) → epoch ≡ number_at 8 s (at + 64) → n ≡ number_at 8 s (at + 88)
       → rises role epoch row.epoch.0 ≡ false → any (lost (view_holders row.replicas)) (take n (peers_at s (at + 256))) ≡ false
-      → show.withRows me [] (view_holders row.replicas) (take n (peers_at s (at + 256))) ≡ take n (peers_at s (at + 256))
+      → show.with_rows me [] (view_holders row.replicas) (take n (peers_at s (at + 256))) ≡ take n (peers_at s (at + 256))
       → LedOn (held_row_at s at).held me row
   led_made me row role epoch n r e c up l w =
       let rs = view_holders row.replicas in
@@ -169,7 +169,7 @@ module _ (s : List ℕ) (at : ℕ) where
         stays = ap (λ (x : Role). rises x (held_row_at s at).held.epoch.0 row.epoch.0) (role_is s at ∙ sym r)
             ∙ ap (λ (x : ℕ). rises role x row.epoch.0) (epoch-is s at ∙ sym e) ∙ up;
         members = ap (any (lost rs)) (sym p) ∙ l;
-        rows = ap (show.withRows me [] rs) (sym p) ∙ w ∙ p;
+        rows = ap (show.with_rows me [] rs) (sym p) ∙ w ∙ p;
       }
 
 -- ---- replicas one by one

@@ -32,7 +32,7 @@ HoldsAs h l = take h.holders h.replicas ≡ view_holders l
 pub record LedOn (h : Held) (me : ℕ) (row : ShardRow) : Type 0 where
   pub stays : rises h.role h.epoch.0 row.epoch.0 ≡ false
   pub members : any (lost (view_holders row.replicas)) (take h.count h.peers) ≡ false
-  pub rows : show.withRows me [] (view_holders row.replicas) (take h.count h.peers) ≡ take h.count h.peers
+  pub rows : show.with_rows me [] (view_holders row.replicas) (take h.count h.peers) ≡ take h.count h.peers
 
 -- a backup that tracks nothing
 pub record LeftOn (h : Held) : Type 0 where
@@ -44,7 +44,7 @@ pub record LeftOn (h : Held) : Type 0 where
 pub record QuietRow (h : Held) (me : ℕ) (row : ShardRow) : Type 0 where
   pub holders : HoldsAs h row.replicas
   pub same : (k : Key) (l : Log) (v : Vectors) (metric : Metric)
-      → show.showHeld me (view_shard row) metric (view_held k l v h) ≡ show.still (view_held k l v h)
+      → show.show_held me (view_shard row) metric (view_held k l v h) ≡ show.still (view_held k l v h)
 
 -- every shard held is, and no other
 pub record QuietMap (n : Node) (m : ShardMap) : Type 0 where

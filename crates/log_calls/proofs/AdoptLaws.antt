@@ -44,14 +44,14 @@ module _ (b : List ℕ) (own : Epoch) (s : Store) (count stored : ℕ) where
       → Calls (adopt_lent b own.0 s) own.0 s s (record { answer = A.Refused 21; epoch = own; count = count; stored = stored })
   unfolding adopt_lent
   adopts_unread h =
-      let n = none_of (message.decodeNewEpoch b) (λ w e. h (new_epoch_part w) (new_epoch_answered b w e)) in
+      let n = none_of (message.decode_new_epoch b) (λ w e. h (new_epoch_part w) (new_epoch_answered b w e)) in
       calls-refused (adopt_lent b own.0 s) own s undecodable count stored (λ m. tested-none _ _ _ _ _ n)
 
   module _ (p : NewEpochPart) (i : message_of b ≡ NewEpoch p) where
     abbrev w : message.NewEpoch
     w = (new_epoch_decoded b p i).read
 
-    read : message.decodeNewEpoch b ≡ some w
+    read : message.decode_new_epoch b ≡ some w
     read = (new_epoch_decoded b p i).decoded
 
     pub adopts_malformed : lent_fits s ≡ false

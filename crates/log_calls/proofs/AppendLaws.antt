@@ -73,7 +73,7 @@ module _ (b : List ℕ) (own : Epoch) (s : Store) (count stored : ℕ) where
       → Calls (append_lent b own.0 s) own.0 s s (record { answer = A.Refused 21; epoch = own; count = count; stored = stored })
   unfolding append_lent
   appends_unread h =
-      let n = none_of (message.decodeWrite b) (λ w e. h (write_part w) (write-answered b w e)) in
+      let n = none_of (message.decode_write b) (λ w e. h (write_part w) (write-answered b w e)) in
       calls-refused (append_lent b own.0 s) own s undecodable count stored (λ m. tested-none _ _ _ _ _ n)
 
   module _ (p : WritePart) (i : message_of b ≡ Write p) where
@@ -81,7 +81,7 @@ module _ (b : List ℕ) (own : Epoch) (s : Store) (count stored : ℕ) where
     abbrev w : message.Write
     w = (write_decoded b p i).read
 
-    read : message.decodeWrite b ≡ some w
+    read : message.decode_write b ≡ some w
     read = (write_decoded b p i).decoded
 
     op-is : op_in b p.op ≡ w.op

@@ -44,7 +44,7 @@ outcome_as_lem (Stale o) false x r n e = ap (λ (v : Stored). gives {S = ShardRe
 outcome_as_lem Full true x r n e = refl
 outcome_as_lem Full false x r n e = none_some e
 
-pub down_as : (a : Outcome) → turned_down (outcome_as a) ≡ true → arrivals.turnedDown a ≡ true
+pub down_as : (a : Outcome) → turned_down (outcome_as a) ≡ true → arrivals.turned_down a ≡ true
 down_as (Through o) e = e
 down_as (Gap o) e = e
 down_as (Stale o) e = e
@@ -57,14 +57,14 @@ module _ (b : List ℕ) (own : Epoch) (s : Store) (count stored : ℕ) where
       → Calls (store_lent b own.0 s) own.0 s s (record { answer = A.Refused 21; epoch = own; count = count; stored = stored })
   unfolding store_lent
   stores-unread h =
-      let n = none_of (message.decodeReplicate b) (λ w e. h (replicate_part w) (replicate_answered b w e)) in
+      let n = none_of (message.decode_replicate b) (λ w e. h (replicate_part w) (replicate_answered b w e)) in
       calls-refused (store_lent b own.0 s) own s undecodable count stored (λ m. tested-none _ _ _ _ _ n)
 
   module _ (p : ReplicatePart) (i : message_of b ≡ Replicate p) where
     abbrev w : message.Replicated
     w = (replicate_decoded b p i).read
 
-    read : message.decodeReplicate b ≡ some w
+    read : message.decode_replicate b ≡ some w
     read = (replicate_decoded b p i).decoded
 
     op-is : op_in b p.op ≡ w.op

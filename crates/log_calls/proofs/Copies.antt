@@ -81,14 +81,14 @@ module _ (b : List ℕ) (own : Epoch) (s : Store) (count stored : ℕ) where
       → Calls (copy_lent b own.0 s) own.0 s s (record { answer = A.Refused 21; epoch = own; count = count; stored = stored })
   unfolding copy_lent
   copies-unread h =
-      let n = none_of (message.decodeCopyShard b) (λ w e. h (copy_part w) (copy_answered b w e)) in
+      let n = none_of (message.decode_copy_shard b) (λ w e. h (copy_part w) (copy_answered b w e)) in
       calls-refused (copy_lent b own.0 s) own s undecodable count stored (λ m. tested-none _ _ _ _ _ n)
 
   module _ (p : CopyPart) (i : message_of b ≡ CopyShard p) where
     abbrev w : message.Copied
     w = (copy_decoded b p i).read
 
-    read : message.decodeCopyShard b ≡ some w
+    read : message.decode_copy_shard b ≡ some w
     read = (copy_decoded b p i).decoded
 
     entries_is : entries_in b p.entries ≡ w.entries

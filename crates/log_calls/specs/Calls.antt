@@ -41,7 +41,7 @@ append_to r op =
 -- 23 on the wire: a Write's operation; neither its key nor its epoch is looked at
 unfoldable pub append_lent : List ℕ → (own : ℕ) → Store → Metric → After
 append_lent b own s m =
-    tested (message.decodeWrite b) (λ w. op_in_domain w.op) s (replica_in own m s) (λ w. append_to (replica_in own m s) (stored_op w.op))
+    tested (message.decode_write b) (λ w. op_in_domain w.op) s (replica_in own m s) (λ w. append_to (replica_in own m s) (stored_op w.op))
 
 -- shard.rs, Stored: 30, 31 or 32 on the wire
 abbrev pub stored_as : Stored → Answer
@@ -58,7 +58,7 @@ store_to r epoch e =
 -- 20 on the wire: one entry, stored under the message's epoch
 unfoldable pub store_lent : List ℕ → (own : ℕ) → Store → Metric → After
 store_lent b own s m =
-    tested (message.decodeReplicate b) (λ w. op_in_domain w.op) s (replica_in own m s)
+    tested (message.decode_replicate b) (λ w. op_in_domain w.op) s (replica_in own m s)
     (λ w. store_to (replica_in own m s) w.epoch (record { epoch = w.epoch; offset = w.offset; op = stored_op w.op }))
 
 -- node.rs, on_copy: entries one after the other; an empty batch is Stored at any epoch, and 23 stores nothing
@@ -72,7 +72,7 @@ copy_to r epoch es =
 -- 22 on the wire: entries under their own epochs
 unfoldable pub copy_lent : List ℕ → (own : ℕ) → Store → Metric → After
 copy_lent b own s m =
-    tested (message.decodeCopyShard b) (λ w. every entry_in_domain w.entries) s (replica_in own m s)
+    tested (message.decode_copy_shard b) (λ w. every entry_in_domain w.entries) s (replica_in own m s)
     (λ w. copy_to (replica_in own m s) w.epoch (map stored_entry w.entries))
 
 -- shard.rs, adopt: an older epoch is StaleEpoch own; else the log is aligned, under the new epoch
@@ -84,7 +84,7 @@ adopt_to r epoch end t =
 -- 21 on the wire: it has no vector
 unfoldable pub adopt_lent : List ℕ → (own : ℕ) → Store → Metric → After
 adopt_lent b own s m =
-    tested (message.decodeNewEpoch b) (λ w. true) s (replica_in own m s) (λ w. adopt_to (replica_in own m s) w.epoch w.end w.table)
+    tested (message.decode_new_epoch b) (λ w. true) s (replica_in own m s) (λ w. adopt_to (replica_in own m s) w.epoch w.end w.table)
 
 -- what became of entries, as an answer; Full is 23
 abbrev pub outcome_as : Outcome → Answer

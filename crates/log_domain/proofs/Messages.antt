@@ -85,40 +85,40 @@ module _ (s : List ℕ) where
 -- ---- the messages as `spec`'s decoder reads them
 
 module _ (s : List ℕ) where
-  replicated : (m : message.Replicated) → message.decodeReplicate s ≡ some m → OpThere s (op_shown 54 m.op) × (op_in s (op_shown 54 m.op) ≡ m.op)
-  unfolding message.decodeReplicate whole
+  replicated : (m : message.Replicated) → message.decode_replicate s ≡ some m → OpThere s (op_shown 54 m.op) × (op_in s (op_shown 54 m.op) ≡ m.op)
+  unfolding message.decode_replicate whole
   replicated m d =
-      let w = whenever_some (whole message.replicateF s) (message.replicateOf (value message.replicateF s 0)) m d in
+      let w = whenever_some (whole message.replicate_f s) (message.replicate_of (value message.replicate_f s 0)) m d in
       subst (λ (z : message.Replicated). OpThere s (op_shown 54 z.op) × (op_in s (op_shown 54 z.op) ≡ z.op)) w.1
       (op-there s 54 (and_right _ _ (and_right _ _ (and_right _ _ (and_right _ _ (and_left _ _ w.0))))), op-is s 54)
 
-  written : (m : message.Write) → message.decodeWrite s ≡ some m → OpThere s (op_shown 46 m.op) × (op_in s (op_shown 46 m.op) ≡ m.op)
-  unfolding message.decodeWrite whole
+  written : (m : message.Write) → message.decode_write s ≡ some m → OpThere s (op_shown 46 m.op) × (op_in s (op_shown 46 m.op) ≡ m.op)
+  unfolding message.decode_write whole
   written m d =
-      let w = whenever_some (whole message.writeF s) (message.writeOf (value message.writeF s 0)) m d in
+      let w = whenever_some (whole message.write_f s) (message.write_of (value message.write_f s 0)) m d in
       subst (λ (z : message.Write). OpThere s (op_shown 46 z.op) × (op_in s (op_shown 46 z.op) ≡ z.op)) w.1
       (op-there s 46 (and_right _ _ (and_right _ _ (and_right _ _ (and_left _ _ w.0)))), op-is s 46)
 
-  queried : (m : message.Query) → message.decodeSearch s ≡ some m → VectorThere s (part 51 (length m.bits)) × (bits_in s (part 51 (length m.bits)) ≡ m.bits)
-  unfolding message.decodeSearch whole
+  queried : (m : message.Query) → message.decode_search s ≡ some m → VectorThere s (part 51 (length m.bits)) × (bits_in s (part 51 (length m.bits)) ≡ m.bits)
+  unfolding message.decode_search whole
   queried m d =
-      let w = whenever_some (whole message.searchF s) (message.searchOf (value message.searchF s 0)) m d in
+      let w = whenever_some (whole message.search_f s) (message.search_of (value message.search_f s 0)) m d in
       subst (λ (z : message.Query). VectorThere s (part 51 (length z.bits)) × (bits_in s (part 51 (length z.bits)) ≡ z.bits)) w.1
       (vector-there s 50 (and_right _ _ (and_right _ _ (and_right _ _ (and_right _ _ (and_left _ _ w.0))))), vector-is s 50)
 
-  copied : (m : message.Copied) → message.decodeCopyShard s ≡ some m
+  copied : (m : message.Copied) → message.decode_copy_shard s ≡ some m
       → EntriesThere s (part 48 (length m.entries)) × (entries_in s (part 48 (length m.entries)) ≡ m.entries)
-  unfolding message.decodeCopyShard whole
+  unfolding message.decode_copy_shard whole
   copied m d =
-      let w = whenever_some (whole message.copyShardF s) (message.copyShardOf (value message.copyShardF s 0)) m d in
+      let w = whenever_some (whole message.copy_shard_f s) (message.copy_shard_of (value message.copy_shard_f s 0)) m d in
       subst (λ (z : message.Copied). EntriesThere s (part 48 (length z.entries)) × (entries_in s (part 48 (length z.entries)) ≡ z.entries)) w.1
       (entries_there s 46 (and_right _ _ (and_right _ _ (and_right _ _ (and_left _ _ w.0)))), entries_is s 46)
 
-  announced : (m : message.NewEpoch) → message.decodeNewEpoch s ≡ some m
+  announced : (m : message.NewEpoch) → message.decode_new_epoch s ≡ some m
       → TableThere s (part 56 (length m.table)) × (table_in s (part 56 (length m.table)) ≡ m.table)
-  unfolding message.decodeNewEpoch whole
+  unfolding message.decode_new_epoch whole
   announced m d =
-      let w = whenever_some (whole message.newEpochF s) (message.newEpochOf (value message.newEpochF s 0)) m d in
+      let w = whenever_some (whole message.new_epoch_f s) (message.new_epoch_of (value message.new_epoch_f s 0)) m d in
       subst (λ (z : message.NewEpoch). TableThere s (part 56 (length z.table)) × (table_in s (part 56 (length z.table)) ≡ z.table)) w.1 (
         table-there s 54 (and_left _ _ (and_right _ _ (and_right _ _ (and_right _ _ (and_right _ _ (and_left _ _ w.0)))))),
         table_is s 54,
@@ -127,7 +127,7 @@ module _ (s : List ℕ) where
 -- ---- the parts that `wire_read` answered
 
 module _ (s : List ℕ) where
-  pub replicate_part_lem : (p : ReplicatePart) → message_of s ≡ Replicate p → (m : message.Replicated) → message.decodeReplicate s ≡ some m
+  pub replicate_part_lem : (p : ReplicatePart) → message_of s ≡ Replicate p → (m : message.Replicated) → message.decode_replicate s ≡ some m
       → p ≡ replicate_part m
   replicate_part_lem p e m d = let q = replicate_answered s m d in cc
 
@@ -136,11 +136,11 @@ module _ (s : List ℕ) where
       let d = replicate_decoded s p e in
       subst (λ (z : ReplicatePart). OpThere s z.op) (sym (replicate_part_lem p e d.read d.decoded)) (replicated s d.read d.decoded).0
 
-  pub replicate_op : (p : ReplicatePart) → message_of s ≡ Replicate p → (m : message.Replicated) → message.decodeReplicate s ≡ some m
+  pub replicate_op : (p : ReplicatePart) → message_of s ≡ Replicate p → (m : message.Replicated) → message.decode_replicate s ≡ some m
       → op_in s p.op ≡ m.op
   replicate_op p e m d = ap (λ (z : ReplicatePart). op_in s z.op) (replicate_part_lem p e m d) ∙ (replicated s m d).1
 
-  pub write-part : (p : WritePart) → message_of s ≡ Write p → (m : message.Write) → message.decodeWrite s ≡ some m → p ≡ write_part m
+  pub write-part : (p : WritePart) → message_of s ≡ Write p → (m : message.Write) → message.decode_write s ≡ some m → p ≡ write_part m
   write-part p e m d = let q = write-answered s m d in cc
 
   pub write-there : (p : WritePart) → message_of s ≡ Write p → OpThere s p.op
@@ -148,10 +148,10 @@ module _ (s : List ℕ) where
       let d = write_decoded s p e in
       subst (λ (z : WritePart). OpThere s z.op) (sym (write-part p e d.read d.decoded)) (written s d.read d.decoded).0
 
-  pub write-op : (p : WritePart) → message_of s ≡ Write p → (m : message.Write) → message.decodeWrite s ≡ some m → op_in s p.op ≡ m.op
+  pub write-op : (p : WritePart) → message_of s ≡ Write p → (m : message.Write) → message.decode_write s ≡ some m → op_in s p.op ≡ m.op
   write-op p e m d = ap (λ (z : WritePart). op_in s z.op) (write-part p e m d) ∙ (written s m d).1
 
-  pub search_part_lem : (p : SearchPart) → message_of s ≡ Search p → (m : message.Query) → message.decodeSearch s ≡ some m → p ≡ search_part m
+  pub search_part_lem : (p : SearchPart) → message_of s ≡ Search p → (m : message.Query) → message.decode_search s ≡ some m → p ≡ search_part m
   search_part_lem p e m d = let q = search_answered_lem s m d in cc
 
   pub search_there : (p : SearchPart) → message_of s ≡ Search p → VectorThere s p.vector
@@ -159,11 +159,11 @@ module _ (s : List ℕ) where
       let d = search_decoded s p e in
       subst (λ (z : SearchPart). VectorThere s z.vector) (sym (search_part_lem p e d.read d.decoded)) (queried s d.read d.decoded).0
 
-  pub search_bits : (p : SearchPart) → message_of s ≡ Search p → (m : message.Query) → message.decodeSearch s ≡ some m
+  pub search_bits : (p : SearchPart) → message_of s ≡ Search p → (m : message.Query) → message.decode_search s ≡ some m
       → bits_in s p.vector ≡ m.bits
   search_bits p e m d = ap (λ (z : SearchPart). bits_in s z.vector) (search_part_lem p e m d) ∙ (queried s m d).1
 
-  pub copy_part_lem : (p : CopyPart) → message_of s ≡ CopyShard p → (m : message.Copied) → message.decodeCopyShard s ≡ some m → p ≡ copy_part m
+  pub copy_part_lem : (p : CopyPart) → message_of s ≡ CopyShard p → (m : message.Copied) → message.decode_copy_shard s ≡ some m → p ≡ copy_part m
   copy_part_lem p e m d = let q = copy_answered s m d in cc
 
   pub copy_there : (p : CopyPart) → message_of s ≡ CopyShard p → EntriesThere s p.entries
@@ -171,11 +171,11 @@ module _ (s : List ℕ) where
       let d = copy_decoded s p e in
       subst (λ (z : CopyPart). EntriesThere s z.entries) (sym (copy_part_lem p e d.read d.decoded)) (copied s d.read d.decoded).0
 
-  pub copy_entries : (p : CopyPart) → message_of s ≡ CopyShard p → (m : message.Copied) → message.decodeCopyShard s ≡ some m
+  pub copy_entries : (p : CopyPart) → message_of s ≡ CopyShard p → (m : message.Copied) → message.decode_copy_shard s ≡ some m
       → entries_in s p.entries ≡ m.entries
   copy_entries p e m d = ap (λ (z : CopyPart). entries_in s z.entries) (copy_part_lem p e m d) ∙ (copied s m d).1
 
-  pub new_epoch_part_lem : (p : NewEpochPart) → message_of s ≡ NewEpoch p → (m : message.NewEpoch) → message.decodeNewEpoch s ≡ some m
+  pub new_epoch_part_lem : (p : NewEpochPart) → message_of s ≡ NewEpoch p → (m : message.NewEpoch) → message.decode_new_epoch s ≡ some m
       → p ≡ new_epoch_part m
   new_epoch_part_lem p e m d = let q = new_epoch_answered s m d in cc
 
@@ -184,6 +184,6 @@ module _ (s : List ℕ) where
       let d = new_epoch_decoded s p e in
       subst (λ (z : NewEpochPart). TableThere s z.table) (sym (new_epoch_part_lem p e d.read d.decoded)) (announced s d.read d.decoded).0
 
-  pub new_epoch_table : (p : NewEpochPart) → message_of s ≡ NewEpoch p → (m : message.NewEpoch) → message.decodeNewEpoch s ≡ some m
+  pub new_epoch_table : (p : NewEpochPart) → message_of s ≡ NewEpoch p → (m : message.NewEpoch) → message.decode_new_epoch s ≡ some m
       → table_in s p.table ≡ m.table
   new_epoch_table p e m d = ap (λ (z : NewEpochPart). table_in s z.table) (new_epoch_part_lem p e m d) ∙ (announced s m d).1

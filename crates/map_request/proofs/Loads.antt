@@ -85,9 +85,9 @@ pub record Shows (s : List ℕ) (p : RequestPart) (r : request.Request) : Type 0
   pub fits : command_fits r.command ≡ true
 
 module _ (s : List ℕ) (at : ℕ) where
-  stands : fits request.requestF s at ≡ true → Shows s (request_part at (request.requestOf (value request.requestF s at))) (request.requestOf (value request.requestF s at))
+  stands : fits request.request_f s at ≡ true → Shows s (request_part at (request.request_of (value request.request_f s at))) (request.request_of (value request.request_f s at))
   stands e =
-      let r = request.requestOf (value request.requestF s at) in
+      let r = request.request_of (value request.request_f s at) in
       let h = command_stands s (at + 1 + 8 + 8 + 8) (and_right _ _ (and_right _ _ (and_right _ _ (and_right _ _ e)))) in
       record {
         held = h.held;
@@ -95,17 +95,17 @@ module _ (s : List ℕ) (at : ℕ) where
         fits = h.fits;
       }
 
-  pub shows_at : (r : request.Request) (end : ℕ) → request.requestAt s at ≡ some (r, end) → Shows s (request_part at r) r
-  unfolding request.requestAt
+  pub shows_at : (r : request.Request) (end : ℕ) → request.request_at s at ≡ some (r, end) → Shows s (request_part at r) r
+  unfolding request.request_at
   shows_at r end e =
-      let w = whenever_some (fits request.requestF s at) (request.requestOf (value request.requestF s at), next request.requestF s at) (r, end) e in
-      let q : request.requestOf (value request.requestF s at) ≡ r = ap (λ (z : request.Request × ℕ). z.0) w.1 in
+      let w = whenever_some (fits request.request_f s at) (request.request_of (value request.request_f s at), next request.request_f s at) (r, end) e in
+      let q : request.request_of (value request.request_f s at) ≡ r = ap (λ (z : request.Request × ℕ). z.0) w.1 in
       subst (λ (z : request.Request). Shows s (request_part at z) z) q (stands w.0)
 
-pub shows_all : (s : List ℕ) (r : request.Request) → request.decodeRequest s ≡ some r → Shows s (request_part 0 r) r
-unfolding request.decodeRequest whole
+pub shows_all : (s : List ℕ) (r : request.Request) → request.decode_request s ≡ some r → Shows s (request_part 0 r) r
+unfolding request.decode_request whole
 shows_all s r e =
-    let w = whenever_some (whole request.requestF s) (request.requestOf (value request.requestF s 0)) r e in
+    let w = whenever_some (whole request.request_f s) (request.request_of (value request.request_f s 0)) r e in
     subst (λ (z : request.Request). Shows s (request_part 0 z) z) w.1 (stands s 0 (and_left _ _ w.0))
 
 module _ (s : List ℕ) (p : RequestPart) (r : request.Request) (h : Shows s p r) (x : Request) (l : LoadedAs s p x) where
@@ -150,23 +150,23 @@ module _ (s : List ℕ) (at : ℕ) where
   }
 
   module _ (m : RequestRead) (q : m ≡ request_read_of s at) where
-    pub found_at : (p : RequestPart) → m.message ≡ message.Request p → Found s p (request.requestAt s at) m.next
+    pub found_at : (p : RequestPart) → m.message ≡ message.Request p → Found s p (request.request_at s at) m.next
     unfolding request_read_of
     found_at p e =
-        subst (λ (z : RequestRead). z.message ≡ message.Request p → Found s p (request.requestAt s at) z.next) (sym q)
-        (found_in_lem (request.requestAt s at) p (shows_at s at)) e
+        subst (λ (z : RequestRead). z.message ≡ message.Request p → Found s p (request.request_at s at) z.next) (sym q)
+        (found_in_lem (request.request_at s at) p (shows_at s at)) e
 
-    pub missed_at : ((r : request.Request) → m.message ≡ request_shown at r → ⊥) → request.requestAt s at ≡ none
+    pub missed_at : ((r : request.Request) → m.message ≡ request_shown at r → ⊥) → request.request_at s at ≡ none
     unfolding request_read_of
-    missed_at h = none_of (request.requestAt s at) (λ r e. h r.0 (ap (λ (z : RequestRead). z.message) (q ∙ ap (read_or at) e)))
+    missed_at h = none_of (request.request_at s at) (λ r e. h r.0 (ap (λ (z : RequestRead). z.message) (q ∙ ap (read_or at) e)))
 
   no {ℓ} : {P : Type ℓ} → false ≡ true → P
   no h = let z : ◌≡◌ {A = ℕ} 0 1 = cc in absurd (omega arith)
 
-  pub none-at : (x : Request) → request.requestAt s at ≡ none → LoadedAt s at (record { found = false; request = x; next = at })
+  pub none-at : (x : Request) → request.request_at s at ≡ none → LoadedAt s at (record { found = false; request = x; next = at })
   none-at x e = record { padding = []; read = e; stays = λ h. refl; passes = λ h. no h; inside = λ h. no h; within = λ h. no h }
 
-  pub some_at : (p : RequestPart) (end : ℕ) → Bytes s → Found s p (request.requestAt s at) end → (x : Request) → LoadedAs s p x
+  pub some_at : (p : RequestPart) (end : ℕ) → Bytes s → Found s p (request.request_at s at) end → (x : Request) → LoadedAs s p x
       → LoadedAt s at (record { found = true; request = x; next = end })
   some_at p end b f x l = record {
     padding = padding_of (command_read s p.command);
@@ -178,14 +178,14 @@ module _ (s : List ℕ) (at : ℕ) where
   }
 
 module _ (s : List ℕ) where
-  pub decoded_shows : (p : RequestPart) (d : Decoded (request_shown 0) (request.decodeRequest s) (message.Request p)) → Shows s p d.read
+  pub decoded_shows : (p : RequestPart) (d : Decoded (request_shown 0) (request.decode_request s) (message.Request p)) → Shows s p d.read
   decoded_shows p d =
       subst (λ (z : RequestPart). Shows s z d.read) (part-is (request_part 0 d.read) p d.shown) (shows_all s d.read d.decoded)
 
-  pub missed_all : ((r : request.Request) → message_of s ≡ request_shown 0 r → ⊥) → request.decodeRequest s ≡ none
-  missed_all h = none_of (request.decodeRequest s) (λ r e. h r (request-answered s r e))
+  pub missed_all : ((r : request.Request) → message_of s ≡ request_shown 0 r → ⊥) → request.decode_request s ≡ none
+  missed_all h = none_of (request.decode_request s) (λ r e. h r (request-answered s r e))
 
-  pub none-all : (x : Request) → request.decodeRequest s ≡ none → LoadedAll s (record { found = false; request = x; next = 0 })
+  pub none-all : (x : Request) → request.decode_request s ≡ none → LoadedAll s (record { found = false; request = x; next = 0 })
   none-all x e = record {
     padding = [];
     read = e;

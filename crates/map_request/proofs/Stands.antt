@@ -80,11 +80,11 @@ lists_fit_lem s (suc n) at e =
 -- ---- commands, by the code before them
 
 module _ (s : List ℕ) (at : ℕ) where
-  create_stands : fits request.createF s (at + 1) ≡ true → Stands s at (request.createOf (value request.createF s (at + 1)))
+  create_stands : fits request.create_f s (at + 1) ≡ true → Stands s at (request.create_of (value request.create_f s (at + 1)))
   unfolding command_fits
   create_stands e =
       let q = at + 1 + 1 + 32 + 4 + 1 + 4 + 4 in
-      let v = value request.createF s (at + 1) in
+      let v = value request.create_f s (at + 1) in
       let spec : tables.Spec =
       record { dimension = v.1.0; metric = metric_of v.1.1.0; shards = v.1.1.1.0; replication = v.1.1.1.1.0 } in
       let named : fits name_f s (at + 1) ≡ true = and_left _ _ e in
@@ -112,7 +112,7 @@ module _ (s : List ℕ) (at : ℕ) where
     fits = le-leb _ _ (text-short 32 s (at + 1) e);
   }
 
-  register_stands : fits request.registerF s (at + 1) ≡ true → Stands s at (request.commandOf (inr (inr (inl (value request.registerF s (at + 1))))))
+  register_stands : fits request.register_f s (at + 1) ≡ true → Stands s at (request.command_of (inr (inr (inl (value request.register_f s (at + 1))))))
   unfolding command_fits
   register_stands e =
       let h : fits address_f s (at + 1 + 8) ≡ true = and_left _ _ (and_right _ _ e) in
@@ -123,7 +123,7 @@ module _ (s : List ℕ) (at : ℕ) where
         fits = le-leb _ _ (text-short 64 s (at + 1 + 8) h);
       }
 
-  dead_stands : Stands s at (request.commandOf (inr (inr (inr (inl (value (u64 ▸ u64) s (at + 1)))))))
+  dead_stands : Stands s at (request.command_of (inr (inr (inr (inl (value (u64 ▸ u64) s (at + 1)))))))
   unfolding command_fits
   dead_stands = record { held = plain-held s _; back = refl; fits = refl }
 
@@ -172,7 +172,7 @@ module _ (s : List ℕ) (at : ℕ) where
       fits = key_fits s (at + 1) e;
     }
 
-  bench_stands : Stands s at (request.bench (value request.benchF s (at + 1)))
+  bench_stands : Stands s at (request.bench (value request.bench_f s (at + 1)))
   unfolding command_fits
   bench_stands = record {
     held = plain-held s _;
@@ -193,41 +193,41 @@ module _ (t : ℕ) (f g : Format) (s : List ℕ) (at : ℕ) (P : Value (either t
       by false h = second h
 
 abbrev from19 : Format
-from19 = code 0x19 ▸ request.benchF
+from19 = code 0x19 ▸ request.bench_f
 
 abbrev from18 : Format
-from18 = either 0x18 request.ownershipF from19
+from18 = either 0x18 request.ownership_f from19
 
 abbrev from17 : Format
-from17 = either 0x17 request.ownershipF from18
+from17 = either 0x17 request.ownership_f from18
 
 abbrev from16 : Format
-from16 = either 0x16 request.ownershipF from17
+from16 = either 0x16 request.ownership_f from17
 
 abbrev from15 : Format
-from15 = either 0x15 request.ownershipF from16
+from15 = either 0x15 request.ownership_f from16
 
 abbrev from14 : Format
-from14 = either 0x14 request.addF from15
+from14 = either 0x14 request.add_f from15
 
 abbrev from13 : Format
 from13 = either 0x13 (u64 ▸ u64) from14
 
 abbrev from12 : Format
-from12 = either 0x12 request.registerF from13
+from12 = either 0x12 request.register_f from13
 
 abbrev from11 : Format
 from11 = either 0x11 name_f from12
 
-pub command_stands : (s : List ℕ) (at : ℕ) → fits request.commandF s at ≡ true → Stands s at (request.commandOf (value request.commandF s at))
+pub command_stands : (s : List ℕ) (at : ℕ) → fits request.command_f s at ≡ true → Stands s at (request.command_of (value request.command_f s at))
 command_stands s at e =
-    either_case 0x10 request.createF from11 s at (λ v. Stands s at (request.commandOf v)) e (create_stands s at) (λ e1.
-    either_case 0x11 name_f from12 s at (λ v. Stands s at (request.commandOf (inr v))) e1 (drop_stands s at) (λ e2.
-    either_case 0x12 request.registerF from13 s at (λ v. Stands s at (request.commandOf (inr (inr v)))) e2 (register_stands s at) (λ e3.
-    either_case 0x13 (u64 ▸ u64) from14 s at (λ v. Stands s at (request.commandOf (inr (inr (inr v))))) e3 (λ h. dead_stands s at) (λ e4.
-    either_case 0x14 request.addF from15 s at (λ v. Stands s at (request.commandOf (inr (inr (inr (inr v)))))) e4 (λ h. add_stands s at (and_left _ _ h) _ _ _) (λ e5.
-    either_case 0x15 request.ownershipF from16 s at (λ v. Stands s at (request.commandOf (inr (inr (inr (inr (inr v))))))) e5 (λ h. remove_stands s at (and_left _ _ h) _ _) (λ e6.
-    either_case 0x16 request.ownershipF from17 s at (λ v. Stands s at (request.commandOf (inr (inr (inr (inr (inr (inr v)))))))) e6 (λ h. promote_stands s at (and_left _ _ h) _ _) (λ e7.
-    either_case 0x17 request.ownershipF from18 s at (λ v. Stands s at (request.commandOf (inr (inr (inr (inr (inr (inr (inr v))))))))) e7 (λ h. shrink_stands s at (and_left _ _ h) _ _) (λ e8.
-    either_case 0x18 request.ownershipF from19 s at (λ v. Stands s at (request.commandOf (inr (inr (inr (inr (inr (inr (inr (inr v)))))))))) e8 (λ h. expand_stands s at (and_left _ _ h) _ _) (λ h.
+    either_case 0x10 request.create_f from11 s at (λ v. Stands s at (request.command_of v)) e (create_stands s at) (λ e1.
+    either_case 0x11 name_f from12 s at (λ v. Stands s at (request.command_of (inr v))) e1 (drop_stands s at) (λ e2.
+    either_case 0x12 request.register_f from13 s at (λ v. Stands s at (request.command_of (inr (inr v)))) e2 (register_stands s at) (λ e3.
+    either_case 0x13 (u64 ▸ u64) from14 s at (λ v. Stands s at (request.command_of (inr (inr (inr v))))) e3 (λ h. dead_stands s at) (λ e4.
+    either_case 0x14 request.add_f from15 s at (λ v. Stands s at (request.command_of (inr (inr (inr (inr v)))))) e4 (λ h. add_stands s at (and_left _ _ h) _ _ _) (λ e5.
+    either_case 0x15 request.ownership_f from16 s at (λ v. Stands s at (request.command_of (inr (inr (inr (inr (inr v))))))) e5 (λ h. remove_stands s at (and_left _ _ h) _ _) (λ e6.
+    either_case 0x16 request.ownership_f from17 s at (λ v. Stands s at (request.command_of (inr (inr (inr (inr (inr (inr v)))))))) e6 (λ h. promote_stands s at (and_left _ _ h) _ _) (λ e7.
+    either_case 0x17 request.ownership_f from18 s at (λ v. Stands s at (request.command_of (inr (inr (inr (inr (inr (inr (inr v))))))))) e7 (λ h. shrink_stands s at (and_left _ _ h) _ _) (λ e8.
+    either_case 0x18 request.ownership_f from19 s at (λ v. Stands s at (request.command_of (inr (inr (inr (inr (inr (inr (inr (inr v)))))))))) e8 (λ h. expand_stands s at (and_left _ _ h) _ _) (λ h.
     bench_stands s at)))))))))

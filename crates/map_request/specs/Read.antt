@@ -76,7 +76,7 @@ pub record Within (r : Request) : Type 0 where
 -- bytes at least: its numbers and code
 pub record LoadedAt (s : List ℕ) (at : ℕ) (l : Loaded) : Type 0 where
   pub padding : List ℕ
-  pub read : request.requestAt s at ≡ whenever l.found (view_request l.request padding, l.next)
+  pub read : request.request_at s at ≡ whenever l.found (view_request l.request padding, l.next)
   pub stays : l.found ≡ false → l.next ≡ at
   pub passes : l.found ≡ true → at + 25 ≤ l.next
   pub inside : l.found ≡ true → l.next ≤ length s
@@ -85,7 +85,7 @@ pub record LoadedAt (s : List ℕ) (at : ℕ) (l : Loaded) : Type 0 where
 -- 'Bytes on the wire': found exactly where all of the bytes are a request, and then that request
 pub record LoadedAll (s : List ℕ) (l : Loaded) : Type 0 where
   pub padding : List ℕ
-  pub read : request.decodeRequest s ≡ whenever l.found (view_request l.request padding)
+  pub read : request.decode_request s ≡ whenever l.found (view_request l.request padding)
   pub next : l.found ≡ true → l.next ≡ length s
   pub stays : l.found ≡ false → l.next ≡ 0
   pub within : l.found ≡ true → Within l.request

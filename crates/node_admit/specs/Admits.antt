@@ -29,7 +29,7 @@ write_as A.NoRoom op h = gives (client.write_refused no_room) h
 abbrev pub AdmitsWrite : Held → (epoch : ℕ) → Bool → (least : ℕ) → Admit → Type 0
 AdmitsWrite h epoch lease least r =
     (k : Key) (l : Log) (v : Vectors) (op : Op) → length l ≡ h.last
-    → client.writeHeld lease least epoch op (view_held k l v h) ≡ write_as r op (view_held k l v h)
+    → client.write_held lease least epoch op (view_held k l v h) ≡ write_as r op (view_held k l v h)
 
 -- Search: the answer goes into the lent output if it has room (23), or the call is refused by 18, 19
 abbrev pub search_as : Admit → (room k : ℕ) → List Float → held.Held → Result client.SearchAnswer held.Held
@@ -44,7 +44,7 @@ search_as A.NoRoom room k q h = gives (client.search_refused no_room) h
 abbrev pub AdmitsSearch : Held → (epoch : ℕ) → Bool → Admit → Type 0
 AdmitsSearch h epoch lease r =
     (key : Key) (l : Log) (v : Vectors) (room k : ℕ) (q : List Float)
-    → client.searchHeld lease room epoch k q (view_held key l v h) ≡ search_as r room k q (view_held key l v h)
+    → client.search_held lease room epoch k q (view_held key l v h) ≡ search_as r room k q (view_held key l v h)
 
 -- NewEpoch: the log is aligned and the role left, or StaleEpoch own
 abbrev pub epoch_as : Epochs → (epoch end : ℕ) → List End → held.Held → Result backup.BackupAnswer held.Held
@@ -56,4 +56,4 @@ epoch_as (E.Stale e) epoch end t h = gives (backup.replied (reply_stale e)) h
 abbrev pub TakesEpoch : Held → (epoch : ℕ) → Epochs → Type 0
 TakesEpoch h epoch r =
     (k : Key) (l : Log) (v : Vectors) (end : ℕ) (t : List End)
-    → backup.newEpochHeld epoch end t (view_held k l v h) ≡ epoch_as r epoch end t (view_held k l v h)
+    → backup.new_epoch_held epoch end t (view_held k l v h) ≡ epoch_as r epoch end t (view_held k l v h)

@@ -22,4 +22,4 @@ step_from acked last = cond (leb last acked) S.Wait (S.Send (acked + 1) (min max
 
 abbrev pub Steps : Held → (epoch peer : ℕ) → Step → Type 0
 Steps h epoch peer r =
-    (k : Key) (l : Log) (v : Vectors) → length l ≡ h.last → r ≡ step_word (worker.stepHeld epoch peer (view_held k l v h))
+    (k : Key) (l : Log) (v : Vectors) → length l ≡ h.last → r ≡ step_word (worker.step_held epoch peer (view_held k l v h))

@@ -37,10 +37,10 @@ use Rattle.node_epoch.proofs.Named.{new_epoch_key}
 use Rattle.node_epoch.proofs.Slots.{then_down, then-held, then-absent}
 
 module _ (n : Node) (m : List ℕ) where
-  pub undecoded : (a : LentStore) → message.decodeNewEpoch m ≡ none → NewEpochsAt n a a m (record { answer = P.Refused 21; node = n })
-  unfolding calls.newEpochWith
+  pub undecoded : (a : LentStore) → message.decode_new_epoch m ≡ none → NewEpochsAt n a a m (record { answer = P.Refused 21; node = n })
+  unfolding calls.new_epoch_with
   undecoded a d =
-      unchanged (λ lent v. calls.newEpochWith lent v m) (NewEpochSlot n m) (NewEpochNames m) (NewEpochSlots n m) n a (P.Refused 21) refl
+      unchanged (λ lent v. calls.new_epoch_with lent v m) (NewEpochSlot n m) (NewEpochNames m) (NewEpochSlots n m) n a (P.Refused 21) refl
       (λ k l. sym (then_down n k (P.Refused 21) refl)) (λ s. rw d)
 
   module _ (p : NewEpochPart) (i : message_of m ≡ NewEpoch p) where
@@ -48,12 +48,12 @@ module _ (n : Node) (m : List ℕ) where
     r = (new_epoch_decoded m p i).read
 
     -- no component has to lie in the domain
-    pub reads : Reading (λ lent v. calls.newEpochWith lent v m) (NewEpochSlot n m) (NewEpochNames m) (NewEpochSlots n m) n (key_in m p.key) true
+    pub reads : Reading (λ lent v. calls.new_epoch_with lent v m) (NewEpochSlot n m) (NewEpochNames m) (NewEpochSlots n m) n (key_in m p.key) true
         (λ v. on_new_epoch v (key_in m p.key) r.epoch r.end r.table r.metric)
         (new_epoch_held r.epoch r.end r.table)
-    unfolding calls.newEpochWith on_new_epoch
+    unfolding calls.new_epoch_with on_new_epoch
     reads =
-        let d : message.decodeNewEpoch m ≡ some r = (new_epoch_decoded m p i).decoded in
+        let d : message.decode_new_epoch m ≡ some r = (new_epoch_decoded m p i).decoded in
         let named : (k : Key) → NewEpochNames m k → k ≡ key_in m p.key = λ k l. l r d ∙ sym (new_epoch_key m p i r d) in
         record {
           shape = λ lent v.

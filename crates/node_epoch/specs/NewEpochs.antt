@@ -41,7 +41,7 @@ abbrev pub NewEpochSlots : Node → List ℕ → PeerReply → Node → Type 0
 NewEpochSlots n m w p = (k : Key) → NewEpochNames m k → slots_of p ≡ slots_then n k w
 
 abbrev pub NewEpochsAt : Node → (a b : LentStore) → List ℕ → PeerAnswer → Type 0
-NewEpochsAt n a b m r = Serves (λ lent v. calls.newEpochWith lent v m) (NewEpochSlot n m) (NewEpochNames m) (NewEpochSlots n m) n a b r
+NewEpochsAt n a b m r = Serves (λ lent v. calls.new_epoch_with lent v m) (NewEpochSlot n m) (NewEpochNames m) (NewEpochSlots n m) n a b r
 
 -- internal: a shard that is not held, past the checks; no store is read or changed
 pub record BeginsAt (n : Node) (key : Key) (epoch : ℕ) (metric : Metric) (r : PeerAnswer) : Type 0 where

@@ -69,12 +69,12 @@ module _ (n : Node) (i sent lease : ℕ) where
   module _ (early : ltb max_time sent ≡ false) where
     module _ (short : ltb max_time lease ≡ false) where
       pub grant_malformed : Lent n false → GrantsNode n i sent lease (record { answer = G.Refused 24; node = n })
-      unfolding calls.grantWith ◌or◌
+      unfolding calls.grant_with ◌or◌
       grant_malformed a s = rw early (rw short (rw (← a s)))
 
       pub grant-done : Lent n true → (e : Expiry) → Grants n.incarnation n.expiry i sent lease e → (m : Node) → ReExpires n e m
           → GrantsNode n i sent lease (record { answer = G.Granted; node = m })
-      unfolding calls.grantWith ◌or◌
+      unfolding calls.grant_with ◌or◌
       grant-done a e g m x s =
           rw early (rw short (rw (← a s) (ap (λ (v : held.Node). record { answer = G.Granted; node = v }) (x s ∙ g (view_node s n) refl refl))))
 
@@ -84,29 +84,29 @@ module _ (n : Node) (k : Key) (epoch offset now timeout : ℕ) where
   module _ (none : Nodes) (free : take none.count none.items ≡ []) where
     pub wait_malformed : ltb max_time now ≡ false → ltb max_time timeout ≡ false → Lent n false
         → WaitsNode n k epoch offset now timeout (record { answer = W.Refused 24; shrink = none; node = n })
-    unfolding calls.waitWith ◌or◌
+    unfolding calls.wait_with ◌or◌
     wait_malformed a b m s = rw a (rw b (rw (← m s) (ap (λ (l : List DataNodeId). record { answer = W.Refused 24; shrink = l; node = view_node s n }) free)))
 
   pub wait_formed : ltb max_time now ≡ false → ltb max_time timeout ≡ false → Lent n true → (r : NodeWaited)
       → WaitsIn n k epoch offset now timeout r → WaitsNode n k epoch offset now timeout r
-  unfolding calls.waitWith ◌or◌
+  unfolding calls.wait_with ◌or◌
   wait_formed a b m r e s = rw a (rw b (rw (← m s) (e s)))
 
   module _ (le : n.count ≤ length n.held) (at : ℕ) (is : at ≡ lead (other_key k) (used n)) where
     pub wait_absent : n.count ≤ at → (none : Nodes) → take none.count none.items ≡ []
         → WaitsIn n k epoch offset now timeout (record { answer = W.Refused 17; shrink = none; node = n })
-    unfolding client.onWait
+    unfolding client.on_wait
     wait_absent h none free s =
         ap (λ (l : List DataNodeId). record { answer = W.Refused 17; shrink = l; node = view_node s n }) free
-        ∙ ap wait_answered (call-absent s n k le at is (client.wait_refused unknown_shard) (client.waitHeld now timeout epoch offset) h)
+        ∙ ap wait_answered (call-absent s n k le at is (client.wait_refused unknown_shard) (client.wait_held now timeout epoch offset) h)
 
     pub wait_done : at < n.count → (r : Waited) → answers.WaitsHeld (get_or n.held at no_held_row).held epoch offset now timeout r
         → (g : Held) → Trims r.held g → (m : Node) → m ≡ with_shard n at g
         → WaitsIn n k epoch offset now timeout (record { answer = r.answer; shrink = r.shrink; node = m })
-    unfolding client.onWait
+    unfolding client.on_wait
     wait_done h r e g trims m put s =
         let x = get_or n.held at no_held_row in
-        let f = client.waitHeld now timeout epoch offset in
+        let f = client.wait_held now timeout epoch offset in
         let q = e (view_key x.key) (s.log x.slot x.held.last) (s.vectors x.slot x.held.last x.stored) (s.long x.slot x.held.last) in
         let after = trims.seen (view_key x.key) (s.log x.slot x.held.last) (s.vectors x.slot x.held.last x.stored) ∙ ap (λ (t : answers.WaitAnswered). t.held) q in
         ap (λ (w : Node). record { answer = r.answer; shrink = take r.shrink.count r.shrink.items; node = view_node s w }) put
@@ -119,7 +119,7 @@ module _ (n : Node) (k : Key) (epoch offset now timeout : ℕ) where
 
 module _ (n : Node) (k : Key) (epoch peer : ℕ) (step : Sent) (reply : Reply) where
   abbrev refused_reply : Bool
-  refused_reply = ack.badReply (acks.replyOf reply)
+  refused_reply = ack.bad_reply (acks.reply_of reply)
 
   pub ack_bad : refused_reply ≡ true → AcksNode n k epoch peer step reply (record { answer = A.Refused 21; node = n })
   ack_bad b s = rw b
@@ -133,21 +133,21 @@ module _ (n : Node) (k : Key) (epoch peer : ℕ) (step : Sent) (reply : Reply) w
 
     module _ (le : n.count ≤ length n.held) (at : ℕ) (is : at ≡ lead (other_key k) (used n)) where
       pub ack_absent : n.count ≤ at → AcksIn n k epoch peer step reply (record { answer = A.Noted; node = n })
-      unfolding ack.onAck
-      ack_absent h s = rw good (ap (answered_as acks.ackWord) (call-absent s n k le at is ack.noted (ack.ackHeld epoch peer (acks.sentOf step) (acks.replyOf reply)) h))
+      unfolding ack.on_ack
+      ack_absent h s = rw good (ap (answered_as acks.ack_word) (call-absent s n k le at is ack.noted (ack.ack_held epoch peer (acks.sent_of step) (acks.reply_of reply)) h))
 
       pub ack_done : at < n.count → (r : Acked) → acks.AcksHeld (get_or n.held at no_held_row).held epoch peer step reply r
           → (g : Held) → Trims r.held g → (m : Node) → m ≡ with_shard n at g → AcksIn n k epoch peer step reply (record { answer = r.answer; node = m })
-      unfolding ack.onAck
+      unfolding ack.on_ack
       ack_done h r e g trims m put s =
           let x = get_or n.held at no_held_row in
-          let f = ack.ackHeld epoch peer (acks.sentOf step) (acks.replyOf reply) in
+          let f = ack.ack_held epoch peer (acks.sent_of step) (acks.reply_of reply) in
           let q = e (view_key x.key) (s.log x.slot x.held.last) (s.vectors x.slot x.held.last x.stored) (s.long x.slot x.held.last) in
           let after = trims.seen (view_key x.key) (s.log x.slot x.held.last) (s.vectors x.slot x.held.last x.stored) ∙ ap (λ (t : acks.AckAnswered). t.held) q in
           rw good
           (ap (λ (w : Node). record { answer = r.answer; node = view_node s w }) put
           ∙ ap (λ (t : acks.AckAnswered). record { answer = t.answer; node = view_node s (with_shard n at g) }) q
-          ∙ ap (answered_as acks.ackWord)
+          ∙ ap (answered_as acks.ack_word)
           (call-held s n k le at is ack.noted f h (f (view_held_row s x)).answer g (ap (gives (f (view_held_row s x)).answer) after)))
 
 -- ---- outcome of a proposal
@@ -155,45 +155,45 @@ module _ (n : Node) (k : Key) (epoch peer : ℕ) (step : Sent) (reply : Reply) w
 module _ (n : Node) (k : Key) (epoch peer : ℕ) where
   module _ (left : Bool) (le : n.count ≤ length n.held) (at : ℕ) (is : at ≡ lead (other_key k) (used n)) where
     pub outcome-absent : n.count ≤ at → OutcomesIn n k epoch peer left n
-    unfolding ack.onOutcome
+    unfolding ack.on_outcome
     outcome-absent h s what applied l =
-        ap (answered_as answers.outcomeWord) (call-absent s n k le at is ack.settled (ack.outcomeAt n.id.0 epoch peer (ack.leaves what applied)) h)
+        ap (answered_as answers.outcome_word) (call-absent s n k le at is ack.settled (ack.outcome_at n.id.0 epoch peer (ack.leaves what applied)) h)
 
     pub outcome-done : at < n.count → (r : Held) → answers.OutcomesHeld (get_or n.held at no_held_row).held n.id.0 epoch peer left r → (g : Held) → Trims r g
         → (m : Node) → m ≡ with_shard n at g → OutcomesIn n k epoch peer left m
-    unfolding ack.onOutcome
+    unfolding ack.on_outcome
     outcome-done h r e g trims m put s what applied l =
         let x = get_or n.held at no_held_row in
         let q = trims.seen (view_key x.key) (s.log x.slot x.held.last) (s.vectors x.slot x.held.last x.stored) ∙ e (view_key x.key) (s.log x.slot x.held.last) (s.vectors x.slot x.held.last x.stored) in
         rw l
         (ap (λ (w : Node). record { answer = O.Noted; node = view_node s w }) put
-        ∙ ap (answered_as answers.outcomeWord)
-        (call-held s n k le at is ack.settled (ack.outcomeAt n.id.0 epoch peer left) h ack.settled g (ap (gives ack.settled) q)))
+        ∙ ap (answered_as answers.outcome_word)
+        (call-held s n k le at is ack.settled (ack.outcome_at n.id.0 epoch peer left) h ack.settled g (ap (gives ack.settled) q)))
 
   module _ (what : Proposal) (applied : Bool) where
     pub outcome_malformed : Lent n false → OutcomesNode n k epoch peer what applied (record { answer = O.Refused 24; node = n })
-    unfolding calls.outcomeWith
+    unfolding calls.outcome_with
     outcome_malformed a s = rw (← a s)
 
     pub outcome-formed : Lent n true → (left : Bool) → left ≡ ack.leaves (proposal_of what) applied → (m : Node) → OutcomesIn n k epoch peer left m
         → OutcomesNode n k epoch peer what applied (record { answer = O.Noted; node = m })
-    unfolding calls.outcomeWith
+    unfolding calls.outcome_with
     outcome-formed a left l m e s = rw (← a s) (e s (proposal_of what) applied (sym l))
 
 -- ---- the worker's step
 
 module _ (n : Node) (k : Key) (epoch peer : ℕ) where
   pub step_malformed : Lent n false → StepsNode n k epoch peer (S.Refused 24)
-  unfolding calls.stepWith
+  unfolding calls.step_with
   step_malformed a s = rw (← a s)
 
   module _ (formed : Lent n true) (le : n.count ≤ length n.held) (at : ℕ) (is : at ≡ lead (other_key k) (used n)) where
     pub step-absent : n.count ≤ at → StepsNode n k epoch peer (S.Stepped D.Stop)
-    unfolding calls.stepWith worker.onStep
+    unfolding calls.step_with worker.on_step
     step-absent h s = rw (← formed s) (rw (shard-none s n k le at is h))
 
     pub step-done : at < n.count → (r : Step) → Steps (get_or n.held at no_held_row).held epoch peer r → StepsNode n k epoch peer (S.Stepped r)
-    unfolding calls.stepWith worker.onStep
+    unfolding calls.step_with worker.on_step
     step-done h r e s =
         let x = get_or n.held at no_held_row in
         rw (← formed s)

@@ -58,7 +58,7 @@ view_granted s r = record { answer = r.answer; node = view_node s r.node }
 
 abbrev pub GrantsNode : Node → (incarnation sent lease : ℕ) → NodeGranted → Type 0
 GrantsNode n i sent lease r =
-    (s : Stores) → view_granted s r ≡ answered_as grant_word (calls.grantWith (lent_node s n) (view_node s n) i sent lease)
+    (s : Stores) → view_granted s r ≡ answered_as grant_word (calls.grant_with (lent_node s n) (view_node s n) i sent lease)
 
 -- ---- waiting for acks
 
@@ -77,11 +77,11 @@ view_waited s r = record { answer = r.answer; shrink = take r.shrink.count r.shr
 -- internal: past the checks
 abbrev pub WaitsIn : Node → Key → (epoch offset now timeout : ℕ) → NodeWaited → Type 0
 WaitsIn n k epoch offset now timeout r =
-    (s : Stores) → view_waited s r ≡ wait_answered (client.onWait (view_node s n) now timeout k epoch offset)
+    (s : Stores) → view_waited s r ≡ wait_answered (client.on_wait (view_node s n) now timeout k epoch offset)
 
 abbrev pub WaitsNode : Node → Key → (epoch offset now timeout : ℕ) → NodeWaited → Type 0
 WaitsNode n k epoch offset now timeout r =
-    (s : Stores) → view_waited s r ≡ wait_answered (calls.waitWith (lent_node s n) (view_node s n) now timeout k epoch offset)
+    (s : Stores) → view_waited s r ≡ wait_answered (calls.wait_with (lent_node s n) (view_node s n) now timeout k epoch offset)
 
 -- ---- ack
 
@@ -91,11 +91,11 @@ view_acked s r = record { answer = r.answer; node = view_node s r.node }
 -- internal: past the checks
 abbrev pub AcksIn : Node → Key → (epoch peer : ℕ) → Sent → Reply → NodeAcked → Type 0
 AcksIn n k epoch peer step reply r =
-    (s : Stores) → view_acked s r ≡ answered_as ack_word (ack.onAck (view_node s n) k epoch peer (sent_of step) (reply_of reply))
+    (s : Stores) → view_acked s r ≡ answered_as ack_word (ack.on_ack (view_node s n) k epoch peer (sent_of step) (reply_of reply))
 
 abbrev pub AcksNode : Node → Key → (epoch peer : ℕ) → Sent → Reply → NodeAcked → Type 0
 AcksNode n k epoch peer step reply r =
-    (s : Stores) → view_acked s r ≡ answered_as ack_word (calls.ackOf (lent_node s n) (view_node s n) k epoch peer (sent_of step) (some (reply_of reply)))
+    (s : Stores) → view_acked s r ≡ answered_as ack_word (calls.ack_of (lent_node s n) (view_node s n) k epoch peer (sent_of step) (some (reply_of reply)))
 
 -- ---- outcome of a proposal
 
@@ -110,12 +110,12 @@ view_settled s r = record { answer = r.answer; node = view_node s r.node }
 abbrev pub OutcomesIn : Node → Key → (epoch peer : ℕ) → Bool → Node → Type 0
 OutcomesIn n k epoch peer left r =
     (s : Stores) (what : ack.Proposal) (applied : Bool) → ack.leaves what applied ≡ left
-    → record { answer = outcome_word ack.settled; node = view_node s r } ≡ answered_as outcome_word (ack.onOutcome (view_node s n) k epoch peer what applied)
+    → record { answer = outcome_word ack.settled; node = view_node s r } ≡ answered_as outcome_word (ack.on_outcome (view_node s n) k epoch peer what applied)
 
 abbrev pub OutcomesNode : Node → Key → (epoch peer : ℕ) → Proposal → Bool → NodeSettled → Type 0
 OutcomesNode n k epoch peer what applied r =
     (s : Stores)
-    → view_settled s r ≡ answered_as outcome_word (calls.outcomeWith (lent_node s n) (view_node s n) k epoch peer (proposal_of what) applied)
+    → view_settled s r ≡ answered_as outcome_word (calls.outcome_with (lent_node s n) (view_node s n) k epoch peer (proposal_of what) applied)
 
 -- ---- the worker's step
 
@@ -125,4 +125,4 @@ step_answered (calls.step_refused r) = S.Refused (number_of r)
 
 abbrev pub StepsNode : Node → Key → (epoch peer : ℕ) → StepAnswer → Type 0
 StepsNode n k epoch peer r =
-    (s : Stores) → r ≡ step_answered (calls.stepWith (λ x. lent_node s n) (view_node s n) k epoch peer)
+    (s : Stores) → r ≡ step_answered (calls.step_with (λ x. lent_node s n) (view_node s n) k epoch peer)

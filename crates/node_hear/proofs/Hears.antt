@@ -71,7 +71,7 @@ module _ (n : Node) (m : ShardMap) (fresh : ℕ) where
   map-formed w r e = record {
     same = λ s.
         e.same s
-        ∙ ap (λ (b : Bool). shown_answered (calls.shownWith b (view_node s n) fresh (view_map m))) (sym (and_on (lent_node s n) (well_formed_lent m) w));
+        ∙ ap (λ (b : Bool). shown_answered (calls.shown_with b (view_node s n) fresh (view_map m))) (sym (and_on (lent_node s n) (well_formed_lent m) w));
     slots = e.slots;
     slots_are = e.slots_are;
     stays = e.stays;
@@ -80,7 +80,7 @@ module _ (n : Node) (m : ShardMap) (fresh : ℕ) where
   pub map_malformed : well_formed_lent m ≡ false → (free : List Start)
       → HearsMap n m fresh (record { answer = S.Refused 24; starts = free; count = 0; node = n })
   map_malformed w free = record {
-    same = λ s. unfold calls.shownWith view_starts in rw (and_off (lent_node s n) (well_formed_lent m) w);
+    same = λ s. unfold calls.shown_with view_starts in rw (and_off (lent_node s n) (well_formed_lent m) w);
     slots = λ e. header-apart n e;
     slots_are = λ e. slots_are_same n e;
     stays = λ e. refl;
@@ -89,7 +89,7 @@ module _ (n : Node) (m : ShardMap) (fresh : ℕ) where
   -- 23 or 24: the node after is the node before
   pub map-refused : (r : NodeShown) → HearsMap n m fresh r → (k : ℕ) → r.answer ≡ S.Refused k → (s : Stores) → view_node s r.node ≡ view_node s n
   map-refused r e k h s =
-      let x = calls.shownWith (lent_node s n and well_formed_lent m) (view_node s n) fresh (view_map m) in
+      let x = calls.shown_with (lent_node s n and well_formed_lent m) (view_node s n) fresh (view_map m) in
       let said = ap (λ (t : ShownAnswered). t.answer) (sym (e.same s)) ∙ h in
       let of = shown_refused_as x.answer k said in
       ap (λ (t : ShownAnswered). t.node) (e.same s)
@@ -124,15 +124,15 @@ reply-heard o m d = ap heard_of d.decoded ∙ heard_in_lem d.read ∙ ap heard_i
 -- bytes that show no reply are none
 module _ (s : List ℕ) (a : (n : Offset) → message_of s ≡ M.Stored n → ⊥) (b : (n : Offset) → message_of s ≡ M.Gap n → ⊥)
     (c : (n : Epoch) → message_of s ≡ M.StaleEpoch n → ⊥) (d : (n : Offset) → message_of s ≡ M.Adopted n → ⊥) where
-  unheard : (o : Option message.Reply) → message.decodeReply s ≡ o → heard_of o ≡ H.Nothing
+  unheard : (o : Option message.Reply) → message.decode_reply s ≡ o → heard_of o ≡ H.Nothing
   unheard none e = refl
   unheard (some (message.reply_stored n)) e = absurd (a _ (reply-answered s _ e))
   unheard (some (message.reply_gap n)) e = absurd (b _ (reply-answered s _ e))
   unheard (some (message.reply_stale n)) e = absurd (c _ (reply-answered s _ e))
   unheard (some (message.reply_adopted n)) e = absurd (d _ (reply-answered s _ e))
 
-  pub reply_unheard : heard_of (message.decodeReply s) ≡ H.Nothing
-  reply_unheard = unheard (message.decodeReply s) refl
+  pub reply_unheard : heard_of (message.decode_reply s) ≡ H.Nothing
+  reply_unheard = unheard (message.decode_reply s) refl
 
 -- the reply that was heard
 abbrev read_as : Heard → Option message.Reply
@@ -159,16 +159,16 @@ ack_refused_as ack.noted k e = absurd (let z : ◌≡◌ {A = ℕ} 0 1 = ap ack_
 ack_refused_as ack.expand k e = absurd (let z : ◌≡◌ {A = ℕ} 0 1 = ap ack_code e in omega arith)
 
 module _ (n : Node) (k : Key) (epoch peer : ℕ) (sent : Sent) (s : List ℕ) where
-  pub ack_read : (a : Reply) → heard_of (message.decodeReply s) ≡ H.Reply a → (r : NodeAcked) → AcksNode n k epoch peer sent a r
+  pub ack_read : (a : Reply) → heard_of (message.decode_reply s) ≡ H.Reply a → (r : NodeAcked) → AcksNode n k epoch peer sent a r
       → HearsReply n k epoch peer sent s r
-  unfolding calls.ackWith
-  ack_read a e r d t = rw (read_as_lem (message.decodeReply s) ∙ ap read_as e) (d t)
+  unfolding calls.ack_with
+  ack_read a e r d t = rw (read_as_lem (message.decode_reply s) ∙ ap read_as e) (d t)
 
   -- 21, 24 or 26: the node after is the node before
   pub reply-refused : (r : NodeAcked) → HearsReply n k epoch peer sent s r → (x : ℕ) → r.answer ≡ A.Refused x → (t : Stores)
       → view_node t r.node ≡ view_node t n
   reply-refused r e x h t =
-      let v = calls.ackWith (lent_node t n) (view_node t n) k epoch peer (sent_of sent) s in
+      let v = calls.ack_with (lent_node t n) (view_node t n) k epoch peer (sent_of sent) s in
       let said = ap (λ (w : Answered AckAnswer). w.answer) (sym (e t)) ∙ h in
       let of = ack_refused_as v.answer x said in
       ap (λ (w : Answered AckAnswer). w.node) (e t) ∙ ack_refused_lem of.0 (lent_node t n) (view_node t n) k epoch peer (sent_of sent) s of.1

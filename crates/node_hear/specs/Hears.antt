@@ -28,7 +28,7 @@ use Rattle.node_hear.specs.declared.Heard.TheVariants as H
 -- ---- map shown: 24 for a malformed header and for a malformed map. The slots after are those that the shards before and their slots give
 
 pub record HearsMap (n : Node) (m : ShardMap) (fresh : ℕ) (r : NodeShown) : Type 0 where
-  pub same : (s : Stores) → view_shown s r ≡ shown_answered (calls.shownWith (lent_node s n and well_formed_lent m) (view_node s n) fresh (view_map m))
+  pub same : (s : Stores) → view_shown s r ≡ shown_answered (calls.shown_with (lent_node s n and well_formed_lent m) (view_node s n) fresh (view_map m))
   pub slots : formed_node n ≡ true → slots_fit (used r.node) ≡ true
   pub slots_are : formed_node n ≡ true → (s : Stores) → slots_of r.node ≡ slots_after (view_node s n) (slots_of n) (view_node s r.node)
   pub stays : formed_node n ≡ false → SameSlots n r.node
@@ -49,4 +49,4 @@ heard_of (some r) = H.Reply (reply_word r)
 
 abbrev pub HearsReply : Node → Key → (epoch peer : ℕ) → Sent → List ℕ → NodeAcked → Type 0
 HearsReply n k epoch peer sent reply r =
-    (s : Stores) → view_acked s r ≡ answered_as ack_word (calls.ackWith (lent_node s n) (view_node s n) k epoch peer (sent_of sent) reply)
+    (s : Stores) → view_acked s r ≡ answered_as ack_word (calls.ack_with (lent_node s n) (view_node s n) k epoch peer (sent_of sent) reply)

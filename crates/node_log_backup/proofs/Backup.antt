@@ -72,7 +72,7 @@ view-with k h s t n = refl
 -- ---- Replicate and CopyShard
 
 -- an outcome's answer is turned down where the outcome is
-turned_as : (a : Answer) (o : Outcome) → answered a ≡ answer_as o → turned_down a ≡ true → arrivals.turnedDown o ≡ true
+turned_as : (a : Answer) (o : Outcome) → answered a ≡ answer_as o → turned_down a ≡ true → arrivals.turned_down o ≡ true
 turned_as (A.Stored x) o e d = not_both false d refl
 turned_as (A.Gap x) o e d = not_both false d refl
 turned_as (A.Adopted x) o e d = not_both false d refl
@@ -87,7 +87,7 @@ turned_as A.NoRoom Full e d = refl
 
 -- what a call on a replica left, on the shard around it
 backs : (call : held.Held → Result BackupAnswer held.Held) (h : Held) (s t : Store) (n : ℕ) (a : Answer) (o : Outcome) (stored : ℕ)
-    → s.count ≡ h.last → t.count ≡ n → answered a ≡ answer_as o → (arrivals.turnedDown o ≡ true → t ≡ s)
+    → s.count ≡ h.last → t.count ≡ n → answered a ≡ answer_as o → (arrivals.turned_down o ≡ true → t ≡ s)
     → well_formed_store t ≡ true → Sized t
     → ((x : held.Held) → x.replica ≡ replica_in h.epoch.0 h.metric s
     → gives (answer_as o) (with_replica x (replica_in h.epoch.0 h.metric t)) ≡ call x)

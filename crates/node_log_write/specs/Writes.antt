@@ -37,7 +37,7 @@ turned_down A.NoRoom = true
 
 -- refused, the call leaves every place of the store and of the shard as it was, the free ones too
 pub record Writes (h : Held) (s t : Store) (epoch : ℕ) (lease : Bool) (least : ℕ) (op : Op) (r : Written) : Type 0 where
-  pub same : (k : Key) → written_as r.admit (view_stored k r.held t) ≡ client.writeHeld lease least epoch op (view_stored k h s)
+  pub same : (k : Key) → written_as r.admit (view_stored k r.held t) ≡ client.write_held lease least epoch op (view_stored k h s)
   pub kept : turned_down r.admit ≡ true → (t ≡ s) × (r.held ≡ h)
   pub well : well_formed_store t ≡ true
   pub sized : Sized t

@@ -64,7 +64,7 @@ unchanged call lends names slotted n a w down slots_are e = record {
 }
 
 -- a reply is turned down where the answer is
-turned_as : (r : Answer) → turned_down (word (answered r)) ≡ true → backs.turnedDown r ≡ true
+turned_as : (r : Answer) → turned_down (word (answered r)) ≡ true → backs.turned_down r ≡ true
 turned_as (A.Stored o) e = not_both false e refl
 turned_as (A.Gap o) e = not_both false e refl
 turned_as (A.StaleEpoch o) e = refl
@@ -177,12 +177,12 @@ module _ (n : Node) (m : List ℕ) where
     abbrev r : message.Replicated
     r = (replicate_decoded m p i).read
 
-    pub replicate_reads : Reading (λ lent v. calls.replicateWith lent v m) (ReplicateSlot n m) (ReplicateNames m) (SlotsGiven n) n (key_in m p.key) (op_in_domain (op_in m p.op))
+    pub replicate_reads : Reading (λ lent v. calls.replicate_with lent v m) (ReplicateSlot n m) (ReplicateNames m) (SlotsGiven n) n (key_in m p.key) (op_in_domain (op_in m p.op))
         (λ v. at_shard v (key_in m p.key) unheld (replicate_held r.epoch r.offset (stored_op r.op)))
         (replicate_held r.epoch r.offset (stored_op r.op))
-    unfolding calls.replicateWith on_replicate
+    unfolding calls.replicate_with on_replicate
     replicate_reads =
-        let d : message.decodeReplicate m ≡ some r = (replicate_decoded m p i).decoded in
+        let d : message.decode_replicate m ≡ some r = (replicate_decoded m p i).decoded in
         let does = replicate_held r.epoch r.offset (stored_op r.op) in
         record {
           shape = λ lent v.
@@ -206,12 +206,12 @@ module _ (n : Node) (m : List ℕ) where
     abbrev copied : message.Copied
     copied = (copy_decoded m p i).read
 
-    pub copy_reads : Reading (λ lent v. calls.copyWith lent v m) (CopySlot n m) (CopyNames m) (SlotsGiven n) n (key_in m p.key) (every entry_in_domain (entries_in m p.entries))
+    pub copy_reads : Reading (λ lent v. calls.copy_with lent v m) (CopySlot n m) (CopyNames m) (SlotsGiven n) n (key_in m p.key) (every entry_in_domain (entries_in m p.entries))
         (λ v. at_shard v (key_in m p.key) unheld (copy_held copied.epoch (map stored_entry copied.entries)))
         (copy_held copied.epoch (map stored_entry copied.entries))
-    unfolding calls.copyWith on_copy
+    unfolding calls.copy_with on_copy
     copy_reads =
-        let d : message.decodeCopyShard m ≡ some copied = (copy_decoded m p i).decoded in
+        let d : message.decode_copy_shard m ≡ some copied = (copy_decoded m p i).decoded in
         let does = copy_held copied.epoch (map stored_entry copied.entries) in
         record {
           shape = λ lent v.

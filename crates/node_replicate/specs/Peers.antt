@@ -62,7 +62,7 @@ abbrev pub ReplicateSlot : Node → List ℕ → ℕ → Type 0
 ReplicateSlot n m slot = (v : Replicated) → decode_replicate m ≡ some v → slot ≡ slot_of n v.key
 
 abbrev pub ReplicatesAt : Node → (a b : LentStore) → List ℕ → PeerAnswer → Type 0
-ReplicatesAt n a b m r = Serves (λ lent v. calls.replicateWith lent v m) (ReplicateSlot n m) (ReplicateNames m) (SlotsGiven n) n a b r
+ReplicatesAt n a b m r = Serves (λ lent v. calls.replicate_with lent v m) (ReplicateSlot n m) (ReplicateNames m) (SlotsGiven n) n a b r
 
 -- 22
 abbrev pub CopyNames : List ℕ → Key → Type 0
@@ -72,4 +72,4 @@ abbrev pub CopySlot : Node → List ℕ → ℕ → Type 0
 CopySlot n m slot = (v : Copied) → decode_copy_shard m ≡ some v → slot ≡ slot_of n v.key
 
 abbrev pub CopiesAt : Node → (a b : LentStore) → List ℕ → PeerAnswer → Type 0
-CopiesAt n a b m r = Serves (λ lent v. calls.copyWith lent v m) (CopySlot n m) (CopyNames m) (SlotsGiven n) n a b r
+CopiesAt n a b m r = Serves (λ lent v. calls.copy_with lent v m) (CopySlot n m) (CopyNames m) (SlotsGiven n) n a b r

@@ -93,13 +93,13 @@ module _ (n : Node) (a : LentStore) (key : Key) (clock epoch k : ℕ) (q : List 
       tells_as o o (S.Refused 24) _ (client.search_refused malformed) (rw (bad s) refl) (record { answer = refl; output = refl })
 
   pub named-absent : f ≡ L.Absent → SearchesNamed n a key clock epoch k q o o (S.Refused 17)
-  unfolding client.onSearch
+  unfolding client.on_search
   named-absent e s l =
       let g = subst (Finds n key a) e finds in
       tells_as o o (S.Refused 17) _ (client.search_refused unknown_shard)
       (rw (g.lent s)
       (ap (λ (z : Result client.SearchAnswer held.Node). z.answer)
-      (sym (call-absent s n key g.inside _ refl (client.search_refused unknown_shard) (client.searchHeld (leased (view_node s n) clock) (room o) epoch k q) g.gone))))
+      (sym (call-absent s n key g.inside _ refl (client.search_refused unknown_shard) (client.search_held (leased (view_node s n) clock) (room o) epoch k q) g.gone))))
       (record { answer = refl; output = refl })
 
   module _ (at : ℕ) (e : f ≡ L.At at) where
@@ -112,11 +112,11 @@ module _ (n : Node) (a : LentStore) (key : Key) (clock epoch k : ℕ) (q : List 
     -- the definition's search at that shard, read with the lent store
     held-is : (s : Stores) → Lends s (slot_of n key) a
         → (tested_search (lent_for s n a key) (view_node s n) clock (room o) key epoch k q).answer
-        ≡ (client.searchHeld (before (view_expiry n.expiry) clock) (room o) epoch k q (view_stored (view_key kept.key) kept.held (store_of a kept))).answer
-    unfolding client.onSearch leased
+        ≡ (client.search_held (before (view_expiry n.expiry) clock) (room o) epoch k q (view_stored (view_key kept.key) kept.held (store_of a kept))).answer
+    unfolding client.on_search leased
     held-is s l =
         let g = named-at in
-        let does = client.searchHeld (before (view_expiry n.expiry) clock) (room o) epoch k q in
+        let does = client.search_held (before (view_expiry n.expiry) clock) (room o) epoch k q in
         rw (g.lent s)
         (ap (λ (z : Result client.SearchAnswer held.Node). z.answer)
         (at_held (view_node s n) key (client.search_refused unknown_shard) does (view_held_row s kept) (shard_some s n key g.inside at g.is g.under))
@@ -126,4 +126,4 @@ module _ (n : Node) (a : LentStore) (key : Key) (clock epoch k : ℕ) (q : List 
         → SearchesHeld kept.held (store_of a kept) epoch lease k q o p r → SearchesNamed n a key clock epoch k q o p r
     named-held lease z p r t s l =
         tells_as o p r _ _ (held-is s l)
-        (subst (λ (b : Bool). Tells o p r (client.searchHeld b (room o) epoch k q (view_stored (view_key kept.key) kept.held (store_of a kept))).answer) z (t (view_key kept.key)))
+        (subst (λ (b : Bool). Tells o p r (client.search_held b (room o) epoch k q (view_stored (view_key kept.key) kept.held (store_of a kept))).answer) z (t (view_key kept.key)))

@@ -17,13 +17,13 @@ use Rattle.map_names.proofs.Keys.{KeyRead, key-read}
 use Rattle.node_search.specs.Searches.{IsSearch}
 
 module _ (s : List ℕ) where
-  search_read : (m : message.Query) → message.decodeSearch s ≡ some m → KeyRead s m.key
-  unfolding message.decodeSearch whole
+  search_read : (m : message.Query) → message.decode_search s ≡ some m → KeyRead s m.key
+  unfolding message.decode_search whole
   search_read m d =
-      let w = whenever_some (whole message.searchF s) (message.searchOf (value message.searchF s 0)) m d in
+      let w = whenever_some (whole message.search_f s) (message.search_of (value message.search_f s 0)) m d in
       subst (λ (z : message.Query). KeyRead s z.key) w.1 (key-read s (and_left _ _ (and_right _ _ (and_left _ _ w.0))))
 
-  pub search_key : (p : SearchPart) → IsSearch s p → (m : message.Query) → message.decodeSearch s ≡ some m → key_in s p.key ≡ m.key
+  pub search_key : (p : SearchPart) → IsSearch s p → (m : message.Query) → message.decode_search s ≡ some m → key_in s p.key ≡ m.key
   search_key p e m d = ap (λ (z : SearchPart). key_in s z.key) (search_part_lem s p e m d) ∙ (search_read m d).1
 
   pub search_key_there : (p : SearchPart) → IsSearch s p → KeyThere s p.key
@@ -32,9 +32,9 @@ module _ (s : List ℕ) where
       subst (λ (z : SearchPart). KeyThere s z.key) (sym (search_part_lem s p e d.read d.decoded)) (search_read d.read d.decoded).0
 
   -- where `wire_read` answered another kind, `spec`'s decoder reads none
-  pub search_missed : ((p : SearchPart) → message_of s ≡ Search p → ⊥) → message.decodeSearch s ≡ none
-  search_missed f = go (message.decodeSearch s) refl
+  pub search_missed : ((p : SearchPart) → message_of s ≡ Search p → ⊥) → message.decode_search s ≡ none
+  search_missed f = go (message.decode_search s) refl
     where
-      go : (o : Option message.Query) → message.decodeSearch s ≡ o → o ≡ none
+      go : (o : Option message.Query) → message.decode_search s ≡ o → o ≡ none
       go none e = refl
       go (some m) e = absurd (f (search_part m) (search_answered_lem s m e))

@@ -47,7 +47,7 @@ module _ (n : Node) (a : LentStore) (m : List ℕ) (clock : ℕ) (o : Output) wh
     abbrev asked : message.Query
     asked = record { key = key_in m p.key; epoch = p.epoch.0; k = p.k; bits = bits_in m p.vector }
 
-    decodes : message.decodeSearch m ≡ some asked
+    decodes : message.decode_search m ≡ some asked
     decodes =
         let d = (search_decoded m p i).decoded in
         let q = (search_decoded m p i).read in
@@ -57,8 +57,8 @@ module _ (n : Node) (a : LentStore) (m : List ℕ) (clock : ℕ) (o : Output) wh
         ∙ ap (λ (z : Key). some (record { key = z; epoch = p.epoch.0; k = p.k; bits = bits_in m p.vector })) (sym (search_key m p i q d))
 
     with-is : (s : Stores)
-        → calls.searchWith (lent_for s n a) (view_node s n) clock (room o) m ≡ calls.searchOf (lent_for s n a) (view_node s n) clock (room o) (some asked)
-    unfolding calls.searchWith
+        → calls.search_with (lent_for s n a) (view_node s n) clock (room o) m ≡ calls.search_of (lent_for s n a) (view_node s n) clock (room o) (some asked)
+    unfolding calls.search_with
     with-is s = rw (le-ltb max_time clock early) (rw decodes refl)
 
     module _ (b : Bool) (column : List Float) (reads : ReadsQuery (bits_in m p.vector) b p.vector.len column) where
@@ -111,10 +111,10 @@ module _ (n : Node) (a : LentStore) (m : List ℕ) (clock : ℕ) (o p : Output) 
   -- all that the caller gets, from the answer and the output
   told-by : Searches n a m clock o p r → (s : Stores) (slot : ℕ) → SearchSlot n m slot → Lends s slot a
       → record { answer = r; output = p; refused = c; node = view_node s n }
-      ≡ search_answered o before (calls.searchWith (lent_for s n a) (view_node s n) clock (room o) m)
+      ≡ search_answered o before (calls.search_with (lent_for s n a) (view_node s n) clock (room o) m)
   unfolding count_search
   told-by t s slot j l =
-      let q = calls.searchWith (lent_for s n a) (view_node s n) clock (room o) m in
+      let q = calls.search_with (lent_for s n a) (view_node s n) clock (room o) m in
       let d = t s slot j l in
       ap (λ (x : ℕ). record { answer = r; output = p; refused = x; node = view_node s n }) (count ∙ ap (counted before) (ap turned_down d.answer ∙ turned_as q.answer))
       ∙ ap (λ (x : SearchAnswer). record { answer = x; output = p; refused = count_search before q.answer; node = view_node s n }) d.answer
@@ -131,7 +131,7 @@ module _ (n : Node) (a : LentStore) (m : List ℕ) (clock : ℕ) (o p : Output) 
       let d = t s slot own (holding_changes some_stores slot a a).before in
       record {
         same = told-by t;
-        kept = tells-kept o p r (calls.searchWith (lent_for s n a) (view_node s n) clock (room o) m).answer d;
+        kept = tells-kept o p r (calls.search_with (lent_for s n a) (view_node s n) clock (room o) m).answer d;
         counts = count;
       }
 

@@ -94,7 +94,7 @@ SearchSlot n m slot = (v : Query) → decode_search m ≡ some v → slot ≡ sl
 pub record SearchesAt (n : Node) (a : LentStore) (m : List ℕ) (clock : ℕ) (o p : Output) (before : ℕ) (r : NodeSearched) : Type 0 where
   pub same : (s : Stores) (slot : ℕ) → SearchSlot n m slot → Lends s slot a
       → record { answer = r.answer; output = p; refused = r.refused; node = view_node s n }
-      ≡ search_answered o before (calls.searchWith (lent_for s n a) (view_node s n) clock (room o) m)
+      ≡ search_answered o before (calls.search_with (lent_for s n a) (view_node s n) clock (room o) m)
   pub kept : turned_down r.answer ≡ true → p ≡ o
   pub counts : r.refused ≡ counted before (turned_down r.answer)
 
@@ -113,12 +113,12 @@ found_as (N.Refused x) = S.Refused x
 -- on one held shard, whatever its key is
 abbrev pub SearchesHeld : Held → Store → (epoch : ℕ) → Bool → (k : ℕ) → List Float → (o p : Output) → SearchAnswer → Type 0
 SearchesHeld h s epoch lease k q o p r =
-    (key : Key) → Tells o p r (client.searchHeld lease (room o) epoch k q (view_stored key h s)).answer
+    (key : Key) → Tells o p r (client.search_held lease (room o) epoch k q (view_stored key h s)).answer
 
 -- 24, then the call
 abbrev pub tested_search : Bool → held.Node → (clock room : ℕ) → Key → (epoch k : ℕ) → List Float → Result client.SearchAnswer held.Node
 tested_search lent v clock room key epoch k q =
-    cond (not lent) (gives (client.search_refused malformed) v) (client.onSearch v clock room key epoch k q)
+    cond (not lent) (gives (client.search_refused malformed) v) (client.on_search v clock room key epoch k q)
 
 -- at the shard of a key
 abbrev pub SearchesNamed : Node → LentStore → Key → (clock epoch k : ℕ) → List Float → (o p : Output) → SearchAnswer → Type 0
@@ -133,4 +133,4 @@ IsSearch m p = message_of m ≡ Search p
 abbrev pub Searches : Node → LentStore → List ℕ → (clock : ℕ) → (o p : Output) → SearchAnswer → Type 0
 Searches n a m clock o p r =
     (s : Stores) (slot : ℕ) → SearchSlot n m slot → Lends s slot a
-    → Tells o p r (calls.searchWith (lent_for s n a) (view_node s n) clock (room o) m).answer
+    → Tells o p r (calls.search_with (lent_for s n a) (view_node s n) clock (room o) m).answer

@@ -26,9 +26,9 @@ left_of (calls.request_refused x) out = out
 
 -- what is promised of a request, if there is one, and of the output before and after
 pub record Requested (m : Option worker.Message) (before after : List ℕ) (r : Request) : Type 0 where
-  pub answer : r ≡ answer_of (calls.writtenIn (length before) m)
-  pub bytes : after ≡ left_of (calls.writtenIn (length before) m) before
+  pub answer : r ≡ answer_of (calls.written_in (length before) m)
+  pub bytes : after ≡ left_of (calls.written_in (length before) m) before
 
 -- 'The node', 'Rules of a run', Messages: the request of the worker's step at a shard
 unfoldable pub request_on : (epoch peer : ℕ) → Metric → held.Held → Option worker.Message
-request_on epoch peer metric h = worker.requestHeld epoch metric h (worker.stepHeld epoch peer h)
+request_on epoch peer metric h = worker.request_held epoch metric h (worker.step_held epoch peer h)

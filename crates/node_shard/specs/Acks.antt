@@ -66,14 +66,14 @@ view_acked k l v r = record { answer = r.answer; held = view_held k l v r.held }
 abbrev pub AcksHeld : Held → (epoch peer : ℕ) → Sent → Reply → Acked → Type 0
 AcksHeld h epoch peer s a r =
     (k : Key) (l : Log) (v : Vectors) → length l ≡ h.last
-    → view_acked k l v r ≡ ack_answered (ack.ackHeld epoch peer (sent_of s) (reply_of a) (view_held k l v h))
+    → view_acked k l v r ≡ ack_answered (ack.ack_held epoch peer (sent_of s) (reply_of a) (view_held k l v h))
 
 -- 'Ack': 21, 24, then the ack
 unfoldable pub ack_call : (lent : Bool) → (epoch peer : ℕ) → ack.Sent → message.Reply → held.Held → shards.Result ack.AckAnswer held.Held
 ack_call lent epoch peer s a h =
-    cond (ack.badReply a) (shards.gives (ack.ack_refused undecodable) h)
+    cond (ack.bad_reply a) (shards.gives (ack.ack_refused undecodable) h)
     (cond (not lent) (shards.gives (ack.ack_refused malformed) h)
-    (ack.ackHeld epoch peer s a h))
+    (ack.ack_held epoch peer s a h))
 
 abbrev pub Acks : Held → (epoch peer : ℕ) → Sent → Reply → Acked → Type 0
 Acks h epoch peer s a r =

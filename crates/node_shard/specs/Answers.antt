@@ -62,14 +62,14 @@ view_waited k l v r = record { answer = r.answer; shrink = take r.shrink.count r
 abbrev pub WaitsHeld : Held → (epoch offset now timeout : ℕ) → Waited → Type 0
 WaitsHeld h epoch offset now timeout r =
     (k : Key) (l : Log) (v : Vectors) → length l ≡ h.last
-    → view_waited k l v r ≡ wait_answered (client.waitHeld now timeout epoch offset (view_held k l v h))
+    → view_waited k l v r ≡ wait_answered (client.wait_held now timeout epoch offset (view_held k l v h))
 
 -- 'Who is turned down', waiting for acks: 21, 24, then the wait
 unfoldable pub wait_call : (lent : Bool) → (now timeout epoch offset : ℕ) → held.Held → Result client.WaitAnswer held.Held
 wait_call lent now timeout epoch offset h =
     cond (late_time now or late_time timeout) (gives (client.wait_refused undecodable) h)
     (cond (not lent) (gives (client.wait_refused malformed) h)
-    (client.waitHeld now timeout epoch offset h))
+    (client.wait_held now timeout epoch offset h))
 
 abbrev pub Waits : Held → (epoch offset now timeout : ℕ) → Waited → Type 0
 Waits h epoch offset now timeout r =
@@ -81,7 +81,7 @@ Waits h epoch offset now timeout r =
 -- internal: past the checks
 abbrev pub OutcomesHeld : Held → (me epoch peer : ℕ) → Bool → Held → Type 0
 OutcomesHeld h me epoch peer left r =
-    (k : Key) (l : Log) (v : Vectors) → view_held k l v r ≡ ack.outcomeHeld me epoch peer left (view_held k l v h)
+    (k : Key) (l : Log) (v : Vectors) → view_held k l v r ≡ ack.outcome_held me epoch peer left (view_held k l v h)
 
 abbrev pub outcome_word : ack.OutcomeAnswer → OutcomeAnswer
 outcome_word ack.settled = O.Noted
@@ -100,7 +100,7 @@ view_settled k l v r = record { answer = r.answer; held = view_held k l v r.held
 -- 'Outcome of a proposal': 24, then the outcome
 unfoldable pub outcome_call : (lent : Bool) → (me epoch peer : ℕ) → Bool → held.Held → Result ack.OutcomeAnswer held.Held
 outcome_call lent me epoch peer left h =
-    cond (not lent) (gives (ack.outcome_refused malformed) h) (gives ack.settled (ack.outcomeHeld me epoch peer left h))
+    cond (not lent) (gives (ack.outcome_refused malformed) h) (gives ack.settled (ack.outcome_held me epoch peer left h))
 
 abbrev pub Settles : Held → (me epoch peer : ℕ) → Bool → Settled → Type 0
 Settles h me epoch peer left r =

@@ -30,12 +30,12 @@ module _ (t : Collections) (row : ShardRow) where
   -- the collection's metric, by its place in the table
   module _ (le : t.count ≤ length t.items) (c : ℕ) (is : c ≡ first_at (show.named name) (view_collections t))
       (m : tables.Map) (e : m.collections ≡ view_collections t) where
-    pub metric_none : t.count ≤ c → show.collectionMetric m name ≡ none
+    pub metric_none : t.count ≤ c → show.collection_metric m name ≡ none
     metric_none h =
-        ap (λ (l : List tables.Collection). show.metricOf (find (show.named name) l)) e
-        ∙ ap show.metricOf (missed view_collection t.items t.count le (show.named name) c is h)
+        ap (λ (l : List tables.Collection). show.metric_of (find (show.named name) l)) e
+        ∙ ap show.metric_of (missed view_collection t.items t.count le (show.named name) c is h)
 
-    pub metric_some : (d : CollectionRow) → c < t.count → show.collectionMetric m name ≡ some (get_or t.items c d).spec.metric
+    pub metric_some : (d : CollectionRow) → c < t.count → show.collection_metric m name ≡ some (get_or t.items c d).spec.metric
     metric_some d h =
-        ap (λ (l : List tables.Collection). show.metricOf (find (show.named name) l)) e
-        ∙ ap show.metricOf (found view_collection t.items t.count le (show.named name) c is d h)
+        ap (λ (l : List tables.Collection). show.metric_of (find (show.named name) l)) e
+        ∙ ap show.metric_of (found view_collection t.items t.count le (show.named name) c is d h)

@@ -169,7 +169,7 @@ module _ (n : Node) (le : n.count ≤ length n.held) (fit : slots_fit (used n) �
     pub walked_open : every open_fits (take r.count plain) ≡ true
     walked_open = ap (every open_fits) is ∙ every_open (take r.count r.items) from
 
-    pub walked-apart : r.full ≡ false → rising shard_below (view.viewMap m).shards ≡ true → slots_open (take r.count plain) ≡ true
+    pub walked-apart : r.full ≡ false → rising shard_below (view.view_map m).shards ≡ true → slots_open (take r.count plain) ≡ true
     walked-apart q e =
         ap slots_open is
         ∙ open_from (take r.count r.items) from (sym (rising-keys held_row_of held_row_below taken_key (λ x y. refl) (take r.count r.items)) ∙ w.rise q e)
@@ -211,8 +211,8 @@ keys-taken : (s : Stores) (l : List Taken) → map (λ (h : held.Held). h.key) (
 keys-taken s [] = refl
 keys-taken s (x ∷ xs) = ap (λ (v : List Key). taken_key x ∷ v) (keys-taken s xs)
 
-all-starts : (s : Stores) (l : List Taken) → view_starts (map start_of l) ≡ show.allStarts (map (view_taken s) l)
-unfolding view_starts show.allStarts
+all-starts : (s : Stores) (l : List Taken) → view_starts (map start_of l) ≡ show.all_starts (map (view_taken s) l)
+unfolding view_starts show.all_starts
 all-starts s [] = refl
 all-starts s (x ∷ xs) = ap (λ (v : List show.Worker). (view_taken s x).start ++ v) (all-starts s xs)
 
@@ -224,18 +224,18 @@ module _ (n : Node) (m : ShardMap) (r : Walked) (w : Walks n m r) where
   pub taken-full : formed_node n ≡ true → r.full ≡ true → (starts : List Start)
       → TakesMap n m (record { answer = A.Refused 23; starts = starts; count = 0; node = n })
   taken-full formed q starts = record {
-    same = λ s. unfold show.takeMap view_starts in rw (w.over q s);
+    same = λ s. unfold show.take_map view_starts in rw (w.over q s);
     slots = header-apart n formed;
     slots_are = slots_are_same n formed;
   }
 
-  fits : r.full ≡ false → (s : Stores) → show.tooMany (shards_after s n m) ≡ false
+  fits : r.full ≡ false → (s : Stores) → show.too_many (shards_after s n m) ≡ false
   unfolding ◌or◌
   fits q s =
       let a = length-map (take r.count r.items) (view_taken s) in
       let b = length-take r.count r.items in
       let c = w.few in
-      ap show.tooMany (w.same q s)
+      ap show.too_many (w.same q s)
       ∙ rw (le-ltb max_held (length (map (view_taken s) (take r.count r.items))) (omega arith)) (w.fits q s)
 
   pub taken-whole : r.full ≡ false → (starts : List Start) → take r.count starts ≡ map start_of (take r.count r.items)
@@ -253,13 +253,13 @@ module _ (n : Node) (m : ShardMap) (r : Walked) (w : Walks n m r) where
     same = λ s.
         let l = take r.count r.items in
         let ss = shards_after s n m in
-        let workers : view_starts (take r.count starts) ≡ show.allStarts ss =
-        ap view_starts e ∙ all-starts s l ∙ ap show.allStarts (sym (w.same q s)) in
+        let workers : view_starts (take r.count starts) ≡ show.all_starts ss =
+        ap view_starts e ∙ all-starts s l ∙ ap show.all_starts (sym (w.same q s)) in
         let shards : map (view_held_row s) (take r.count new) ≡ map show.held_of ss =
         a.same s ∙ ap (map (view_held_row s)) f ∙ all_held s l ∙ ap (map show.held_of) (sym (w.same q s)) in
         ap (λ (v : List show.Worker). record { answer = A.Shown; workers = v; node = after s (map (view_held_row s) (take r.count new)) }) workers
-        ∙ ap (λ (v : List held.Held). record { answer = A.Shown; workers = show.allStarts ss; node = after s v }) shards
-        ∙ sym (unfold show.takeMap in rw (fits q s));
+        ∙ ap (λ (v : List held.Held). record { answer = A.Shown; workers = show.all_starts ss; node = after s v }) shards
+        ∙ sym (unfold show.take_map in rw (fits q s));
     slots = a.slots o;
     slots_are = λ s.
         unfold slots_after in
@@ -286,13 +286,13 @@ module _ (n : Node) (m : ShardMap) (fresh : ℕ) where
   Lent b = (s : Stores) → b ≡ lent_node s n
 
   dead-is : (s : Stores) (b : Bool) → b ≡ any (dead_at n.id.0 n.incarnation) (take m.nodes.count m.nodes.items)
-      → any (show.deadAs (view_node s n)) (view.viewMap m).nodes ≡ b
-  dead-is s b e = map-any view.viewNode (show.deadAs (view_node s n)) (take m.nodes.count m.nodes.items) ∙ sym e
+      → any (show.dead_as (view_node s n)) (view.view_map m).nodes ≡ b
+  dead-is s b e = map-any view.view_node (show.dead_as (view_node s n)) (take m.nodes.count m.nodes.items) ∙ sym e
 
   module _ (none : List Start) where
     pub shown_malformed : Lent false → formed_node n ≡ false → ShowsMap n m fresh (record { answer = A.Refused 24; starts = none; count = 0; node = n })
     shown_malformed a f = record {
-      same = λ s. unfold calls.shownWith view_starts in rw (← a s);
+      same = λ s. unfold calls.shown_with view_starts in rw (← a s);
       slots = λ e. not_both (formed_node n) e f;
       slots_are = λ e. not_both (formed_node n) e f;
       stays = λ e. refl;
@@ -300,7 +300,7 @@ module _ (n : Node) (m : ShardMap) (fresh : ℕ) where
 
     pub shown_older : Lent true → m.version < n.version → ShowsMap n m fresh (record { answer = A.Shown; starts = none; count = 0; node = n })
     shown_older a h = record {
-      same = λ s. unfold calls.shownWith show.onMap view_starts in rw (← a s) (rw (lt-ltb m.version n.version h));
+      same = λ s. unfold calls.shown_with show.on_map view_starts in rw (← a s) (rw (lt-ltb m.version n.version h));
       slots = λ e. header-apart n e;
       slots_are = λ e. slots_are_same n e;
       stays = λ e. refl;
@@ -311,7 +311,7 @@ module _ (n : Node) (m : ShardMap) (fresh : ℕ) where
         → ShowsMap n m fresh (record { answer = A.Shown; starts = none; count = 0; node = r })
     shown-dead a f h b d q r x = record {
       same = λ s.
-          unfold calls.shownWith show.onMap view_starts in
+          unfold calls.shown_with show.on_map view_starts in
           (ap (λ (v : held.Node). record { answer = A.Shown; workers = []; node = v }) (x.same s)
           ∙ sym (rw (← a s) (rw (le-ltb m.version n.version h) (rw (dead-is s b d ∙ q)))));
       slots = λ e. x.slots;
@@ -325,7 +325,7 @@ module _ (n : Node) (m : ShardMap) (fresh : ℕ) where
   shown-taken a f h b d q r x = record {
     same = λ s.
         x.same s
-        ∙ sym (unfold calls.shownWith show.onMap in rw (← a s) (rw (le-ltb m.version n.version h) (rw (dead-is s b d ∙ q))));
+        ∙ sym (unfold calls.shown_with show.on_map in rw (← a s) (rw (le-ltb m.version n.version h) (rw (dead-is s b d ∙ q))));
     slots = λ e. x.slots;
     slots_are = λ e. x.slots_are;
     stays = λ e. not_both (formed_node n) f e;

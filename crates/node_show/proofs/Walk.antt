@@ -90,7 +90,7 @@ module _ (n : Node) (rows : List ShardRow) (total : ℕ) (t : Collections) (out 
     (le : total ≤ length rows) where
   -- the definition's answer for the row i
   abbrev shown : Stores → tables.Map → ShardRow → Option show.Showing
-  shown s m row = show.showShard (view_node s n) m (view_shard row)
+  shown s m row = show.show_shard (view_node s n) m (view_shard row)
 
   module _ (h : i < total) (d : ShardRow) where
     abbrev row : ShardRow
@@ -101,7 +101,7 @@ module _ (n : Node) (rows : List ShardRow) (total : ℕ) (t : Collections) (out 
 
     opened : (s : Stores) (m : tables.Map) → m.collections ≡ view_collections t
         → show.showings (view_node s n) m (map view_shard (take total rows))
-        ≡ map (view_taken s) (take count out) ++ show.orNot (shown s m row) (show.showings (view_node s n) m (map view_shard rest))
+        ≡ map (view_taken s) (take count out) ++ show.or_not (shown s m row) (show.showings (view_node s n) m (map view_shard rest))
     unfolding show.showings
     opened s m e =
         w.same s m e
@@ -117,7 +117,7 @@ module _ (n : Node) (rows : List ShardRow) (total : ℕ) (t : Collections) (out 
     walk_skip f = record {
       same = λ s m e.
           opened s m e
-          ∙ ap (λ (o : Option show.Showing). map (view_taken s) (take count out) ++ show.orNot o (show.showings (view_node s n) m (map view_shard rest))) (f s m e);
+          ∙ ap (λ (o : Option show.Showing). map (view_taken s) (take count out) ++ show.or_not o (show.showings (view_node s n) m (map view_shard rest))) (f s m e);
       fits = w.fits;
       slots = w.slots;
       rise = λ e. rising_less (map taken_key (take count out)) (row_key row) (map row_key rest) (opened-keys e);
@@ -132,7 +132,7 @@ module _ (n : Node) (rows : List ShardRow) (total : ℕ) (t : Collections) (out 
       same = λ s m e.
           let more = show.showings (view_node s n) m (map view_shard rest) in
           opened s m e
-          ∙ ap (λ (o : Option show.Showing). map (view_taken s) (take count out) ++ show.orNot o more) (f s m e)
+          ∙ ap (λ (o : Option show.Showing). map (view_taken s) (take count out) ++ show.or_not o more) (f s m e)
           ∙ sym (grown (view_taken s) out count x more room);
       fits = λ s.
           ap (any show.overworked) (sym (append-nil (map (view_taken s) (take (count + 1) (set out count x)))) ∙ grown (view_taken s) out count x [] room)
@@ -160,12 +160,12 @@ module _ (n : Node) (rows : List ShardRow) (total : ℕ) (t : Collections) (out 
     -- a 33rd worker
     pub walk_over : ((s : Stores) (m : tables.Map) → m.collections ≡ view_collections t → Overworks (shown s m row))
         → (s : Stores) (m : tables.Map) → m.collections ≡ view_collections t
-        → show.tooMany (show.showings (view_node s n) m (map view_shard (take total rows))) ≡ true
+        → show.too_many (show.showings (view_node s n) m (map view_shard (take total rows))) ≡ true
     walk_over f s m e =
         let o = f s m e in
         let more = show.showings (view_node s n) m (map view_shard rest) in
         let l = map (view_taken s) (take count out) in
-        ap show.tooMany (opened s m e ∙ ap (λ (p : Option show.Showing). l ++ show.orNot p more) o.is)
+        ap show.too_many (opened s m e ∙ ap (λ (p : Option show.Showing). l ++ show.or_not p more) o.is)
         ∙ or_right (ltb max_held (length (l ++ (o.showing ∷ more)))) (any show.overworked (l ++ (o.showing ∷ more)))
         (any_append show.overworked l (o.showing ∷ more) ∙ later (any show.overworked l) (any show.overworked (o.showing ∷ more)) (unfold any in rw o.over))
       where
@@ -176,7 +176,7 @@ module _ (n : Node) (rows : List ShardRow) (total : ℕ) (t : Collections) (out 
     -- a ninth shard
     pub walk_ninth : count ≤ length out → 8 ≤ count → ((s : Stores) (m : tables.Map) → m.collections ≡ view_collections t → (x : show.Showing) × (shown s m row ≡ some x))
         → (s : Stores) (m : tables.Map) → m.collections ≡ view_collections t
-        → show.tooMany (show.showings (view_node s n) m (map view_shard (take total rows))) ≡ true
+        → show.too_many (show.showings (view_node s n) m (map view_shard (take total rows))) ≡ true
     unfolding ◌or◌
     walk_ninth room many f s m e =
         let o = f s m e in
@@ -185,7 +185,7 @@ module _ (n : Node) (rows : List ShardRow) (total : ℕ) (t : Collections) (out 
         let a = length-append l (o.0 ∷ more) in
         let b = length-map (take count out) (view_taken s) in
         let c = length-take-le count out room in
-        ap show.tooMany (opened s m e ∙ ap (λ (p : Option show.Showing). l ++ show.orNot p more) o.1)
+        ap show.too_many (opened s m e ∙ ap (λ (p : Option show.Showing). l ++ show.or_not p more) o.1)
         ∙ rw (lt-ltb max_held (length (l ++ (o.0 ∷ more))) (omega arith))
 
   -- every row has been passed
@@ -205,13 +205,13 @@ module _ (n : Node) (rows : List ShardRow) (total : ℕ) (t : Collections) (out 
 
 -- the definition's answer for a row, by whether it lists this node
 module _ (s : Stores) (n : Node) (m : tables.Map) (row : ShardRow) where
-  pub unlisted : any (show.listedAs n.id.0 n.incarnation) (view_shard row).replicas ≡ false → show.showShard (view_node s n) m (view_shard row) ≡ none
-  unfolding show.showShard
+  pub unlisted : any (show.listed_as n.id.0 n.incarnation) (view_shard row).replicas ≡ false → show.show_shard (view_node s n) m (view_shard row) ≡ none
+  unfolding show.show_shard
   unlisted e = rw e
 
-  pub listed : any (show.listedAs n.id.0 n.incarnation) (view_shard row).replicas ≡ true
-      → show.showShard (view_node s n) m (view_shard row) ≡ listed_shown s n m row
-  unfolding show.showShard
+  pub listed : any (show.listed_as n.id.0 n.incarnation) (view_shard row).replicas ≡ true
+      → show.show_shard (view_node s n) m (view_shard row) ≡ listed_shown s n m row
+  unfolding show.show_shard
   listed e = rw e
 
 -- ---- what the walk promises
@@ -247,7 +247,7 @@ rising-keys f lt g same (x ∷ y ∷ ys) =
 module _ (n : Node) (m : ShardMap) (out : List Taken) (count i : ℕ)
     (w : Walking n m.shards.items m.shards.count m.collections out count i) (few : count ≤ 8) (long : count ≤ length out) where
   pub walks_full : ((s : Stores) (k : tables.Map) → k.collections ≡ view_collections m.collections
-      → show.tooMany (show.showings (view_node s n) k (map view_shard (take m.shards.count m.shards.items))) ≡ true)
+      → show.too_many (show.showings (view_node s n) k (map view_shard (take m.shards.count m.shards.items))) ≡ true)
       → Walks n m (record { full = true; items = out; count = count })
   walks_full f = record {
     few = few;

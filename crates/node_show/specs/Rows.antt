@@ -55,7 +55,7 @@ pub data SlotFrom (n : Node) (y : HeldRow) : Type 0 where
 -- the definition's answer for a shard that lists this node
 abbrev pub listed_shown : Stores → Node → tables.Map → ShardRow → Option show.Showing
 listed_shown s n m row =
-    show.showListed n.id.0 (view_shard row) (show.collectionMetric m (view_name row.key.collection)) (held_shard (view_node s n) (view_key row.key))
+    show.show_listed n.id.0 (view_shard row) (show.collection_metric m (view_name row.key.collection)) (held_shard (view_node s n) (view_key row.key))
 
 -- a 33rd worker for that shard
 pub record Overworks (o : Option show.Showing) : Type 0 where

@@ -46,19 +46,19 @@ view_shown s r = record { answer = r.answer; workers = view_starts (take r.count
 
 -- internal: nothing is held, and no map known
 pub record StartsOver (n : Node) (fresh : ℕ) (r : Node) : Type 0 where
-  pub same : (s : Stores) → view_node s r ≡ held.emptyNode n.id.0 fresh
+  pub same : (s : Stores) → view_node s r ≡ held.empty_node n.id.0 fresh
   pub slots : slots_fit (used r) ≡ true
   pub slots_are : slots_of r ≡ []
 
 -- internal: past the first checks
 pub record TakesMap (n : Node) (m : ShardMap) (r : NodeShown) : Type 0 where
-  pub same : (s : Stores) → view_shown s r ≡ shown_answered (show.takeMap (view_node s n) (view_map m))
+  pub same : (s : Stores) → view_shown s r ≡ shown_answered (show.take_map (view_node s n) (view_map m))
   pub slots : slots_fit (used r.node) ≡ true
   pub slots_are : (s : Stores) → slots_of r.node ≡ slots_after (view_node s n) (slots_of n) (view_node s r.node)
 
 -- a malformed header comes back as it was
 pub record ShowsMap (n : Node) (m : ShardMap) (fresh : ℕ) (r : NodeShown) : Type 0 where
-  pub same : (s : Stores) → view_shown s r ≡ shown_answered (calls.shownWith (lent_node s n) (view_node s n) fresh (view_map m))
+  pub same : (s : Stores) → view_shown s r ≡ shown_answered (calls.shown_with (lent_node s n) (view_node s n) fresh (view_map m))
   pub slots : formed_node n ≡ true → slots_fit (used r.node) ≡ true
   pub slots_are : formed_node n ≡ true → (s : Stores) → slots_of r.node ≡ slots_after (view_node s n) (slots_of n) (view_node s r.node)
   pub stays : formed_node n ≡ false → SameSlots n r.node

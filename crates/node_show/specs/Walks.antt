@@ -23,7 +23,7 @@ pub record Walked : Type 0 where
 pub record Walks (n : Node) (m : ShardMap) (r : Walked) : Type 0 where
   pub few : r.count ≤ 8
   pub long : r.count ≤ length r.items
-  pub over : r.full ≡ true → (s : Stores) → show.tooMany (shards_after s n m) ≡ true
+  pub over : r.full ≡ true → (s : Stores) → show.too_many (shards_after s n m) ≡ true
   pub same : r.full ≡ false → (s : Stores) → shards_after s n m ≡ map (view_taken s) (take r.count r.items)
   pub fits : r.full ≡ false → (s : Stores) → any show.overworked (map (view_taken s) (take r.count r.items)) ≡ false
   pub rise : r.full ≡ false → rising shard_below (view_map m).shards ≡ true → rising held_row_below (map held_row_of (take r.count r.items)) ≡ true

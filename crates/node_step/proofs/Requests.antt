@@ -26,13 +26,13 @@ use Rattle.node_step.specs.Requests.{Requests}
 module _ (n : Node) (a : LentStore) (k : Key) (f : found.Lent) (finds : Finds n k a f) where
   module _ (epoch peer : ℕ) (metric : Metric) (out : List ℕ) where
     pub unfit : f ≡ L.Malformed → Requests n a k epoch peer metric out out (R.Refused 24)
-    unfolding calls.requestWith
+    unfolding calls.request_with
     unfit e =
         let bad = subst (Finds n k a) e finds in
         record { answer = λ s l. rw (bad s); bytes = λ s l. rw (bad s) }
 
     pub gone : f ≡ L.Absent → Requests n a k epoch peer metric out out R.Unsent
-    unfolding calls.requestWith calls.requestOf worker.onRequest worker.onStep
+    unfolding calls.request_with calls.request_of worker.on_request worker.on_step
     gone e =
         let g = subst (Finds n k a) e finds in
         record {
@@ -52,14 +52,14 @@ module _ (n : Node) (a : LentStore) (k : Key) (f : found.Lent) (finds : Finds n 
       x = get_or n.held at no_held_row
 
       asked : (s : Stores) → Lends s (slot_of n k) a
-          → calls.writtenIn (length before) (request_on epoch peer metric (view_stored (view_key x.key) x.held (store_of a x)))
-          ≡ calls.requestWith (lent_for s n a) (view_node s n) (length before) k epoch peer metric
-      unfolding calls.requestWith
+          → calls.written_in (length before) (request_on epoch peer metric (view_stored (view_key x.key) x.held (store_of a x)))
+          ≡ calls.request_with (lent_for s n a) (view_node s n) (length before) k epoch peer metric
+      unfolding calls.request_with
       asked s l =
           let g = found_at in
           let own : x.slot ≡ slot_of n k = sym (slot_held n k at g.is g.under) in
           rw (g.lent s)
-          (ap (calls.writtenIn (length before))
+          (ap (calls.written_in (length before))
           (ap (request_on epoch peer metric) (sym (lends_view s (slot_of n k) a l x own))
           ∙ sym (request_of_lem (view_node s n) k (view_held_row s x) epoch peer metric (shard_some s n k g.inside at g.is g.under))))
 

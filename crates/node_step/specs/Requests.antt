@@ -14,6 +14,6 @@ use Rattle.node_lent.specs.Lend.{LentStore, lent_for, slot_of, Lends}
 -- `after`: a request from its start, the rest as it was, or all of it as it was where nothing is sent
 pub record Requests (n : Node) (a : LentStore) (k : Key) (epoch peer : ℕ) (metric : Metric) (before after : List ℕ) (r : Request) : Type 0 where
   pub answer : (s : Stores) → Lends s (slot_of n k) a
-      → r ≡ answer_of (calls.requestWith (lent_for s n a) (view_node s n) (length before) k epoch peer metric)
+      → r ≡ answer_of (calls.request_with (lent_for s n a) (view_node s n) (length before) k epoch peer metric)
   pub bytes : (s : Stores) → Lends s (slot_of n k) a
-      → after ≡ left_of (calls.requestWith (lent_for s n a) (view_node s n) (length before) k epoch peer metric) before
+      → after ≡ left_of (calls.request_with (lent_for s n a) (view_node s n) (length before) k epoch peer metric) before

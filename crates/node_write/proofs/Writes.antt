@@ -69,7 +69,7 @@ reply-word A.NoLease x = refl
 reply-word A.TooFew x = refl
 reply-word A.NoRoom x = refl
 
-reply-turned : (a : Admit) (last : ℕ) → turned_down (reply_as a last) ≡ true → writes.turnedDown a ≡ true
+reply-turned : (a : Admit) (last : ℕ) → turned_down (reply_as a last) ≡ true → writes.turned_down a ≡ true
 reply-turned A.Yes last e = not_both false e refl
 reply-turned (A.NotPrimary o) last e = refl
 reply-turned A.NoLease last e = refl
@@ -103,7 +103,7 @@ at_of lent v k fine does =
 module _ (n : Node) (a : LentStore) (clock least : ℕ) (m : List ℕ) where
   -- the lent store and the header stay
   unchanged : (w : WriteReply) → not (eqb (number_in w) 0) ≡ turned_down w → turned_down w ≡ true
-      → ((s : Stores) → record { answer = w; node = view_node s n } ≡ answered_as write_word (calls.writeWith (lent_for s n a) (view_node s n) clock least m))
+      → ((s : Stores) → record { answer = w; node = view_node s n } ≡ answered_as write_word (calls.write_with (lent_for s n a) (view_node s n) clock least m))
       → Serves n a a clock least m (record { answer = w; node = n })
   unchanged w listed down e = record {
     same = λ s t slot l c. ap (λ (v : held.Node). record { answer = w; node = v }) (node-view s t slot a c n) ∙ e s;
@@ -114,13 +114,13 @@ module _ (n : Node) (a : LentStore) (clock least : ℕ) (m : List ℕ) where
     listed = listed;
   }
 
-  pub late : calls.lateTime clock ≡ true → Serves n a a clock least m (record { answer = R.Refused 21; node = n })
-  unfolding calls.writeWith
+  pub late : calls.late_time clock ≡ true → Serves n a a clock least m (record { answer = R.Refused 21; node = n })
+  unfolding calls.write_with
   late e = unchanged (R.Refused 21) refl refl (λ s. rw e)
 
-  module _ (early : calls.lateTime clock ≡ false) where
-    pub undecoded : message.decodeWrite m ≡ none → Serves n a a clock least m (record { answer = R.Refused 21; node = n })
-    unfolding calls.writeWith
+  module _ (early : calls.late_time clock ≡ false) where
+    pub undecoded : message.decode_write m ≡ none → Serves n a a clock least m (record { answer = R.Refused 21; node = n })
+    unfolding calls.write_with
     undecoded d = unchanged (R.Refused 21) refl refl (λ s. rw (early, d))
 
     module _ (p : WritePart) (i : IsWrite m p) where
@@ -131,7 +131,7 @@ module _ (n : Node) (a : LentStore) (clock least : ℕ) (m : List ℕ) where
       leased_now = before (view_expiry n.expiry) clock
 
       abbrev does : held.Held → Result client.WriteAnswer held.Held
-      does = client.writeHeld leased_now least read.epoch (stored_op read.op)
+      does = client.write_held leased_now least read.epoch (stored_op read.op)
 
       abbrev key : Key
       key = key_in m p.key
@@ -139,22 +139,22 @@ module _ (n : Node) (a : LentStore) (clock least : ℕ) (m : List ℕ) where
       abbrev fine : Bool
       fine = op_in_domain (op_in m p.op)
 
-      shape : (s : Stores) → calls.writeWith (lent_for s n a) (view_node s n) clock least m ≡ at_of (lent_for s n a) (view_node s n) key fine does
-      unfolding calls.writeWith client.onWrite leased
+      shape : (s : Stores) → calls.write_with (lent_for s n a) (view_node s n) clock least m ≡ at_of (lent_for s n a) (view_node s n) key fine does
+      unfolding calls.write_with client.on_write leased
       shape s =
-          let d : message.decodeWrite m ≡ some read = (write_decoded m p i).decoded in
+          let d : message.decode_write m ≡ some read = (write_decoded m p i).decoded in
           rw (early, d)
           (ap (λ (o : WireOp). at_of (lent_for s n a) (view_node s n) read.key (op_in_domain o) does) (sym (write-op m p i read d))
           ∙ ap (λ (k : Key). at_of (lent_for s n a) (view_node s n) k fine does) (sym (write-key m p i read d)))
 
       slot-named : (j : ℕ) → WriteSlot n m j → j ≡ slot_of n key
       slot-named j l =
-          let d : message.decodeWrite m ≡ some read = (write_decoded m p i).decoded in
+          let d : message.decode_write m ≡ some read = (write_decoded m p i).decoded in
           l read d ∙ ap (slot_of n) (sym (write-key m p i read d))
 
       key-named : (k : Key) → WriteNames m k → k ≡ key
       key-named k l =
-          let d : message.decodeWrite m ≡ some read = (write_decoded m p i).decoded in
+          let d : message.decode_write m ≡ some read = (write_decoded m p i).decoded in
           l read d ∙ sym (write-key m p i read d)
 
       pub outside : (b : Bool) → b ≡ fine → b ≡ false → Serves n a a clock least m (record { answer = R.Refused 22; node = n })

@@ -76,23 +76,23 @@ IsWrite b p = message_of b ≡ Write p
 
 abbrev pub WritesMessage : List ℕ → (lease : Bool) → (least : ℕ) → Held → (s t : Store) → Written → Type 0
 WritesMessage b lease least h s t r =
-    (m : message.Write) → message.decodeWrite b ≡ some m → Writes h s t m.epoch lease least (stored_op m.op) r
+    (m : message.Write) → message.decode_write b ≡ some m → Writes h s t m.epoch lease least (stored_op m.op) r
 
 -- ---- the call at a node
 
 -- 23: the shard that the message names, and its slot
 abbrev pub WriteNames : List ℕ → Key → Type 0
-WriteNames m k = (v : message.Write) → message.decodeWrite m ≡ some v → k ≡ v.key
+WriteNames m k = (v : message.Write) → message.decode_write m ≡ some v → k ≡ v.key
 
 abbrev pub WriteSlot : Node → List ℕ → ℕ → Type 0
-WriteSlot n m slot = (v : message.Write) → message.decodeWrite m ≡ some v → slot ≡ slot_of n v.key
+WriteSlot n m slot = (v : message.Write) → message.decode_write m ≡ some v → slot ≡ slot_of n v.key
 
 -- a call with the columns a, which leaves b, and the reply w with the header p: whatever the other stores hold, they stay, and the lent one
 -- becomes the definition's
 abbrev pub SameWrite : Node → (a b : LentStore) → (clock least : ℕ) → List ℕ → WriteReply → Node → Type 0
 SameWrite n a b clock least m w p =
     (s t : Stores) (slot : ℕ) → WriteSlot n m slot → Changes s t slot a b
-    → record { answer = w; node = view_node t p } ≡ answered_as write_word (calls.writeWith (lent_for s n a) (view_node s n) clock least m)
+    → record { answer = w; node = view_node t p } ≡ answered_as write_word (calls.write_with (lent_for s n a) (view_node s n) clock least m)
 
 -- refused, it leaves every place of the columns and of the header as it was, the free ones too
 abbrev pub KeptWrite : Node → (a b : LentStore) → WriteReply → Node → Type 0

@@ -33,5 +33,5 @@ use mathlib.Core.List.{flatten}
 use Prim.Native.Nat.{ℕ}
 
 unfoldable pub opened : ℕ
-unfolding flatten lists.◌and◌ lists.◌or◌ lists.nth lists.every lists.any lists.find lists.filter lists.collect lists.change lists.lead lists.rising lists.put keys.nameBelow keys.same_name keys.keyBelow keys.sameKey nearest-root.rootBy nearest-root.root nearest-root.rootUnits nearest-root.sqrt nearest-order.inDomain nearest-order.bitsInDomain nearest-order.before nearest-order.total nearest-order.class nearest-order.isIn nearest-distance.allInDomain nearest-distance.vectorInDomain nearest-distance.sumFrom nearest-distance.distance nearest-distance.distanceBits nearest-search.neighbor nearest-search.nearer nearest-search.insert nearest-search.ordered nearest-search.hits log.entry_at log.applyOp log.playFrom log.play log.lookup log.push log.append log.store log.storeAll log.withEnd log.epochEnds log.epochAt log.agrees log.keep log.cut_to log.adopted log.promote log.entriesFrom map-change.holds map-change.inSync map-change.without map-change.decideChange map-change.deposed map-change.changed map-create.nodeAt map-create.hasCollection map-create.zeroIn map-create.matches map-create.firstNotAlive map-create.addAll map-create.newShard map-create.withShards map-create.createdShards map-create.createdCollections map-create.createRoom map-create.createOn map-create.createAnswer Map-apply.update Map-apply.shardAt Map-apply.sessionAt Map-apply.registerAnswer Map-apply.deadAnswer Map-apply.changeAnswer Map-apply.decide Map-apply.changeShard Map-apply.commit Map-apply.remembered Map-apply.settle Map-apply.applyTo Map-apply.apply map-place.onNode map-place.replicasOf map-place.loadsOf map-place.lighter map-place.lightestFrom map-place.lightest map-place.chosen_of map-place.chooseNode map-place.chooseNodes map-place.placeShards map-place.placeOn map-place.place map-place.replaceIn map-place.replacement map-wellformed.shardFits map-wellformed.tableFits map-wellformed.wellFormedMap map-wellformed.commandFits map-calls.applyCall map-calls.applyDecoded map-calls.applyBytes map-calls.placeCall map-calls.replacementCall map-calls.requestsFrom map-calls.requestsIn map-calls.linesFor map-calls.applyStream node-shards.heldShard node-shards.atShard node-lease.raised node-lease.grant node-lease.leased node-client.ackCount node-client.writeHeld node-client.onWrite node-client.searchHeld node-client.onSearch node-client.waitRow node-client.waitHeld node-client.onWait node-backup.replicateHeld node-backup.onReplicate node-backup.newEpochHeld node-backup.onNewEpoch node-backup.copyHeld node-backup.onCopy node-wire.floatsOf node-wire.patternsInDomain node-wire.storedOp node-wire.wireOp node-worker.stepRow node-worker.stepHeld node-worker.onStep node-worker.messageBytes node-worker.alignment node-worker.sending node-worker.requestHeld node-worker.onRequest node-ack.badReply node-ack.deed_of node-ack.ackedThrough node-ack.joins node-ack.ackRow node-ack.unaligned node-ack.doDeed node-ack.ackHeld node-ack.onAck node-ack.settledRow node-ack.outcomeHeld node-ack.onOutcome node-shown.with_row node-shown.withRows node-shown.retained node-shown.starts node-shown.promotedTo node-shown.keptAs node-shown.showHeld node-shown.showListed node-shown.showShard node-shown.showings node-shown.allStarts node-shown.takeMap node-shown.onMap node-refused.counted node-refused.countWrite node-refused.countSearch node-wellformed.wellFormedHeld node-wellformed.wellFormedHeader node-wellformed.numberedFrom node-wellformed.wellFormedVector node-wellformed.sameFloats node-wellformed.sameVectors node-wellformed.wellFormedLog node-wellformed.wellFormedLent node-wellformed.wellFormedNode node-calls.decodeKey node-calls.writeWith node-calls.callWrite node-calls.searchWith node-calls.callSearch node-calls.replicateWith node-calls.callReplicate node-calls.newEpochWith node-calls.callNewEpoch node-calls.copyWith node-calls.callCopy node-calls.grantWith node-calls.callGrant node-calls.waitWith node-calls.callWait node-calls.stepWith node-calls.callStep node-calls.requestOf node-calls.requestWith node-calls.callRequest node-calls.ackWith node-calls.callAck node-calls.outcomeWith node-calls.callOutcome node-calls.shownWith node-calls.callShown layout-format.whole layout-request.encodeRequest layout-request.decodeRequest layout-request.requestAt layout-message.encodeReplicate layout-message.decodeReplicate layout-message.encodeNewEpoch layout-message.decodeNewEpoch layout-message.encodeCopyShard layout-message.decodeCopyShard layout-message.encodeWrite layout-message.decodeWrite layout-message.encodeSearch layout-message.decodeSearch layout-message.encodeReply layout-message.decodeReply layout-shardof.mixed layout-shardof.shardOf starred.entriesOf starred.backupAt starred.numbered starred.rowHolds starred.starred nearmisses.higherEpochWaits nearmisses.primaryOfOne nearmisses.ackAsSaid nearmisses.after nearmisses.rejectionStays nearmisses.lowerIdFirst nearmisses.removedLeaves nearmisses.nearMisses
+unfolding flatten lists.◌and◌ lists.◌or◌ lists.nth lists.every lists.any lists.find lists.filter lists.collect lists.change lists.lead lists.rising lists.put keys.name_below keys.same_name keys.key_below keys.same_key nearest-root.root_by nearest-root.root nearest-root.root_units nearest-root.sqrt nearest-order.in_domain nearest-order.bits_in_domain nearest-order.before nearest-order.total nearest-order.class nearest-order.is_in nearest-distance.all_in_domain nearest-distance.vector_in_domain nearest-distance.sum_from nearest-distance.distance nearest-distance.distance_bits nearest-search.neighbor nearest-search.nearer nearest-search.insert nearest-search.ordered nearest-search.hits log.entry_at log.apply_op log.play_from log.play log.lookup log.push log.append log.store log.store_all log.with_end log.epoch_ends log.epoch_at log.agrees log.keep log.cut_to log.adopted log.promote log.entries_from map-change.holds map-change.in_sync map-change.without map-change.decide_change map-change.deposed map-change.changed map-create.node_at map-create.has_collection map-create.zero_in map-create.matches map-create.first_not_alive map-create.add_all map-create.new_shard map-create.with_shards map-create.created_shards map-create.created_collections map-create.create_room map-create.create_on map-create.create_answer Map-apply.update Map-apply.shard_at Map-apply.session_at Map-apply.register_answer Map-apply.dead_answer Map-apply.change_answer Map-apply.decide Map-apply.change_shard Map-apply.commit Map-apply.remembered Map-apply.settle Map-apply.apply_to Map-apply.apply map-place.on_node map-place.replicas_of map-place.loads_of map-place.lighter map-place.lightest_from map-place.lightest map-place.chosen_of map-place.choose_node map-place.choose_nodes map-place.place_shards map-place.place_on map-place.place map-place.replace_in map-place.replacement map-wellformed.shard_fits map-wellformed.table_fits map-wellformed.well_formed_map map-wellformed.command_fits map-calls.apply_call map-calls.apply_decoded map-calls.apply_bytes map-calls.place_call map-calls.replacement_call map-calls.requests_from map-calls.requests_in map-calls.lines_for map-calls.apply_stream node-shards.held_shard node-shards.at_shard node-lease.raised node-lease.grant node-lease.leased node-client.ack_count node-client.write_held node-client.on_write node-client.search_held node-client.on_search node-client.wait_row node-client.wait_held node-client.on_wait node-backup.replicate_held node-backup.on_replicate node-backup.new_epoch_held node-backup.on_new_epoch node-backup.copy_held node-backup.on_copy node-wire.floats_of node-wire.patterns_in_domain node-wire.stored_op node-wire.wire_op node-worker.step_row node-worker.step_held node-worker.on_step node-worker.message_bytes node-worker.alignment node-worker.sending node-worker.request_held node-worker.on_request node-ack.bad_reply node-ack.deed_of node-ack.acked_through node-ack.joins node-ack.ack_row node-ack.unaligned node-ack.do_deed node-ack.ack_held node-ack.on_ack node-ack.settled_row node-ack.outcome_held node-ack.on_outcome node-shown.with_row node-shown.with_rows node-shown.retained node-shown.starts node-shown.promoted_to node-shown.kept_as node-shown.show_held node-shown.show_listed node-shown.show_shard node-shown.showings node-shown.all_starts node-shown.take_map node-shown.on_map node-refused.counted node-refused.count_write node-refused.count_search node-wellformed.well_formed_held node-wellformed.well_formed_header node-wellformed.numbered_from node-wellformed.well_formed_vector node-wellformed.same_floats node-wellformed.same_vectors node-wellformed.well_formed_log node-wellformed.well_formed_lent node-wellformed.well_formed_node node-calls.decode_key node-calls.write_with node-calls.call_write node-calls.search_with node-calls.call_search node-calls.replicate_with node-calls.call_replicate node-calls.new_epoch_with node-calls.call_new_epoch node-calls.copy_with node-calls.call_copy node-calls.grant_with node-calls.call_grant node-calls.wait_with node-calls.call_wait node-calls.step_with node-calls.call_step node-calls.request_of node-calls.request_with node-calls.call_request node-calls.ack_with node-calls.call_ack node-calls.outcome_with node-calls.call_outcome node-calls.shown_with node-calls.call_shown layout-format.whole layout-request.encode_request layout-request.decode_request layout-request.request_at layout-message.encode_replicate layout-message.decode_replicate layout-message.encode_new_epoch layout-message.decode_new_epoch layout-message.encode_copy_shard layout-message.decode_copy_shard layout-message.encode_write layout-message.decode_write layout-message.encode_search layout-message.decode_search layout-message.encode_reply layout-message.decode_reply layout-shardof.mixed layout-shardof.shard_of starred.entries_of starred.backup_at starred.numbered starred.row_holds starred.starred nearmisses.higher_epoch_waits nearmisses.primary_of_one nearmisses.ack_as_said nearmisses.after nearmisses.rejection_stays nearmisses.lower_id_first nearmisses.removed_leaves nearmisses.near_misses
 opened = 0

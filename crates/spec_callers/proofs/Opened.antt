@@ -6,5 +6,5 @@ use Rattle.spec_callers.specs.Counts as counts
 use Rattle.spec_callers.specs.Calls as calls
 
 unfoldable pub all : ℕ
-unfolding model.opened editions.encodeCalledWrite editions.decodeCalledWrite editions.encodeCalledSearch editions.decodeCalledSearch editions.isSecond editions.callerIn editions.plain counts.wellFormedCounts counts.count_of counts.room_for counts.setCount counts.placed counts.movedFor counts.effect_of counts.after counts.afterMalformed counts.countsAfter calls.writeBy calls.searchBy
+unfolding model.opened editions.encode_called_write editions.decode_called_write editions.encode_called_search editions.decode_called_search editions.is_second editions.caller_in editions.plain counts.well_formed_counts counts.count_of counts.room_for counts.set_count counts.placed counts.moved_for counts.effect_of counts.after counts.after_malformed counts.counts_after calls.write_by calls.search_by
 all = 0

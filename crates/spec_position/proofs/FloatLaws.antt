@@ -159,6 +159,6 @@ module _ (p : Position) (w : within p ≡ true) where
   in_domain_lem = rw (int_in (arcseconds p.ra) (ra_seconds p w), int_in (left_over p.ra) (ra_left p w)) (rw (int_in (arcseconds p.dec) (dec_seconds p w), int_in (left_over p.dec) (dec_left p w)) refl)
 
   -- as a message brings it: a Write of these floats is not refused with 22
-  pub wire_in_domain : wire.patternsInDomain (map wire.bits_of (floats_of p)) ≡ true
-  unfolding wire.patternsInDomain every floats_of
+  pub wire_in_domain : wire.patterns_in_domain (map wire.bits_of (floats_of p)) ≡ true
+  unfolding wire.patterns_in_domain every floats_of
   wire_in_domain = rw (bits_in_lem (arcseconds p.ra) (ra_seconds p w), bits_in_lem (left_over p.ra) (ra_left p w)) (rw (bits_in_lem (arcseconds p.dec) (dec_seconds p w), bits_in_lem (left_over p.dec) (dec_left p w)) refl)

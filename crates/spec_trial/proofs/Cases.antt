@@ -136,9 +136,9 @@ keeps x none = false
 keeps x (some i) = paper_run seqs (beginning x.nodes) (fresh_history (beginning x.nodes) i) (trial_of x).hall.past
 
 pub second_obeys : keeps second (shard_at (opening 2).shards hall_key) ≡ true
-unfolding all paper.firstStarted fresh_history paper.proposing paper.made paper.remember paper.paper paper_run
+unfolding all paper.first_started fresh_history paper.proposing paper.made paper.remember paper.paper paper_run
 second_obeys = refl
 
 pub third_obeys : keeps third (shard_at (opening 3).shards hall_key) ≡ true
-unfolding all paper.firstStarted fresh_history paper.proposing paper.made paper.remember paper.paper paper_run
+unfolding all paper.first_started fresh_history paper.proposing paper.made paper.remember paper.paper paper_run
 third_obeys = refl

@@ -7,5 +7,5 @@ use Rattle.spec_trial.specs.Settings as settings
 use Rattle.spec_trial.specs.Trial as trial
 
 unfoldable pub all : ℕ
-unfolding run.opened ieee.fits settings.timely settings.settingsIn settings.within settings.isDown trial.up_to trial.registered trial.opening trial.inHall trial.beginning trial.opened trial.happens trial.settleOne trial.settleMany trial.settle trial.prepare trial.prepareAll trial.present trial.presentAll trial.works trial.worksAll trial.playStep trial.play trial.trialOf trial.lines_of trial.printed
+unfolding run.opened ieee.fits settings.timely settings.settings_in settings.within settings.is_down trial.up_to trial.registered trial.opening trial.in_hall trial.beginning trial.opened trial.happens trial.settle_one trial.settle_many trial.settle trial.prepare trial.prepare_all trial.present trial.present_all trial.works trial.works_all trial.play_step trial.play trial.trial_of trial.lines_of trial.printed
 all = 0

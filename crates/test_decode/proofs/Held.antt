@@ -100,14 +100,14 @@ entry-held : (s : List ℕ) (at : ℕ) → fits entry_f s at ≡ true → OpHeld
 entry-held s at e = op-held s (at + 8 + 8) (and_right _ _ (and_right _ _ e))
 
 module _ (s : List ℕ) (at : ℕ) where
-  create_held : fits request.createF s (at + 1) ≡ true → CommandHeld s (command_shown at (request.createOf (value request.createF s (at + 1))))
+  create_held : fits request.create_f s (at + 1) ≡ true → CommandHeld s (command_shown at (request.create_of (value request.create_f s (at + 1))))
   create_held e =
       let p = at + 1 + 1 + 32 + 4 + 1 + 4 + 4 in
       row-held (many 1 0 8 u64) s 1 0 16 p (and_right _ _ (and_right _ _ (and_right _ _ (and_right _ _ (and_right _ _ e))))) _
       (length-value_n (value (many 1 0 8 u64) s) (next (many 1 0 8 u64) s) (number_at 1 s p) (p + 1))
 
   -- the commands 11 to 19 have no items
-  others : (v : Value request.commandF) → ((w : Value request.createF) → v ≡ inl w → ⊥) → CommandHeld s (command_shown at (request.commandOf v))
+  others : (v : Value request.command_f) → ((w : Value request.create_f) → v ≡ inl w → ⊥) → CommandHeld s (command_shown at (request.command_of v))
   others (inl w) h = absurd (h w refl)
   others (inr (inl w)) h = tt
   others (inr (inr (inl w))) h = tt
@@ -119,14 +119,14 @@ module _ (s : List ℕ) (at : ℕ) where
   others (inr (inr (inr (inr (inr (inr (inr (inr (inl w))))))))) h = tt
   others (inr (inr (inr (inr (inr (inr (inr (inr (inr w))))))))) h = tt
 
-  command_held : fits request.commandF s at ≡ true → CommandHeld s (command_shown at (request.commandOf (value request.commandF s at)))
+  command_held : fits request.command_f s at ≡ true → CommandHeld s (command_shown at (request.command_of (value request.command_f s at)))
   command_held e = by (eqb (get_or s at 0) 0x10) refl
     where
-      by : (b : Bool) → eqb (get_or s at 0) 0x10 ≡ b → CommandHeld s (command_shown at (request.commandOf (value request.commandF s at)))
+      by : (b : Bool) → eqb (get_or s at 0) 0x10 ≡ b → CommandHeld s (command_shown at (request.command_of (value request.command_f s at)))
       by true h =
           let q = eqb-true _ _ h in
           subst (CommandHeld s) (shown_10 s at q) (create_held (fits_10 s at e q))
-      by false h = others (value request.commandF s at) (λ w q. let r = rw h at q in let z : ◌≡◌ {A = ℕ} 0 1 = cc in omega arith)
+      by false h = others (value request.command_f s at) (λ w q. let r = rw h at q in let z : ◌≡◌ {A = ℕ} 0 1 = cc in omega arith)
 
 -- ---- a turn of a loop: the list or the entry that was read, and the place after it
 
@@ -163,58 +163,58 @@ reply-held s (some (message.reply_stale n)) = tt
 reply-held s (some (message.reply_adopted n)) = tt
 
 module _ (s : List ℕ) where
-  request-held : Held s (shown_or (request_shown 0) (request.decodeRequest s))
-  unfolding request.decodeRequest whole
+  request-held : Held s (shown_or (request_shown 0) (request.decode_request s))
+  unfolding request.decode_request whole
   request-held =
-      read_held s (request_shown 0) (whole request.requestF s) (request.requestOf (value request.requestF s 0)) (λ w.
+      read_held s (request_shown 0) (whole request.request_f s) (request.request_of (value request.request_f s 0)) (λ w.
       command_held s 25 (and_right _ _ (and_right _ _ (and_right _ _ (and_right _ _ (and_left _ _ w))))))
 
-  replicate_held_lem : Held s (shown_or replicate_shown (message.decodeReplicate s))
-  unfolding message.decodeReplicate whole
+  replicate_held_lem : Held s (shown_or replicate_shown (message.decode_replicate s))
+  unfolding message.decode_replicate whole
   replicate_held_lem =
-      read_held s replicate_shown (whole message.replicateF s) (message.replicateOf (value message.replicateF s 0)) (λ w.
+      read_held s replicate_shown (whole message.replicate_f s) (message.replicate_of (value message.replicate_f s 0)) (λ w.
       op-held s 54 (and_right _ _ (and_right _ _ (and_right _ _ (and_right _ _ (and_left _ _ w))))))
 
-  new_epoch_held_lem : Held s (shown_or new_epoch_shown (message.decodeNewEpoch s))
-  unfolding message.decodeNewEpoch whole
+  new_epoch_held_lem : Held s (shown_or new_epoch_shown (message.decode_new_epoch s))
+  unfolding message.decode_new_epoch whole
   new_epoch_held_lem =
-      read_held s new_epoch_shown (whole message.newEpochF s) (message.newEpochOf (value message.newEpochF s 0)) (λ w.
+      read_held s new_epoch_shown (whole message.new_epoch_f s) (message.new_epoch_of (value message.new_epoch_f s 0)) (λ w.
       table-run s 1024 54 (and_left _ _ (and_right _ _ (and_right _ _ (and_right _ _ (and_right _ _ (and_left _ _ w)))))))
 
-  copy_held_lem : Held s (shown_or copy_shown (message.decodeCopyShard s))
-  unfolding message.decodeCopyShard whole
+  copy_held_lem : Held s (shown_or copy_shown (message.decode_copy_shard s))
+  unfolding message.decode_copy_shard whole
   copy_held_lem =
-      read_held s copy_shown (whole message.copyShardF s) (message.copyShardOf (value message.copyShardF s 0)) (λ w.
+      read_held s copy_shown (whole message.copy_shard_f s) (message.copy_shard_of (value message.copy_shard_f s 0)) (λ w.
       row-held entry_f s 2 0 256 46 (and_right _ _ (and_right _ _ (and_right _ _ (and_left _ _ w)))) _
       (length_mapped entry_of (value_n (value entry_f s) (next entry_f s) (number_at 2 s 46) 48) ∙ length-value_n (value entry_f s) (next entry_f s) (number_at 2 s 46) 48))
 
-  write-held : Held s (shown_or write_shown (message.decodeWrite s))
-  unfolding message.decodeWrite whole
+  write-held : Held s (shown_or write_shown (message.decode_write s))
+  unfolding message.decode_write whole
   write-held =
-      read_held s write_shown (whole message.writeF s) (message.writeOf (value message.writeF s 0)) (λ w.
+      read_held s write_shown (whole message.write_f s) (message.write_of (value message.write_f s 0)) (λ w.
       op-held s 46 (and_right _ _ (and_right _ _ (and_right _ _ (and_left _ _ w)))))
 
-  search_held_lem : Held s (shown_or search_shown (message.decodeSearch s))
-  unfolding message.decodeSearch whole
+  search_held_lem : Held s (shown_or search_shown (message.decode_search s))
+  unfolding message.decode_search whole
   search_held_lem =
-      read_held s search_shown (whole message.searchF s) (message.searchOf (value message.searchF s 0)) (λ w.
+      read_held s search_shown (whole message.search_f s) (message.search_of (value message.search_f s 0)) (λ w.
       vector-run s 1 32 50 (and_right _ _ (and_right _ _ (and_right _ _ (and_right _ _ (and_left _ _ w))))))
 
   -- by the code
   chosen : (a b c d e f : Bool) → Held s
-      (cond a (shown_or (request_shown 0) (request.decodeRequest s))
-      (cond b (shown_or replicate_shown (message.decodeReplicate s))
-      (cond c (shown_or new_epoch_shown (message.decodeNewEpoch s))
-      (cond d (shown_or copy_shown (message.decodeCopyShard s))
-      (cond e (shown_or write_shown (message.decodeWrite s))
-      (cond f (shown_or search_shown (message.decodeSearch s)) (shown_or reply_shown (message.decodeReply s))))))))
+      (cond a (shown_or (request_shown 0) (request.decode_request s))
+      (cond b (shown_or replicate_shown (message.decode_replicate s))
+      (cond c (shown_or new_epoch_shown (message.decode_new_epoch s))
+      (cond d (shown_or copy_shown (message.decode_copy_shard s))
+      (cond e (shown_or write_shown (message.decode_write s))
+      (cond f (shown_or search_shown (message.decode_search s)) (shown_or reply_shown (message.decode_reply s))))))))
   chosen true b c d e f = request-held
   chosen false true c d e f = replicate_held_lem
   chosen false false true d e f = new_epoch_held_lem
   chosen false false false true e f = copy_held_lem
   chosen false false false false true f = write-held
   chosen false false false false false true = search_held_lem
-  chosen false false false false false false = reply-held s (message.decodeReply s)
+  chosen false false false false false false = reply-held s (message.decode_reply s)
 
   -- whatever the bytes are
   pub held : Held s (message_of s)

@@ -27,7 +27,7 @@ pub record Left (s : List ℕ) (m₀ m : tables.Map) (ls : List Line) (t : List 
 pub record Going (s : List ℕ) (m₀ m : tables.Map) (at : ℕ) (ls : List Line) : Type 0 where
   pub fuel : ℕ
   pub enough : length s ≤ fuel + at
-  pub left : Left s m₀ m ls (requests_from fuel s at (request.requestAt s at))
+  pub left : Left s m₀ m ls (requests_from fuel s at (request.request_at s at))
 
 pub record Ended (s : List ℕ) (m₀ m : tables.Map) (at : ℕ) (ls : List Line) : Type 0 where
   pub lines : ls ≡ lines_for m₀ (requests_in s)
@@ -45,7 +45,7 @@ module _ (s : List ℕ) (m₀ m : tables.Map) (ls : List Line) where
   no_more (suc n) at l = record { lines = sym (append-nil ls) ∙ l.lines; map = l.map; place = l.place }
 
   -- where no request stands
-  pub ended : (at : ℕ) → Going s m₀ m at ls → request.requestAt s at ≡ none → Ended s m₀ m at ls
+  pub ended : (at : ℕ) → Going s m₀ m at ls → request.request_at s at ≡ none → Ended s m₀ m at ls
   ended at g e =
       no_more g.fuel at
       (subst (λ (o : Option (request.Request × ℕ)). Left s m₀ m ls (requests_from g.fuel s at o)) e g.left)
@@ -62,17 +62,17 @@ module _ (s : List ℕ) (m₀ m : tables.Map) (ls : List Line) where
       left = record { lines = append_assoc ls (line_of r.index (apply_call m r) ∷ []) _ ∙ l.lines; map = l.map; place = l.place };
     }
 
-    pub going_on : Going s m₀ m at ls → request.requestAt s at ≡ some (r, end) → Going s m₀ (apply_call m r).map end (ls ++ (line_of r.index (apply_call m r) ∷ []))
+    pub going_on : Going s m₀ m at ls → request.request_at s at ≡ some (r, end) → Going s m₀ (apply_call m r).map end (ls ++ (line_of r.index (apply_call m r) ∷ []))
     going_on g e =
         on g.fuel g.enough (subst (λ (o : Option (request.Request × ℕ)). Left s m₀ m ls (requests_from g.fuel s at o)) e g.left)
 
 -- ---- by what was read
 
 module _ (s : List ℕ) (at : ℕ) (l : Loaded) (h : LoadedAt s at l) where
-  pub not_there : l.found ≡ false → request.requestAt s at ≡ none
+  pub not_there : l.found ≡ false → request.request_at s at ≡ none
   not_there e = h.read ∙ ap (λ (b : Bool). whenever b (view_request l.request h.padding, l.next)) e
 
-  there : l.found ≡ true → request.requestAt s at ≡ some (view_request l.request h.padding, l.next)
+  there : l.found ≡ true → request.request_at s at ≡ some (view_request l.request h.padding, l.next)
   there e = h.read ∙ ap (λ (b : Bool). whenever b (view_request l.request h.padding, l.next)) e
 
   pub stepped-on : (m₀ : tables.Map) (u v : List ℕ) (ls : List Line) (x : own.Line) → l.found ≡ true → Going s m₀ (map_in u) at ls → Stepped u v l.request x

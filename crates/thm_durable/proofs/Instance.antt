@@ -212,7 +212,7 @@ waits = λ s. rw (s.long 0 1) refl
 -- ---- the Write
 
 abbrev pub bytes : List ℕ
-bytes = message.encodeWrite (record { key = run.key; epoch = 1; op = wire_delete 41 })
+bytes = message.encode_write (record { key = run.key; epoch = 1; op = wire_delete 41 })
 
 abbrev pub before : LentStore
 before = let z : List ℕ = fill 1024 0 in lent_store z z z z z (fill 32768 nan) z z
@@ -263,7 +263,7 @@ abbrev pub accepted : C.the_data
 accepted = C.Accepted (record { 0 = 1 })
 
 taken : (s : Stores)
-    → record { answer = accepted; node = read (run.entry 1 1 41 ∷ []) } ≡ answered_as write_word (calls.writeWith (lent_for s (leads (At 100) 0) before) (read []) 5 1 bytes)
+    → record { answer = accepted; node = read (run.entry 1 1 41 ∷ []) } ≡ answered_as write_word (calls.write_with (lent_for s (leads (At 100) 0) before) (read []) 5 1 bytes)
 unfolding opened
 taken s = rw (lent s) refl
 
@@ -276,7 +276,7 @@ same = λ s t slot w c.
     let to : view_node t (leads (At 100) 1) ≡ read (run.entry 1 1 41 ∷ []) = rw (l, v) refl in
     ap (λ (x : held.Node). record { answer = accepted; node = x }) to
     ∙ taken s
-    ∙ ap (λ (x : held.Node). answered_as write_word (calls.writeWith (lent_for s (leads (At 100) 0) before) x 5 1 bytes)) (sym (read-before s))
+    ∙ ap (λ (x : held.Node). answered_as write_word (calls.write_with (lent_for s (leads (At 100) 0) before) x 5 1 bytes)) (sym (read-before s))
 
 abbrev wrote : WriteAnswer
 wrote = record { answer = accepted; node = leads (At 100) 1; refused = 0 }
@@ -392,7 +392,7 @@ leased : Engine
 leased = with_node first 1 (leads (At 100) 0)
 
 written : Engine
-written = host (with_store leased 1 (leads (At 100) 1) 0 after) (λ s. write_said s 1 (message.decodeWrite bytes) accepted)
+written = host (with_store leased 1 (leads (At 100) 1) 0 after) (λ s. write_said s 1 (message.decode_write bytes) accepted)
 
 pub last : Engine
 last = host (with_node written 1 (leads (At 100) 1)) (λ s. wait_said s (run.wrote 1 1 1 41) W.Done [])
@@ -433,16 +433,16 @@ in_sync_lem : in_sync_at (seen last).map run.key 1 ≡ true
 unfolding opened fill with_node with_store host seen first leased written last
 in_sync_lem = refl
 
-pub stands : Stands (run.wrote 1 1 1 41) (claim.logOf ((seen last).nodes 1) run.key)
+pub stands : Stands (run.wrote 1 1 1 41) (claim.log_of ((seen last).nodes 1) run.key)
 stands = kept.stands (run.wrote 1 1 1 41) 0 (rw acknowledged (unfold nth in refl)) 1 in_sync_lem
 
 -- request 2.5: its entry is the Write that was accepted at epoch 1, and nothing else stands there under that epoch
-at_first : entry_at (claim.logOf ((seen last).nodes 1) run.key) 1 ≡ some (run.entry 1 1 41)
+at_first : entry_at (claim.log_of ((seen last).nodes 1) run.key) 1 ≡ some (run.entry 1 1 41)
 unfolding opened fill with_node with_store host seen first leased written last stores_of log_of firsts entry_of op_of
 at_first = refl
 
 pub origin : Origin (seen last) run.key 1 (run.entry 1 1 41)
 origin = (theorem.written first last events first-fresh calls-made).entries run.key 1 1 (run.entry 1 1 41) at_first
 
-pub same-entry : (x : Entry) → entry_at (claim.logOf ((seen last).nodes 1) run.key) 1 ≡ some x → x.epoch ≡ 1 → x ≡ run.entry 1 1 41
+pub same-entry : (x : Entry) → entry_at (claim.log_of ((seen last).nodes 1) run.key) 1 ≡ some x → x.epoch ≡ 1 → x ≡ run.entry 1 1 41
 same-entry x p e = (theorem.alike first last events first-fresh calls-made).entries run.key 1 1 1 x (run.entry 1 1 41) p at_first e

@@ -37,8 +37,8 @@ use Rattle.node_lent.proofs.Lend.{slot_held, lends_view}
 
 -- ---- a map
 
-pub map-well : (m : ShardMap) → maps.wellFormedLent m ≡ true → well_formed_map (view_map m) ≡ true
-unfolding maps.wellFormedLent
+pub map-well : (m : ShardMap) → maps.well_formed_lent m ≡ true → well_formed_map (view_map m) ≡ true
+unfolding maps.well_formed_lent
 map-well m e = and_right (maps.counted m) (well_formed_map (view_map m)) e
 
 -- ---- a header

@@ -69,7 +69,7 @@ module _ (e f : Engine) where
       let t = stores_of l in
       let x = e.nodes n in
       let v = view_node t x in
-      let d = message.decodeWrite m in
+      let d = message.decode_write m in
       let z = write_with (lent_for t x (l slot)) v now least m in
       called client.write_refused e f n z (call_write v now least m) (λ a s. record_write s n d a)
       (given-store e f n r.node slot b (λ s. write_said s n d r.answer) (λ s. write-beside s n d r.answer) c.6

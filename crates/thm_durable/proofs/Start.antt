@@ -55,7 +55,7 @@ created_by_apply m bytes r p w empty index client seq name spec l d good ids apa
 
 module _ (x : Node) (me incarnation : ℕ) (new : New x me incarnation) (s : Stores) where
   -- a new header is read as an empty node, and passes the test
-  new-empty : view_node s x ≡ held.emptyNode me incarnation
+  new-empty : view_node s x ≡ held.empty_node me incarnation
   new-empty = λ i. record {
     id = new.id i;
     incarnation = new.incarnation i;
@@ -83,18 +83,18 @@ module _ (e : Engine) (b : Begun e) where
       let k = b.incarnation n in
       let empty = new-empty f.new n k f.made s in
       let z : held.Node → Result ShownAnswer held.Node = λ (v : held.Node). shown_with (lent_node s f.new and well_formed_lent e.map) v f.fresh m in
-      let given : view_node s (e.nodes n) ≡ (z (held.emptyNode n k)).after =
+      let given : view_node s (e.nodes n) ≡ (z (held.empty_node n k)).after =
       ap (view_node s) f.node ∙ ap (λ (t : ShownAnswered). t.node) (f.promised.same s) ∙ ap (λ (v : held.Node). (z v).after) empty in
-      let tests : (lent_node s f.new and well_formed_lent e.map) ≡ (well_formed_header (held.emptyNode n k) and well_formed_map m) =
+      let tests : (lent_node s f.new and well_formed_lent e.map) ≡ (well_formed_header (held.empty_node n k) and well_formed_map m) =
       rw (new-lent f.new n k f.made s, b.tested, map-well e.map b.tested) (unfold well_formed_header in unfold rising in unfold every in unfold ◌and◌ in refl) in
-      subst (Shown m b.shard n) (sym (given ∙ ap (λ (t : Bool). (shown_with t (held.emptyNode n k) f.fresh m).after) tests))
+      subst (Shown m b.shard n) (sym (given ∙ ap (λ (t : Bool). (shown_with t (held.empty_node n k) f.fresh m).after) tests))
       (shown_holder m b.shard b.created n k f.fresh h (own n))
 
   other : (n : ℕ) → holds n b.shard.replicas ≡ false → Shown m b.shard n (view_node (stores_of (e.lent_stores n)) (e.nodes n))
   other n h =
       let k = b.incarnation n in
       subst (Shown m b.shard n) (sym (new-empty (e.nodes n) (b.id n) k (b.others n h) (stores_of (e.lent_stores n))))
-      (shown-other m b.shard b.created n (held.emptyNode (b.id n) k) h (b.apart n h) refl)
+      (shown-other m b.shard b.created n (held.empty_node (b.id n) k) h (b.apart n h) refl)
 
   pub begun_fresh : Fresh (seen e)
   unfolding seen

@@ -96,7 +96,7 @@ module _ (s : Stores) (n : Node) where
   pub ack_as_lem : (k : Key) (epoch peer : ℕ) (sent : Sent) (bytes : List ℕ)
       → As ack_refused v (ack_with (lent_node s n) v k epoch peer sent bytes) (call_ack v k epoch peer sent bytes)
   unfolding ack_with call_ack
-  ack_as_lem k epoch peer sent bytes = go (message.decodeReply bytes)
+  ack_as_lem k epoch peer sent bytes = go (message.decode_reply bytes)
     where
       go : (o : Option message.Reply) → As ack_refused v (ack_of (lent_node s n) v k epoch peer sent o) (ack_of (well_formed_header v) v k epoch peer sent o)
       go none = same refl
@@ -104,57 +104,57 @@ module _ (s : Stores) (n : Node) where
           checked ack_refused v (bad_reply r) undecodable (lent_node s n) (well_formed_header v) (on_ack v k epoch peer sent r) (header-well s n)
 
   pub shown_as_lem : (fresh : ℕ) (m : ShardMap)
-      → As shown_refused v (shown_with (lent_node s n and maps.wellFormedLent m) v fresh (view_map m)) (call_shown v fresh (view_map m))
+      → As shown_refused v (shown_with (lent_node s n and maps.well_formed_lent m) v fresh (view_map m)) (call_shown v fresh (view_map m))
   unfolding shown_with call_shown
   shown_as_lem fresh m =
       let a = lent_node s n in
-      let b = maps.wellFormedLent m in
+      let b = maps.well_formed_lent m in
       checked shown_refused v false malformed (a and b) (well_formed_header v and well_formed_map (view_map m)) (on_map v fresh (view_map m))
       (λ e. and_true (well_formed_header v) (well_formed_map (view_map m)) (header-well s n (and_left a b e)) (map-well m (and_right a b e)))
 
 -- ---- the calls that are lent a store too: t is the contract's test of the shard that the message names
 
 module _ (v : held.Node) (t : Key → Bool) (m : List ℕ) where
-  pub replicate_as : ((z : message.Replicated) → message.decodeReplicate m ≡ some z → t z.key ≡ true → well_formed_lent v z.key ≡ true)
+  pub replicate_as : ((z : message.Replicated) → message.decode_replicate m ≡ some z → t z.key ≡ true → well_formed_lent v z.key ≡ true)
       → As backup_refused v (replicate_with t v m) (call_replicate v m)
   unfolding replicate_with call_replicate
-  replicate_as h = go (message.decodeReplicate m) refl
+  replicate_as h = go (message.decode_replicate m) refl
     where
-      go : (o : Option message.Replicated) → message.decodeReplicate m ≡ o
+      go : (o : Option message.Replicated) → message.decode_replicate m ≡ o
           → As backup_refused v (replicate_of t v o) (replicate_of (well_formed_lent v) v o)
       go none e = same refl
       go (some z) e =
           checked backup_refused v (not (op_in_domain z.op)) outside_domain (t z.key) (well_formed_lent v z.key)
           (on_replicate v z.key z.epoch z.offset (stored_op z.op)) (h z e)
 
-  pub copy_as : ((z : message.Copied) → message.decodeCopyShard m ≡ some z → t z.key ≡ true → well_formed_lent v z.key ≡ true)
+  pub copy_as : ((z : message.Copied) → message.decode_copy_shard m ≡ some z → t z.key ≡ true → well_formed_lent v z.key ≡ true)
       → As backup_refused v (copy_with t v m) (call_copy v m)
   unfolding copy_with call_copy
-  copy_as h = go (message.decodeCopyShard m) refl
+  copy_as h = go (message.decode_copy_shard m) refl
     where
-      go : (o : Option message.Copied) → message.decodeCopyShard m ≡ o → As backup_refused v (copy_of t v o) (copy_of (well_formed_lent v) v o)
+      go : (o : Option message.Copied) → message.decode_copy_shard m ≡ o → As backup_refused v (copy_of t v o) (copy_of (well_formed_lent v) v o)
       go none e = same refl
       go (some z) e =
           checked backup_refused v (not (every entry_in_domain z.entries)) outside_domain (t z.key) (well_formed_lent v z.key)
           (on_copy v z.key z.epoch (map stored_entry z.entries)) (h z e)
 
-  pub new_epoch_as : ((z : message.NewEpoch) → message.decodeNewEpoch m ≡ some z → t z.key ≡ true → well_formed_lent v z.key ≡ true)
+  pub new_epoch_as : ((z : message.NewEpoch) → message.decode_new_epoch m ≡ some z → t z.key ≡ true → well_formed_lent v z.key ≡ true)
       → As backup_refused v (new_epoch_with t v m) (call_new_epoch v m)
   unfolding new_epoch_with call_new_epoch
-  new_epoch_as h = go (message.decodeNewEpoch m) refl
+  new_epoch_as h = go (message.decode_new_epoch m) refl
     where
-      go : (o : Option message.NewEpoch) → message.decodeNewEpoch m ≡ o → As backup_refused v (new_epoch_of t v o) (new_epoch_of (well_formed_lent v) v o)
+      go : (o : Option message.NewEpoch) → message.decode_new_epoch m ≡ o → As backup_refused v (new_epoch_of t v o) (new_epoch_of (well_formed_lent v) v o)
       go none e = same refl
       go (some z) e =
           checked backup_refused v false malformed (t z.key) (well_formed_lent v z.key)
           (on_new_epoch v z.key z.epoch z.end z.table z.metric) (h z e)
 
-  pub write_as_lem : (now least : ℕ) → ((z : message.Write) → message.decodeWrite m ≡ some z → t z.key ≡ true → well_formed_lent v z.key ≡ true)
+  pub write_as_lem : (now least : ℕ) → ((z : message.Write) → message.decode_write m ≡ some z → t z.key ≡ true → well_formed_lent v z.key ≡ true)
       → As write_refused v (write_with t v now least m) (call_write v now least m)
   unfolding write_with call_write
   write_as_lem now least h = late (late_time now)
     where
-      go : (o : Option message.Write) → message.decodeWrite m ≡ o → As write_refused v (write_of t v now least o) (write_of (well_formed_lent v) v now least o)
+      go : (o : Option message.Write) → message.decode_write m ≡ o → As write_refused v (write_of t v now least o) (write_of (well_formed_lent v) v now least o)
       go none e = same refl
       go (some z) e =
           checked write_refused v (not (op_in_domain z.op)) outside_domain (t z.key) (well_formed_lent v z.key)
@@ -162,17 +162,17 @@ module _ (v : held.Node) (t : Key → Bool) (m : List ℕ) where
 
       late : (b : Bool)
           → As write_refused v
-          (cond b (gives (write_refused undecodable) v) (write_of t v now least (message.decodeWrite m)))
-          (cond b (gives (write_refused undecodable) v) (write_of (well_formed_lent v) v now least (message.decodeWrite m)))
+          (cond b (gives (write_refused undecodable) v) (write_of t v now least (message.decode_write m)))
+          (cond b (gives (write_refused undecodable) v) (write_of (well_formed_lent v) v now least (message.decode_write m)))
       late true = same refl
-      late false = go (message.decodeWrite m) refl
+      late false = go (message.decode_write m) refl
 
-  pub search_as_lem : (now room : ℕ) → ((z : message.Query) → message.decodeSearch m ≡ some z → t z.key ≡ true → well_formed_lent v z.key ≡ true)
+  pub search_as_lem : (now room : ℕ) → ((z : message.Query) → message.decode_search m ≡ some z → t z.key ≡ true → well_formed_lent v z.key ≡ true)
       → As search_refused v (search_with t v now room m) (call_search v now room m)
   unfolding search_with call_search
   search_as_lem now room h = late (late_time now)
     where
-      go : (o : Option message.Query) → message.decodeSearch m ≡ o → As search_refused v (search_of t v now room o) (search_of (well_formed_lent v) v now room o)
+      go : (o : Option message.Query) → message.decode_search m ≡ o → As search_refused v (search_of t v now room o) (search_of (well_formed_lent v) v now room o)
       go none e = same refl
       go (some z) e =
           checked search_refused v (not (patterns_in_domain z.bits)) outside_domain (t z.key) (well_formed_lent v z.key)
@@ -180,7 +180,7 @@ module _ (v : held.Node) (t : Key → Bool) (m : List ℕ) where
 
       late : (b : Bool)
           → As search_refused v
-          (cond b (gives (search_refused undecodable) v) (search_of t v now room (message.decodeSearch m)))
-          (cond b (gives (search_refused undecodable) v) (search_of (well_formed_lent v) v now room (message.decodeSearch m)))
+          (cond b (gives (search_refused undecodable) v) (search_of t v now room (message.decode_search m)))
+          (cond b (gives (search_refused undecodable) v) (search_of (well_formed_lent v) v now room (message.decode_search m)))
       late true = same refl
-      late false = go (message.decodeSearch m) refl
+      late false = go (message.decode_search m) refl

@@ -78,7 +78,7 @@ use Rattle.thm_durable.specs.Engine.{Engine, seen, with_map, with_node, with_sto
 
 -- what the host does with the answer of a Write: an accepted one is remembered with its offset, a refusal does nothing
 abbrev pub write_said : State → (node : ℕ) → Option message.Write → WriteReply → State
-write_said s n m (C.Accepted o) = run.recordWrite s n m (client.accepted o.0)
+write_said s n m (C.Accepted o) = run.record_write s n m (client.accepted o.0)
 write_said s n m (C.NotPrimary e) = s
 write_said s n m (C.Refused r) = s
 
@@ -87,7 +87,7 @@ abbrev pub Writes : Engine → (node now least : ℕ) → List ℕ → Engine �
 Writes e n now least m f =
     (slot : ℕ) × (b : LentStore) × (count : ℕ) × (r : WriteAnswer) × WriteSlot (e.nodes n) m slot
     × WritesAt (e.nodes n) (e.lent_stores n slot) b now least m count r
-    × (f ≡ host (with_store e n r.node slot b) (λ s. write_said s n (message.decodeWrite m) r.answer))
+    × (f ≡ host (with_store e n r.node slot b) (λ s. write_said s n (message.decode_write m) r.answer))
 
 -- `node_search::search`, with room for so many neighbours: header and store are lent for reading, and stay
 abbrev pub Searches : Engine → (node now space : ℕ) → List ℕ → Engine → Type 0
@@ -175,10 +175,10 @@ Acks e i (some q) f =
 abbrev pub Offers : Engine → (place index seq : ℕ) → Option Offer → Engine → Type 0
 Offers e i index seq none f = f ≡ e
 Offers e i index seq (some o) f =
-    (r : Settled) × AppliesBytes e.map (run.offerBytes (seen e) o index seq) r
+    (r : Settled) × AppliesBytes e.map (run.offer_bytes (seen e) o index seq) r
     × (f
     ≡ host (with_map e r.map)
-    (λ s. run.told (set_offers s (removed s.offers i)) o (run.isApplied (answer_of r.verdict))))
+    (λ s. run.told (set_offers s (removed s.offers i)) o (run.is_applied (answer_of r.verdict))))
 
 -- what was proposed, as the call takes it
 abbrev pub proposal_word : ack.Proposal → Proposal
@@ -211,14 +211,14 @@ Called e (reply_arrives i) f = Acks e i (nth e.replies i) f
 Called e (offer_arrives i index seq) f = Offers e i index seq (nth e.offers i) f
 Called e (outcome_arrives i) f = Outcomes e i (nth e.outcomes i) f
 -- no calls: losses, repeats and timeouts, as in `spec_run`
-Called e (request_lost from to i) f = f ≡ host e (λ s. run.onRequestLost s from to i)
-Called e (request_repeats from to i) f = f ≡ host e (λ s. run.onRequestRepeats s from to i)
-Called e (reply_lost i) f = f ≡ host e (λ s. run.onReplyLost s i)
-Called e (reply_repeats i) f = f ≡ host e (λ s. run.onReplyRepeats s i)
-Called e (offer_lost i) f = f ≡ host e (λ s. run.onOfferLost s i)
-Called e (offer_times_out i) f = f ≡ host e (λ s. run.onOfferTimeout s i)
-Called e (outcome_lost i) f = f ≡ host e (λ s. run.onOutcomeLost s i)
-Called e (outcome_times_out i) f = f ≡ host e (λ s. run.onOutcomeTimeout s i)
+Called e (request_lost from to i) f = f ≡ host e (λ s. run.on_request_lost s from to i)
+Called e (request_repeats from to i) f = f ≡ host e (λ s. run.on_request_repeats s from to i)
+Called e (reply_lost i) f = f ≡ host e (λ s. run.on_reply_lost s i)
+Called e (reply_repeats i) f = f ≡ host e (λ s. run.on_reply_repeats s i)
+Called e (offer_lost i) f = f ≡ host e (λ s. run.on_offer_lost s i)
+Called e (offer_times_out i) f = f ≡ host e (λ s. run.on_offer_timeout s i)
+Called e (outcome_lost i) f = f ≡ host e (λ s. run.on_outcome_lost s i)
+Called e (outcome_times_out i) f = f ≡ host e (λ s. run.on_outcome_timeout s i)
 
 -- 'Rules of a run': a list of events, each of which may happen when its turn comes
 unfoldable pub Calls : Engine → List Event → Engine → Type 0

@@ -180,7 +180,7 @@ module _ {A : Type 0} (read : Option A) (fine : A → Bool) (key : A → Key) (C
         stayed 23 refl (ap (λ (z : Ended). z.answer) f, ap (λ (z : Ended). z.left) f))
 
     -- turned down with a reply: nothing was changed, by the definition neither
-    kept : peers.turnedDown a.answer ≡ true → (w : Reply) → back a.answer ≡ some w → state_at h s ≡ x.after
+    kept : peers.turned_down a.answer ≡ true → (w : Reply) → back a.answer ≡ some w → state_at h s ≡ x.after
     kept down w e =
         let t = passed w e in
         let c = promised.kept down in
@@ -198,12 +198,12 @@ module _ {A : Type 0} (read : Option A) (fine : A → Bool) (key : A → Key) (C
     s₁ = stores_put s n a.node d.columns (place_of n k)
 
     told_as_lem : (w : PeerReply) → a.answer ≡ w → ended r (buffers h' s' q) ≡ ended_as (buffers h s p) h₁ s₁ w → Goal
-    told_as_lem (P.Stored o) e f = answers (reply_stored o.0) (ap back e) h₁ s₁ f (λ i j zero. (d.state (ap peers.turnedDown e) zero).state)
-    told_as_lem (P.Gap o) e f = answers (reply_gap o.0) (ap back e) h₁ s₁ f (λ i j zero. (d.state (ap peers.turnedDown e) zero).state)
-    told_as_lem (P.Adopted o) e f = answers (reply_adopted o.0) (ap back e) h₁ s₁ f (λ i j zero. (d.state (ap peers.turnedDown e) zero).state)
+    told_as_lem (P.Stored o) e f = answers (reply_stored o.0) (ap back e) h₁ s₁ f (λ i j zero. (d.state (ap peers.turned_down e) zero).state)
+    told_as_lem (P.Gap o) e f = answers (reply_gap o.0) (ap back e) h₁ s₁ f (λ i j zero. (d.state (ap peers.turned_down e) zero).state)
+    told_as_lem (P.Adopted o) e f = answers (reply_adopted o.0) (ap back e) h₁ s₁ f (λ i j zero. (d.state (ap peers.turned_down e) zero).state)
     told_as_lem (P.StaleEpoch o) e f =
         answers (reply_stale o.0) (ap back e) h s f
-        (λ i j zero. ap (λ (l : List ℕ). state_at l s') i ∙ ap (state_at h) j ∙ kept (ap peers.turnedDown e) (reply_stale o.0) (ap back e))
+        (λ i j zero. ap (λ (l : List ℕ). state_at l s') i ∙ ap (state_at h) j ∙ kept (ap peers.turned_down e) (reply_stale o.0) (ap back e))
     told_as_lem (P.Refused number) e f =
         stayed number
         (ap (λ (b : PeerReply). eqb (number_in b) 0) (sym e ∙ spoke)

@@ -59,7 +59,7 @@ module _ (d f : Cluster) (mem : InMemory d) (n now least : ℕ) (m : List ℕ) (
     y = call_write (state_at h s) now least m
 
     abbrev read : Option message.Write
-    read = message.decodeWrite m
+    read = message.decode_write m
 
     abbrev left : held.Node → State
     left x = set_node (seen d) n x

@@ -47,8 +47,8 @@ use Rattle.thm_durable_bytes.proofs.Ways.{called, turned_away}
 module _ (s p a : List ℕ) (l : List DataNodeId) (n : Node) where
   record Quiet (w : WaitAnswer) : Type 0 where
     unwaited : is_waited w ≡ false
-    number : Large (calls.waitSaid w s p a l n).number
-    header : (calls.waitSaid w s p a l n).header ≡ s
+    number : Large (calls.wait_said w s p a l n).number
+    header : (calls.wait_said w s p a l n).header ≡ s
 
   quiet : (r : Refusal) → Quiet (wait_refusal r)
   quiet unknown_shard = record { unwaited = refl; number = refusal_number unknown_shard; header = refl }
@@ -68,7 +68,7 @@ module _ (s p a : List ℕ) (n : Node) where
   writes z = is_waited (wait_word z) and rows_room id_bytes 8 p a (shrink_of z)
 
   abbrev leaves : client.WaitAnswer → Left
-  leaves z = calls.waitSaid (wait_word z) s p a (shrink_of z) n
+  leaves z = calls.wait_said (wait_word z) s p a (shrink_of z) n
 
   unwritten : (z : client.WaitAnswer) → writes z ≡ false → Large (leaves z).number × ((leaves z).header ≡ s)
   unfolding ◌and◌
@@ -143,8 +143,8 @@ module _ (d f : Cluster) (mem : InMemory d) (i now timeout : ℕ) (may : allowed
       ∙ ap (λ (l : List DataNodeId). is_waited (wait_word x.answer) and rows_room id_bytes 8 c.1 c.3 l) peers in
       let buffers : left r c.0 c.2 c.4 ≡ leaves h c.1 c.3 t.node x.answer =
       g.buffers
-      ∙ ap (λ (u : WaitAnswer). calls.waitSaid u h c.1 c.3 ps t.node) word
-      ∙ ap (λ (l : List DataNodeId). calls.waitSaid (wait_word x.answer) h c.1 c.3 l t.node) peers in
+      ∙ ap (λ (u : WaitAnswer). calls.wait_said u h c.1 c.3 ps t.node) word
+      ∙ ap (λ (l : List DataNodeId). calls.wait_said (wait_word x.answer) h c.1 c.3 l t.node) peers in
       by_case (wait_writes c.1 c.3 t)
       (λ e.
       called client.wait_refused (seen d) n y (λ a z. waited z w a) (node_waits i now timeout) may (rw found) (λ q. nothing (seen d) (seen d) refl)

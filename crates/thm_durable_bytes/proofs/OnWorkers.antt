@@ -98,7 +98,7 @@ module _ (s : State) (n : ℕ) (k : Key) (epoch peer : ℕ) where
   posted_as : (z : RequestAnswer) (w : calls.StepAnswer) (q a : List ℕ) → Fits (length q) z → length q < 256 ^ 8 → 8 ≤ length a
       → posted s n k epoch peer (sent_by (step_number (step_answered w) (answer_of z) (left_of z q))) (left_of z q) (answer_left (answer_of z) a)
       ≡ run.posted s n k epoch peer z
-  unfolding run.posted run.sentOf
+  unfolding run.posted run.sent_of
   posted_as unsent w q a f long room = ap (λ (o : Option ack.Sent). posted s n k epoch peer o q (answer_left (answer_of unsent) a)) (quiet w)
   posted_as (request_refused r) w q a f long room = ap (λ (o : Option ack.Sent). posted s n k epoch peer o q a) (refusal_number r).sent
   posted_as (written bs) w q a f long room =
@@ -111,7 +111,7 @@ module _ (s : State) (n : ℕ) (k : Key) (epoch peer : ℕ) where
       ap (λ (o : Option ack.Sent). posted s n k epoch peer o out told) (loud (get_or out 0 0))
       ∙ ap (λ (i : ℕ). made (cond (eqb (get_or out 0 0) 0x21) ack.sent_align (cond (eqb (get_or out 0 0) 0x20) ack.sent_replicate ack.sent_copy)) (take i out)) count
       ∙ ap (λ (i : ℕ). made (cond (eqb i 0x21) ack.sent_align (cond (eqb i 0x20) ack.sent_replicate ack.sent_copy)) (take (length bs) out)) (first_byte bs q f.0 f.1)
-      ∙ ap (made (run.sentOf bs)) (first-bytes bs q f.1)
+      ∙ ap (made (run.sent_of bs)) (first-bytes bs q f.1)
 
 -- ---- the step
 
@@ -161,7 +161,7 @@ module _ (d f : Cluster) (mem : InMemory d) (n : ℕ) (k : Key) (epoch peer : �
       let o = request_of (view_node (before h s k) (node_at h)) k epoch peer metric in
       let z = lent metric in
       let is : lent (metric_of (metric_code metric)) ≡ z = ap lent (metric_code_lem metric) in
-      let x = calls.stepWith (λ _. lent_node (stores_in s) (node_at h)) v k epoch peer in
+      let x = calls.step_with (λ _. lent_node (stores_in s) (node_at h)) v k epoch peer in
       let said : t.sent ≡ answer_of z = t.requests.answer (before h s k) (lends_before h s k) ∙ ap answer_of is in
       let left : c.1 ≡ left_of z q = t.requests.bytes (before h s k) (lends_before h s k) ∙ ap (λ (y : RequestAnswer). left_of y q) is in
       let number : r ≡ step_number (step_answered x) (answer_of z) (left_of z q) =

@@ -50,7 +50,7 @@ module _ (h : List ℕ) (me incarnation : ℕ) (new : New h me incarnation) wher
       by_case (leb 10288 (length new.buffer)) (λ e. p.made (leb-true 10288 (length new.buffer) e))
       (λ e. not_both (eqb 0 0) refl (ap (λ (i : ℕ). eqb i 0) (p.short (leb-false 10288 (length new.buffer) e)).0))
 
-  new-empty : (st : Stores) → view_node st (node_at h) ≡ held.emptyNode me incarnation
+  new-empty : (st : Stores) → view_node st (node_at h) ≡ held.empty_node me incarnation
   new-empty st = new_image.leaves.read st
 
   new-lent : (st : Stores) → lent_node st (node_at h) ≡ true
@@ -97,7 +97,7 @@ module _ (d : Cluster) (b : Begun d) where
       let f = b.holders n h in
       let k = b.incarnation n in
       let st = stores_in (d.stores n) in
-      let v = held.emptyNode n k in
+      let v = held.empty_node n k in
       let tests : (lent_node st (node_at f.header) and well_formed_lent (map_at d.map)) ≡ (well_formed_header v and well_formed_map m) =
       rw (new-lent f.header n k f.new st, b.tested, map-well (map_at d.map) b.tested)
       (unfold well_formed_header in unfold rising in unfold every in unfold ◌and◌ in refl) in
@@ -112,7 +112,7 @@ module _ (d : Cluster) (b : Begun d) where
   other n h =
       let k = b.incarnation n in
       subst (Shown m b.shard n) (sym (new-empty (d.headers n) (b.id n) k (b.others n h) (stores_in (d.stores n))))
-      (shown-other m b.shard b.created n (held.emptyNode (b.id n) k) h (b.apart n h) refl)
+      (shown-other m b.shard b.created n (held.empty_node (b.id n) k) h (b.apart n h) refl)
 
   pub begun_fresh : Fresh (seen d)
   unfolding seen

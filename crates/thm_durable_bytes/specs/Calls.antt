@@ -67,14 +67,14 @@ offset_in r answer = cond (eqb r 0) (some (beside answer)) none
 -- an accepted write is remembered with its offset, a refusal does nothing
 abbrev pub write_said : State → (node : ℕ) → Option message.Write → Option ℕ → State
 write_said s n m none = s
-write_said s n m (some o) = run.recordWrite s n m (client.accepted o)
+write_said s n m (some o) = run.record_write s n m (client.accepted o)
 
 -- `catalogue_write`, with any `answer` (a, then b) and count of refused calls
 abbrev pub Writes : Cluster → (node now least : ℕ) → List ℕ → Cluster → Type 0
 Writes d n now least m f =
     (h s a b count counted : List ℕ) × (r : ℕ)
     × WritesImages (write.buffers (d.headers n) (d.stores n) a) (write.buffers h s b) count counted now least m r
-    × (f ≡ host (with_node d n h s) (λ x. write_said x n (message.decodeWrite m) (offset_in r b)))
+    × (f ≡ host (with_node d n h s) (λ x. write_said x n (message.decode_write m) (offset_in r b)))
 
 -- `catalogue_search`: header and stores are lent for reading, and stay
 abbrev pub Searches : Cluster → (node now : ℕ) → List ℕ → Cluster → Type 0
@@ -173,7 +173,7 @@ Acks d i (some m) f =
 abbrev pub Offers : Cluster → (place index seq : ℕ) → Option Offer → Cluster → Type 0
 Offers d i index seq none f = f ≡ d
 Offers d i index seq (some o) f =
-    (m : List ℕ) × (r : ℕ) × AppliesTo d.map m (run.offerBytes (seen d) o index seq) r
+    (m : List ℕ) × (r : ℕ) × AppliesTo d.map m (run.offer_bytes (seen d) o index seq) r
     × (f ≡ host (with_map d m) (λ s. run.told (set_offers s (removed s.offers i)) o (eqb r 0)))
 
 -- the codes of the commands, and of an outcome
@@ -213,14 +213,14 @@ Called d (reply_arrives i) f = Acks d i (nth d.replies i) f
 Called d (offer_arrives i index seq) f = Offers d i index seq (nth d.offers i) f
 Called d (outcome_arrives i) f = Outcomes d i (nth d.outcomes i) f
 -- no calls: losses, repeats and timeouts, as in `spec_run`
-Called d (request_lost from to i) f = f ≡ host d (λ s. run.onRequestLost s from to i)
-Called d (request_repeats from to i) f = f ≡ host d (λ s. run.onRequestRepeats s from to i)
-Called d (reply_lost i) f = f ≡ host d (λ s. run.onReplyLost s i)
-Called d (reply_repeats i) f = f ≡ host d (λ s. run.onReplyRepeats s i)
-Called d (offer_lost i) f = f ≡ host d (λ s. run.onOfferLost s i)
-Called d (offer_times_out i) f = f ≡ host d (λ s. run.onOfferTimeout s i)
-Called d (outcome_lost i) f = f ≡ host d (λ s. run.onOutcomeLost s i)
-Called d (outcome_times_out i) f = f ≡ host d (λ s. run.onOutcomeTimeout s i)
+Called d (request_lost from to i) f = f ≡ host d (λ s. run.on_request_lost s from to i)
+Called d (request_repeats from to i) f = f ≡ host d (λ s. run.on_request_repeats s from to i)
+Called d (reply_lost i) f = f ≡ host d (λ s. run.on_reply_lost s i)
+Called d (reply_repeats i) f = f ≡ host d (λ s. run.on_reply_repeats s i)
+Called d (offer_lost i) f = f ≡ host d (λ s. run.on_offer_lost s i)
+Called d (offer_times_out i) f = f ≡ host d (λ s. run.on_offer_timeout s i)
+Called d (outcome_lost i) f = f ≡ host d (λ s. run.on_outcome_lost s i)
+Called d (outcome_times_out i) f = f ≡ host d (λ s. run.on_outcome_timeout s i)
 
 -- 'Rules of a run': a list of events, each of which may happen when its turn comes
 unfoldable pub Calls : Cluster → List Event → Cluster → Type 0

@@ -94,10 +94,10 @@ module _ (h s : List ℕ) (i : Intact h s) (m : List ℕ) (clock : ℕ) (count :
       fine = λ u z. eqb-false number 24 (f u) (sym (ap (λ (y : WriteEnded). y.number) e) ∙ z);
     }
 
-    passed : (v : message.Write) → message.decodeWrite m ≡ some v → WriteServed b v.key clock least m (ended r c) → Keeps (count_lent count) h' s' r
+    passed : (v : message.Write) → message.decode_write m ≡ some v → WriteServed b v.key clock least m (ended r c) → Keeps (count_lent count) h' s' r
     passed v e p =
         let k = v.key in
-        let named : (w : message.Write) → message.decodeWrite m ≡ some w → k ≡ w.key =
+        let named : (w : message.Write) → message.decode_write m ≡ some w → k ≡ w.key =
         λ w d. ap (λ (x : message.Write). x.key) (some_same (sym e ∙ d)) in
         let t = ends b c _ _ r p.told.answer p.is in
         let z = lent_in (stores_in s) (slot_of n k) (lent_store_in s n k) in
@@ -118,9 +118,9 @@ module _ (h s : List ℕ) (i : Intact h s) (m : List ℕ) (clock : ℕ) (count :
         }
 
     pub on-write : WritesImages b c count count' clock least m r → Keeps (count_lent count) h' s' r
-    on-write w = by_case (late_time clock) (λ e. turned 21 (λ u. refl) (w.ends.late e)) (λ e. go e (message.decodeWrite m) refl)
+    on-write w = by_case (late_time clock) (λ e. turned 21 (λ u. refl) (w.ends.late e)) (λ e. go e (message.decode_write m) refl)
       where
-        go : late_time clock ≡ false → (o : Option message.Write) → message.decodeWrite m ≡ o → Keeps (count_lent count) h' s' r
+        go : late_time clock ≡ false → (o : Option message.Write) → message.decode_write m ≡ o → Keeps (count_lent count) h' s' r
         go e none d = turned 21 (λ u. refl) (w.ends.undecoded d)
         go e (some v) d =
             let x = w.ends.read e v d in
@@ -141,10 +141,10 @@ module _ (h s : List ℕ) (i : Intact h s) (m : List ℕ) (clock : ℕ) (count :
     said-fine p (S.NotPrimary e) f = refl
     said-fine p (S.Refused k) f = f
 
-    searched : (v : message.Query) → message.decodeSearch m ≡ some v → SearchServed n (lent_store_in s n v.key) m clock o a (found.ended r o' a') → r ≡ 24 → ⊥
+    searched : (v : message.Query) → message.decode_search m ≡ some v → SearchServed n (lent_store_in s n v.key) m clock o a (found.ended r o' a') → r ≡ 24 → ⊥
     searched v e p z =
         let k = v.key in
-        let named : (w : message.Query) → message.decodeSearch m ≡ some w → k ≡ w.key =
+        let named : (w : message.Query) → message.decode_search m ≡ some w → k ≡ w.key =
         λ w d. ap (λ (x : message.Query). x.key) (some_same (sym e ∙ d)) in
         let t = lent_in (stores_in s) (slot_of n k) (lent_store_in s n k) in
         let fine : Fine (search_number p.told.answer) =
@@ -156,9 +156,9 @@ module _ (h s : List ℕ) (i : Intact h s) (m : List ℕ) (clock : ℕ) (count :
 
     -- it leaves both images
     pub on_search_lem : SearchesImages h s count clock m o a count' o' a' r → count_lent count ≡ true → r ≡ 24 → ⊥
-    on_search_lem w = by_case (late_time clock) (λ e. refused 21 (λ u. refl) (w.ends.late e)) (λ e. go e (message.decodeSearch m) refl)
+    on_search_lem w = by_case (late_time clock) (λ e. refused 21 (λ u. refl) (w.ends.late e)) (λ e. go e (message.decode_search m) refl)
       where
-        go : late_time clock ≡ false → (q : Option message.Query) → message.decodeSearch m ≡ q → count_lent count ≡ true → r ≡ 24 → ⊥
+        go : late_time clock ≡ false → (q : Option message.Query) → message.decode_search m ≡ q → count_lent count ≡ true → r ≡ 24 → ⊥
         go e none d u = refused 21 (λ y. refl) (w.ends.undecoded d) u
         go e (some v) d u =
             let x = w.ends.query e v d in

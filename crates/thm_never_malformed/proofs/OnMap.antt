@@ -116,13 +116,13 @@ module _ (h s : List ℕ) (i : Intact h s) where
       (stores-length s u.slot u.held.last u.stored (kept-few u (every-at held_row_fits (used n) j no_held_row (header-fit n i.formed) q))))
 
   module _ (m : List ℕ) (fresh : ℕ) where
-    map-fits : (z : Stores) → lent_node z n and maps.wellFormedLent (map_at m) ≡ true → well_formed_map (view_map (map_at m)) ≡ true
-    unfolding maps.wellFormedLent
+    map-fits : (z : Stores) → lent_node z n and maps.well_formed_lent (map_at m) ≡ true → well_formed_map (view_map (map_at m)) ≡ true
+    unfolding maps.well_formed_lent
     map-fits z e = and_right (maps.counted (map_at m)) (well_formed_map (view_map (map_at m))) (and_right (lent_node z n) _ e)
 
     after-formed : (z : Stores) → view_node z n ≡ v → FormedNode (shown_after h m fresh z)
     after-formed z e =
-        shown-formed (view_node z n) (lent_node z n and maps.wellFormedLent (map_at m)) fresh (view_map (map_at m)) (map-fits z)
+        shown-formed (view_node z n) (lent_node z n and maps.well_formed_lent (map_at m)) fresh (view_map (map_at m)) (map-fits z)
         (subst FormedNode (sym e) (state_formed h s i))
 
     -- ---- the answer
@@ -132,7 +132,7 @@ module _ (h s : List ℕ) (i : Intact h s) where
     said-fine (S.Refused k) t p a l o f = f
 
     module _ (h' p q a b : List ℕ) (r : ℕ) where
-      shown : ShowsImage h h' m p q a b fresh r → Keeps (map_lent m and maps.wellFormedLent (map_at m)) h' s r
+      shown : ShowsImage h h' m p q a b fresh r → Keeps (map_lent m and maps.well_formed_lent (map_at m)) h' s r
       shown g = record {
         intact =
             by_case (show_writes p a g.after)
@@ -143,19 +143,19 @@ module _ (h s : List ℕ) (i : Intact h s) where
             intact_of h' s l.lent (g.formed i.formed st (counted-all (stores_in s)) (formed-header (shown_after h m fresh st) w) (tables_fit (shown_after h m fresh st) w)) i.size
             (subst (λ (is : List ℕ). Pairs (StoreFits s) is (state_at h' s).held) (sym (l.slots_are z))
             (subst (λ (x : held.Node). Pairs (StoreFits s) (slots_after v (slots_of n) (shown_after h m fresh z)) x.held) (sym (l.read z))
-            (pairs-after (shown_after h m fresh z) (shown-after v (lent_node z n and maps.wellFormedLent (map_at m)) fresh (view_map (map_at m)))))))
+            (pairs-after (shown_after h m fresh z) (shown-after v (lent_node z n and maps.well_formed_lent (map_at m)) fresh (view_map (map_at m)))))))
             (λ e. stays h s i h' (ap (λ (x : Left). x.header) g.buffers ∙ show_left_lem g.after.answer h p a _ g.after.node e));
         fine = λ t z.
             let x = stores_in s in
-            let lent = and_true (lent_node x n) (maps.wellFormedLent (map_at m)) (lent-node h s i x) (and_right (map_lent m) _ t) in
+            let lent = and_true (lent_node x n) (maps.well_formed_lent (map_at m)) (lent-node h s i x) (and_right (map_lent m) _ t) in
             eqb-false _ 24
             (said-fine g.after.answer h p a (view_starts (take g.after.count g.after.starts)) g.after.node
             (ap (λ (y : ShownAnswered). eqb (shown_number y.answer) 24) (g.call.same x)
-            ∙ shown-fine v (lent_node x n and maps.wellFormedLent (map_at m)) lent fresh (view_map (map_at m))))
+            ∙ shown-fine v (lent_node x n and maps.well_formed_lent (map_at m)) lent fresh (view_map (map_at m))))
             (sym (ap (λ (y : Left). y.number) g.buffers) ∙ z);
       }
 
-      pub on-map : Shows h h' m p q a b fresh r → Keeps (map_lent m and maps.wellFormedLent (map_at m)) h' s r
+      pub on-map : Shows h h' m p q a b fresh r → Keeps (map_lent m and maps.well_formed_lent (map_at m)) h' s r
       on-map w =
           let both = lent_both (header_lent h) (map_lent m) i.lent in
           by_case (map_lent m) (λ e. shown (w.called refl (both ∙ e)))

@@ -127,10 +127,10 @@ module _ (h s : List ℕ) (i : Intact h s) (h' s' m q q' : List ℕ) (r : ℕ) w
   module _ (bytes : Bytes m) where
     pub on_replicate_lem : ReplicatesImage m (buffers h s q) (buffers h' s' q') r → Keeps true h' s' r
     on_replicate_lem =
-        served message.Replicated (message.decodeReplicate m) (λ v. op_in_domain v.op) (λ v. v.key) ReplicatesAt replicates
+        served message.Replicated (message.decode_replicate m) (λ v. op_in_domain v.op) (λ v. v.key) ReplicatesAt replicates
         (λ v e a l c.
         let k = v.key in
-        let named : (w : message.Replicated) → message.decodeReplicate m ≡ some w → k ≡ w.key =
+        let named : (w : message.Replicated) → message.decode_replicate m ≡ some w → k ≡ w.key =
         λ w d. ap (λ (x : message.Replicated). x.key) (some_same (sym e ∙ d)) in (
           told (λ lent x. replicate_with lent x m) _ _ _ k l a c (λ w d. ap (slot_of n) (named w d))
               (λ z. replicate_fine (view_node z n) (lent_for z n (lent_store_in s n k)) m (λ w d. ap (lent_for z n (lent_store_in s n k)) (sym (named w d)) ∙ lent_for_lem h s i z k)),
@@ -141,10 +141,10 @@ module _ (h s : List ℕ) (i : Intact h s) (h' s' m q q' : List ℕ) (r : ℕ) w
 
     pub on_copy_lem : CopiesImage m (buffers h s q) (buffers h' s' q') r → Keeps true h' s' r
     on_copy_lem =
-        served message.Copied (message.decodeCopyShard m) (λ v. every entry_in_domain v.entries) (λ v. v.key) CopiesAt copies
+        served message.Copied (message.decode_copy_shard m) (λ v. every entry_in_domain v.entries) (λ v. v.key) CopiesAt copies
         (λ v e a l c.
         let k = v.key in
-        let named : (w : message.Copied) → message.decodeCopyShard m ≡ some w → k ≡ w.key =
+        let named : (w : message.Copied) → message.decode_copy_shard m ≡ some w → k ≡ w.key =
         λ w d. ap (λ (x : message.Copied). x.key) (some_same (sym e ∙ d)) in (
           told (λ lent x. copy_with lent x m) _ _ _ k l a c (λ w d. ap (slot_of n) (named w d))
               (λ z. copy_fine (view_node z n) (lent_for z n (lent_store_in s n k)) m (λ w d. ap (lent_for z n (lent_store_in s n k)) (sym (named w d)) ∙ lent_for_lem h s i z k)),
@@ -157,10 +157,10 @@ module _ (h s : List ℕ) (i : Intact h s) (h' s' m q q' : List ℕ) (r : ℕ) w
     pub on_new_epoch_lem : NewEpochsImage m (buffers h s q) (buffers h' s' q') r → Keeps true h' s' r
     unfolding slots_then
     on_new_epoch_lem =
-        served message.NewEpoch (message.decodeNewEpoch m) (λ v. true) (λ v. v.key) NewEpochsAt announces
+        served message.NewEpoch (message.decode_new_epoch m) (λ v. true) (λ v. v.key) NewEpochsAt announces
         (λ v e a l c.
         let k = v.key in
-        let named : (w : message.NewEpoch) → message.decodeNewEpoch m ≡ some w → k ≡ w.key =
+        let named : (w : message.NewEpoch) → message.decode_new_epoch m ≡ some w → k ≡ w.key =
         λ w d. ap (λ (x : message.NewEpoch). x.key) (some_same (sym e ∙ d)) in (
           told (λ lent x. new_epoch_with lent x m) _ _ _ k l a c (λ w d. ap (slot_of n) (named w d))
               (λ z. new_epoch_fine (view_node z n) (lent_for z n (lent_store_in s n k)) m (λ w d. ap (lent_for z n (lent_store_in s n k)) (sym (named w d)) ∙ lent_for_lem h s i z k)),

@@ -40,7 +40,7 @@ quiet_fine (T.Stepped step.Align) f = refl
 quiet_fine (T.Stepped (step.Send first count)) f = refl
 quiet_fine (T.Refused k) f = f
 
-told-fine : (x : StepAnswer) (q : Request) (out : List ℕ) → Fine (step_number x) → Fine (request_number q) → Fine (steps.stepNumber x q out)
+told-fine : (x : StepAnswer) (q : Request) (out : List ℕ) → Fine (step_number x) → Fine (request_number q) → Fine (steps.step_number x q out)
 told-fine x R.Unsent out f g = quiet_fine x f
 told-fine x (R.Written n) out f g = sent-fine (get_or out 0 0)
 told-fine x (R.Refused k) out f g = g

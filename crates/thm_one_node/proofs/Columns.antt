@@ -56,7 +56,7 @@ abbrev pub before : LentStore
 before = lent_store zeros zeros zeros zeros zeros (replicate 32768 (float_of 0)) zeros zeros
 
 pub kept_read : lent_store_at stores (kept 0 0) ≡ before
-unfolding lent_store_at read.columnsAt read.floatsRead no_lent_store
+unfolding lent_store_at read.columns_at read.floats_read no_lent_store
 kept_read = rw (words-read 0, words-read 8192, words-read 16384, bytes_read 24576 (omega arith), bytes_read 25600 (omega arith), words-read 157696, words-read 165888) refl
 
 pub store-read : lent_store_in stores (leads (At 100) 0 0) key ≡ before
@@ -64,7 +64,7 @@ unfolding opened
 store-read = kept_read
 
 pub lends : lends_state leased stores key ≡ true
-unfolding opened lends_state held_row_readable read.allReadable store.everyBelow
+unfolding opened lends_state held_row_readable read.all_readable store.every_below
 lends = rw (lent-leased, read-leased, stores_long, le-leb 1392640 1392640 (omega arith)) refl
 
 -- ---- after the Write of one Upsert: the id 41 at 1.0
@@ -83,8 +83,8 @@ after =
 abbrev pub row : table.Row
 row = record { id = 41; offset = 1 }
 
-pub log-after : view.logOf after.columns 1 ≡ entry ∷ []
-unfolding view.logOf view.firsts view.entry_of view.op_of view.stretch
+pub log-after : view.log_of after.columns 1 ≡ entry ∷ []
+unfolding view.log_of view.firsts view.entry_of view.op_of view.stretch
 log-after = refl
 
 pub rows-after : table.rows_of after.keys after.places 1 ≡ row ∷ []
@@ -93,10 +93,10 @@ rows-after = refl
 
 -- the bytes after
 unfoldable pub stored : List ℕ
-stored = write.rowsPut (write.entryPut stores 0 0 entry) 0 (row ∷ [])
+stored = write.rows_put (write.entry_put stores 0 0 entry) 0 (row ∷ [])
 
 pub is-put : stored ≡ store_put stores (kept 0 0) (kept 1 1) after
-unfolding stored store_put write.entriesPut
+unfolding stored store_put write.entries_put
 is-put = rw (log-after, rows-after) refl
 
 pub puts : StorePuts stores stored (kept 0 0) (kept 1 1) after
@@ -128,7 +128,7 @@ small = (
 )
 
 pub stored_bytes : Bytes stored
-unfolding stored write.rowsPut write.entryPut write.numbersPut to_bits of_bits
+unfolding stored write.rows_put write.entry_put write.numbers_put to_bits of_bits
 stored_bytes =
     let s₁ = sets stores 26624 (bytes_of 4 0x3f800000) in
     let s₂ = sets s₁ 0 (bytes_of 8 1) in

@@ -47,7 +47,7 @@ is_read_lem : read ≡ lent_header shown
 is_read_lem = rw (lent-shown, read-shown)
 
 put-leased : leased ≡ header_put shown (leads (At 100) 0 0)
-unfolding header header_put rows.heldRowBytes tidy.tidyHeldRow tidy.tidyHeld canon.padded
+unfolding header header_put rows.held_row_bytes tidy.tidy_held_row tidy.tidy_held canon.padded
 put-leased = refl
 
 header-leased : HeaderWrites shown leased (leads (At 100) 0 0)

@@ -47,9 +47,9 @@ solo last = record {
   last = last;
   role = Primary (record { 0 = 1 }) (record { 0 = 0 });
   own = true;
-  replicas = record { node = node 1; incarnation = 4 } ∷ replicate 7 parts.noReplica;
+  replicas = record { node = node 1; incarnation = 4 } ∷ replicate 7 parts.no_replica;
   holders = 1;
-  peers = replicate 32 rows.noPeer;
+  peers = replicate 32 rows.no_peer;
   count = 0;
 }
 
@@ -62,7 +62,7 @@ leads e stored last = record {
   incarnation = 4;
   expiry = e;
   version = 1;
-  held = kept stored last ∷ replicate 7 image.noHeldRow;
+  held = kept stored last ∷ replicate 7 image.no_held_row;
   count = 1;
 }
 
@@ -71,33 +71,33 @@ unfolding new node_at image.no_node shape.rows_at
 read-new = refl
 
 pub read-shown : node_at shown ≡ leads Never 0 0
-unfolding header node_at shape.rows_at rows.heldRowAt
+unfolding header node_at shape.rows_at rows.held_row_at
 read-shown = refl
 
 pub read-leased : node_at leased ≡ leads (At 100) 0 0
-unfolding header node_at shape.rows_at rows.heldRowAt
+unfolding header node_at shape.rows_at rows.held_row_at
 read-leased = refl
 
 pub read-written : node_at written ≡ leads (At 100) 1 1
-unfolding header node_at shape.rows_at rows.heldRowAt
+unfolding header node_at shape.rows_at rows.held_row_at
 read-written = refl
 
 -- ---- each lends a header
 
 pub lent-new : header_lent new ≡ true
-unfolding opened new header_lent image.codesListed image.shardCodes
+unfolding opened new header_lent image.codes_listed image.shard_codes
 lent-new = refl
 
 pub lent-shown : header_lent shown ≡ true
-unfolding opened header header_lent image.codesListed image.shardCodes
+unfolding opened header header_lent image.codes_listed image.shard_codes
 lent-shown = refl
 
 pub lent-leased : header_lent leased ≡ true
-unfolding opened header header_lent image.codesListed image.shardCodes
+unfolding opened header header_lent image.codes_listed image.shard_codes
 lent-leased = refl
 
 pub lent_written : header_lent written ≡ true
-unfolding opened header header_lent image.codesListed image.shardCodes
+unfolding opened header header_lent image.codes_listed image.shard_codes
 lent_written = refl
 
 -- ---- each holds bytes

@@ -45,15 +45,15 @@ map = record {
 }
 
 pub map_read : view_map (map_at map_bytes) ≡ map
-unfolding map_bytes map_at shape.rows_at rows.nodeAt rows.collectionAt rows.shardAt rows.sessionAt
+unfolding map_bytes map_at shape.rows_at rows.node_at rows.collection_at rows.shard_at rows.session_at
 map_read = refl
 
 pub map-lent : map_lent map_bytes ≡ true
-unfolding opened map_bytes map_lent image.codesListed
+unfolding opened map_bytes map_lent image.codes_listed
 map-lent = refl
 
 pub tested : well_formed_lent (map_at map_bytes) ≡ true
-unfolding opened map_bytes map_at shape.rows_at rows.nodeAt rows.collectionAt rows.shardAt rows.sessionAt well_formed_lent counted table_counted
+unfolding opened map_bytes map_at shape.rows_at rows.node_at rows.collection_at rows.shard_at rows.session_at well_formed_lent counted table_counted
 tested = refl
 
 is-created : Created map info

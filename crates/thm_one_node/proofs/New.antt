@@ -15,15 +15,15 @@ long : length unused ≡ 10288
 unfolding unused
 long = zeros_long 10288
 
-new-put : new ≡ image.headerPut unused (fresh_node 1 4)
-unfolding new unused image.headerPut image.no_node
+new-put : new ≡ image.header_put unused (fresh_node 1 4)
+unfolding new unused image.header_put image.no_node
 new-put = refl
 
-unused-put : unused ≡ image.headerPut unused (fresh_node 0 0)
-unfolding unused image.headerPut image.no_node
+unused-put : unused ≡ image.header_put unused (fresh_node 0 0)
+unfolding unused image.header_put image.no_node
 unused-put = refl
 
-pub made : (id incarnation : ℕ) (t : List ℕ) → id < 256 ^ 8 → incarnation < 256 ^ 8 → t ≡ image.headerPut unused (fresh_node id incarnation)
+pub made : (id incarnation : ℕ) (t : List ℕ) → id < 256 ^ 8 → incarnation < 256 ^ 8 → t ≡ image.header_put unused (fresh_node id incarnation)
     → Freshens unused t id incarnation 0
 unfolding image.no_node
 made id incarnation t a b e =

@@ -57,17 +57,17 @@ abbrev answered : NodeShown
 answered = record { answer = S.Shown; starts = replicate 8 starting; count = 0; node = leads Never 0 0 }
 
 -- computed of the plain map, and carried over to the one that the bytes are read as
-same-plain : (s : Stores) → view_shown s answered ≡ shown_answered (calls.shownWith (lent_node s (fresh_node 1 4) and true) (view_node s (fresh_node 1 4)) 0 map)
+same-plain : (s : Stores) → view_shown s answered ≡ shown_answered (calls.shown_with (lent_node s (fresh_node 1 4) and true) (view_node s (fresh_node 1 4)) 0 map)
 unfolding opened image.no_node lent_node slots_fit view_starts
 same-plain s = rw (nil (s.log 0 0) (s.long 0 0), s.bare 0) refl
 
 same : (s : Stores)
     → view_shown s answered
-    ≡ shown_answered (calls.shownWith (lent_node s (fresh_node 1 4) and well_formed_lent (map_at map_bytes)) (view_node s (fresh_node 1 4)) 0 (view_map (map_at map_bytes)))
+    ≡ shown_answered (calls.shown_with (lent_node s (fresh_node 1 4) and well_formed_lent (map_at map_bytes)) (view_node s (fresh_node 1 4)) 0 (view_map (map_at map_bytes)))
 same s =
     let n = fresh_node 1 4 in
-    subst (λ (m : tables.Map). view_shown s answered ≡ shown_answered (calls.shownWith (lent_node s n and well_formed_lent (map_at map_bytes)) (view_node s n) 0 m)) (sym map_read)
-    (subst (λ (b : Bool). view_shown s answered ≡ shown_answered (calls.shownWith (lent_node s n and b) (view_node s n) 0 map)) (sym tested) (same-plain s))
+    subst (λ (m : tables.Map). view_shown s answered ≡ shown_answered (calls.shown_with (lent_node s n and well_formed_lent (map_at map_bytes)) (view_node s n) 0 m)) (sym map_read)
+    (subst (λ (b : Bool). view_shown s answered ≡ shown_answered (calls.shown_with (lent_node s n and b) (view_node s n) 0 map)) (sym tested) (same-plain s))
 
 hears : HearsMap (fresh_node 1 4) (map_at map_bytes) 0 answered
 unfolding opened image.no_node formed_node slots_fit slotted slots_after free_from
@@ -93,7 +93,7 @@ is_known : known ≡ lent_map map_bytes
 is_known = rw map-lent
 
 put-shown : shown ≡ header_put new (leads Never 0 0)
-unfolding new images.header header_put rows.heldRowBytes tidy.tidyHeldRow tidy.tidyHeld canon.padded
+unfolding new images.header header_put rows.held_row_bytes tidy.tidy_held_row tidy.tidy_held canon.padded
 put-shown = refl
 
 header-shown : HeaderWrites new shown (leads Never 0 0)

@@ -56,7 +56,7 @@ rows-stored =
 -- ---- they pass the test of a store
 
 pub stored_long : length stored ≡ 1392640
-unfolding stored write.rowsPut write.entryPut write.numbersPut
+unfolding stored write.rows_put write.entry_put write.numbers_put
 stored_long = rw (length-sets, length-sets, length-set, length-set, length-sets, length-sets, length-sets, length-sets) stores_long
 
 pub image_stored : well_formed_image stored 0 1 1 ≡ true
@@ -67,16 +67,16 @@ image_stored =
 abbrev pub columns : LentStore
 columns = lent_store_at stored (kept 1 1)
 
-both : (read.allReadable stored 0 1 and well_formed_store (store_of columns (kept 1 1))) ≡ true
+both : (read.all_readable stored 0 1 and well_formed_store (store_of columns (kept 1 1))) ≡ true
 unfolding lent_store_at
 both = image_test stored 0 1 1 no_lent_store.columns.floats floats-whole ∙ image_stored
 
 -- the log and the rows of the columns that they are read into
-pub columns-log : view.logOf columns.columns 1 ≡ entry ∷ []
+pub columns-log : view.log_of columns.columns 1 ≡ entry ∷ []
 unfolding lent_store_at
 columns-log =
     image_log stored 0 1 1 no_lent_store.columns.floats columns.keys columns.places floats-whole
-    (and_left (read.allReadable stored 0 1) _ both) (and_right (read.allReadable stored 0 1) _ both)
+    (and_left (read.all_readable stored 0 1) _ both) (and_right (read.all_readable stored 0 1) _ both)
     ∙ log-stored
 
 pub columns-rows : table.rows_of columns.keys columns.places 1 ≡ row ∷ []
@@ -85,9 +85,9 @@ columns-rows = rows-stored
 
 -- ---- what stores hold that have such columns in the slot 0
 
-module _ (a : LentStore) (log : view.logOf a.columns 1 ≡ entry ∷ []) (rows : table.rows_of a.keys a.places 1 ≡ row ∷ []) where
-  vectors_of_lem : table.vectors_of (view.logOf a.columns 1) (table.rows_of a.keys a.places 1) ≡ vectors
-  unfolding opened table.vectors_of table.vectorOf
+module _ (a : LentStore) (log : view.log_of a.columns 1 ≡ entry ∷ []) (rows : table.rows_of a.keys a.places 1 ≡ row ∷ []) where
+  vectors_of_lem : table.vectors_of (view.log_of a.columns 1) (table.rows_of a.keys a.places 1) ≡ vectors
+  unfolding opened table.vectors_of table.vector_of
   vectors_of_lem = rw (log, rows) refl
 
   module _ (s : Stores) (slot : ℕ) (zero : slot ≡ 0) (c : Lends s slot a) where

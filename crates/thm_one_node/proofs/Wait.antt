@@ -35,7 +35,7 @@ use Rattle.thm_one_node.proofs.Fits.{node-fits}
 -- ---- the header stays as it was, written over itself
 
 put-waited : written ≡ header_put written (leads (At 100) 1 1)
-unfolding header header_put rows.heldRowBytes tidy.tidyHeldRow tidy.tidyHeld canon.padded
+unfolding header header_put rows.held_row_bytes tidy.tidy_held_row tidy.tidy_held canon.padded
 put-waited = refl
 
 header-waited : HeaderWrites written written (leads (At 100) 1 1)

@@ -41,9 +41,9 @@ abbrev pub asked : message.Write
 asked = record { key = key; epoch = 1; op = wire_upsert 41 (0x3f800000 ∷ []) }
 
 unfoldable pub bytes : List ℕ
-bytes = message.encodeWrite asked
+bytes = message.encode_write asked
 
-pub decoded : message.decodeWrite bytes ≡ some asked
+pub decoded : message.decode_write bytes ≡ some asked
 unfolding opened bytes
 decoded = refl
 
@@ -82,7 +82,7 @@ unfolding opened lent_node slots_fit counts_fit
 header-lent s = rw (s.long 0 0) refl
 
 store-lent : lent_at (leads (At 100) 0 0) before (place_of (leads (At 100) 0 0) key) ≡ true
-unfolding opened lent_at held_row_store lent_fits sized well_formed_store every_below same_rows view.logOf view.firsts table.rows_of table.zipped table.playRows table.playRowsFrom
+unfolding opened lent_at held_row_store lent_fits sized well_formed_store every_below same_rows view.log_of view.firsts table.rows_of table.zipped table.play_rows table.play_rows_from
 store-lent = refl
 
 lent : (s : Stores) → lent_for s (leads (At 100) 0 0) before key ≡ true
@@ -97,17 +97,17 @@ abbrev pub vectors : Vectors
 vectors = record { id = 41; components = one ∷ [] } ∷ []
 
 taken : (s : Stores)
-    → record { answer = accepted; node = read (entry ∷ []) vectors } ≡ answered_as write_word (calls.writeWith (lent_for s (leads (At 100) 0 0) before) (read [] []) 5 1 bytes)
+    → record { answer = accepted; node = read (entry ∷ []) vectors } ≡ answered_as write_word (calls.write_with (lent_for s (leads (At 100) 0 0) before) (read [] []) 5 1 bytes)
 unfolding opened bytes fits
 taken s = rw (lent s) refl
 
 taken_of : (s : Stores)
     → record { answer = accepted; node = read (entry ∷ []) vectors }
-    ≡ answered_as write_word (calls.writeWith (lent_for s (leads (At 100) 0 0) before) (view_node s (leads (At 100) 0 0)) 5 1 bytes)
+    ≡ answered_as write_word (calls.write_with (lent_for s (leads (At 100) 0 0) before) (view_node s (leads (At 100) 0 0)) 5 1 bytes)
 taken_of s = rw (read-before s) (taken s)
 
-vectors-after : table.vectors_of (view.logOf after.columns 1) (table.rows_of after.keys after.places 1) ≡ vectors
-unfolding opened table.vectors_of table.vectorOf
+vectors-after : table.vectors_of (view.log_of after.columns 1) (table.rows_of after.keys after.places 1) ≡ vectors
+unfolding opened table.vectors_of table.vector_of
 vectors-after = rw (log-after, rows-after) refl
 
 same : SameWrite (leads (At 100) 0 0) before after 5 1 bytes accepted (leads (At 100) 1 1)
@@ -126,7 +126,7 @@ unfolding opened slots_fit
 slots-after = refl
 
 store-after : lent_fits (store_of after (kept 1 1)) ≡ true
-unfolding opened fits lent_fits sized well_formed_store every_below same_rows view.logOf view.firsts view.entry_of view.op_of view.stretch table.rows_of table.zipped table.rowOp table.playRows table.playRowsFrom
+unfolding opened fits lent_fits sized well_formed_store every_below same_rows view.log_of view.firsts view.entry_of view.op_of view.stretch table.rows_of table.zipped table.row_op table.play_rows table.play_rows_from
 store-after = refl
 
 key-after : Whole (leads (At 100) 0 0) (leads (At 100) 1 1) after key

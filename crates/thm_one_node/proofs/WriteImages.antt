@@ -108,7 +108,7 @@ module _ (h h' : List ℕ) (n p : Node) (is_read : node_at h ≡ n) (lends-it : 
 -- ---- those of node 1 alone
 
 put_written : written ≡ header_put leased (leads (At 100) 1 1)
-unfolding header header_put rows.heldRowBytes tidy.tidyHeldRow tidy.tidyHeld canon.padded
+unfolding header header_put rows.held_row_bytes tidy.tidy_held_row tidy.tidy_held canon.padded
 put_written = refl
 
 pub header-written : HeaderWrites leased written (leads (At 100) 1 1)
@@ -128,7 +128,7 @@ writes_images =
 -- ---- what the images are then read as
 
 stored-read : view_node (stores_in stored) (leads (At 100) 1 1) ≡ read (entry ∷ []) vectors
-unfolding opened stores_in table.vectors_of table.vectorOf
+unfolding opened stores_in table.vectors_of table.vector_of
 stored-read = rw (log-stored, rows-stored) refl
 
 pub state_written : state_at written stored ≡ read (entry ∷ []) vectors

@@ -133,7 +133,7 @@ module _ (h s : List ℕ) (stored last : ℕ) (l : Log) (v : Vectors) (n : Heads
 
   -- ---- a Write of an edit on them, which leaves the columns b
 
-  module _ (m : List ℕ) (op : WireOp) (decoded : message.decodeWrite m ≡ some (asks op)) (inside : op_in_domain op ≡ true) (h' : List ℕ) (stored' last' : ℕ)
+  module _ (m : List ℕ) (op : WireOp) (decoded : message.decode_write m ≡ some (asks op)) (inside : op_in_domain op ≡ true) (h' : List ℕ) (stored' last' : ℕ)
       (b : LentStore) (l' : Log) (v' : Vectors) (after : Reads b stored' last' l' v') (fit : StoreFits (kept stored' last') b)
       (heads : HeaderWrites h h' (node stored' last')) (answer : List ℕ) (put : answer ≡ number_put room last')
       (taken : (t : Key → Bool) → t key ≡ true

@@ -103,15 +103,15 @@ abbrev pub head : (stored last : ℕ) → List ℕ
 head stored last = header 1 100 stored last
 
 put_two : head 2 2 ≡ header_put written (node 2 2)
-unfolding header header_put rows.heldRowBytes tidy.tidyHeldRow tidy.tidyHeld canon.padded
+unfolding header header_put rows.held_row_bytes tidy.tidy_held_row tidy.tidy_held canon.padded
 put_two = refl
 
 put_deleted : head 0 2 ≡ header_put written (node 0 2)
-unfolding header header_put rows.heldRowBytes tidy.tidyHeldRow tidy.tidyHeld canon.padded
+unfolding header header_put rows.held_row_bytes tidy.tidy_held_row tidy.tidy_held canon.padded
 put_deleted = refl
 
 put-none : head 0 1 ≡ header_put leased (node 0 1)
-unfolding header header_put rows.heldRowBytes tidy.tidyHeldRow tidy.tidyHeld canon.padded
+unfolding header header_put rows.held_row_bytes tidy.tidy_held_row tidy.tidy_held canon.padded
 put-none = refl
 
 writes-two : HeaderWrites written (head 2 2) (node 2 2)

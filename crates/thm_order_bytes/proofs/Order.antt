@@ -30,9 +30,9 @@ module _ (u : Images) (k : Key) (y : List ℕ) (b : Op) (f : Edit y k b) (d : Mo
 
   -- called on other images, which are read as a node whose definition accepts it
   zero_at : (v : Images) → Intact v.header v.stores → count_lent v.refused ≡ true → (o : ℕ)
-      → (client.onWrite (node_in v) d.clock d.least k f.write.epoch b).answer ≡ client.accepted o → (z : Images) (r : ℕ) → Writes v d y z r → r ≡ 0
+      → (client.on_write (node_in v) d.clock d.least k f.write.epoch b).answer ≡ client.accepted o → (z : Images) (r : ℕ) → Writes v d y z r → r ≡ 0
   zero_at v i counts o e z r s =
-      let at : Key → Op → client.WriteAnswer = λ j g. (client.onWrite (node_in v) d.clock d.least j f.write.epoch g).answer in
+      let at : Key → Op → client.WriteAnswer = λ j g. (client.on_write (node_in v) d.clock d.least j f.write.epoch g).answer in
       (zero v z i d y f.write f.read alone.checked counts r s o
       (ap (λ (j : Key). at j (stored_op f.write.op)) f.key ∙ ap (at k) f.stored ∙ e)).0
 
@@ -50,7 +50,7 @@ module _ (u : Images) (k : Key) (y : List ℕ) (b : Op) (f : Edit y k b) (d : Mo
     counts-after : count_lent v.refused ≡ true
     counts-after = ap count_lent other.refused ∙ other.counts
 
-    after_zero : (o : ℕ) → (client.onWrite (node_in v) d.clock d.least k f.write.epoch b).answer ≡ client.accepted o → (z : Images) (r : ℕ) → Writes v d y z r
+    after_zero : (o : ℕ) → (client.on_write (node_in v) d.clock d.least k f.write.epoch b).answer ≡ client.accepted o → (z : Images) (r : ℕ) → Writes v d y z r
         → r ≡ 0
     after_zero o e = zero_at v (left_intact u v c x 0 i p) counts-after o e
 

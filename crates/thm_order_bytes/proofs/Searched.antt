@@ -35,11 +35,11 @@ use Rattle.thm_order_bytes.proofs.Calls.{node, Heads, Stored, lends, reads, lent
 use Rattle.thm_order_bytes.proofs.Instance.{head, stores_x-y, stores_y-x, stored_x_y, stored_y_x, searches_met}
 
 read-two : node_at (head 2 2) ≡ node 2 2
-unfolding header node_at shape.rows_at rows.heldRowAt
+unfolding header node_at shape.rows_at rows.held_row_at
 read-two = refl
 
 lent_two : header_lent (head 2 2) ≡ true
-unfolding opened header header_lent image.codesListed image.shardCodes
+unfolding opened header header_lent image.codes_listed image.shard_codes
 lent_two = refl
 
 heads_two : Heads (head 2 2) 2 2

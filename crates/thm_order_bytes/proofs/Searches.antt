@@ -50,13 +50,13 @@ module _ (clock : ℕ) (m hits answer : List ℕ) (q : Query) (early : late_time
     k = q.key
 
     abbrev does : held.Node → client.SearchAnswer
-    does n = (client.onSearch n clock (room fresh) k q.epoch q.k (floats_of q.bits)).answer
+    does n = (client.on_search n clock (room fresh) k q.epoch q.k (floats_of q.bits)).answer
 
     abbrev tells : client.SearchAnswer → SearchEnded
     tells a = search_ended hits answer (filled fresh a) (word a)
 
     with-lent : (t : Key → Bool) (n : held.Node) → t k ≡ true
-        → search_with t n clock (room fresh) m ≡ client.onSearch n clock (room fresh) k q.epoch q.k (floats_of q.bits)
+        → search_with t n clock (room fresh) m ≡ client.on_search n clock (room fresh) k q.epoch q.k (floats_of q.bits)
     unfolding search_with
     with-lent t n e = rw (early, is, inside, e)
 

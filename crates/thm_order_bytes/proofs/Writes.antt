@@ -108,7 +108,7 @@ module _ (u v : Images) (c : Moment) (m : List ℕ) (x : Writes u c m v 0) where
         let z : 0 ≡ 24 = ap (λ (w : WriteEnded). w.number) q in
         absurd (omega arith))
 
-    is_call : call_write n c.clock c.least m ≡ client.onWrite n c.clock c.least y.key y.epoch (stored_op y.op)
+    is_call : call_write n c.clock c.least m ≡ client.on_write n c.clock c.least y.key y.epoch (stored_op y.op)
     unfolding call_write
     is_call = with-lent (well_formed_lent n) n c.clock c.least m y e.read passed.0 passed.1
 
@@ -137,7 +137,7 @@ module _ (u v : Images) (c : Moment) (m : List ℕ) (x : Writes u c m v 0) where
 
 -- ---- intact images
 
-module _ (u v : Images) (i : Intact u.header u.stores) (c : Moment) (m : List ℕ) (w : message.Write) (read : message.decodeWrite m ≡ some w)
+module _ (u v : Images) (i : Intact u.header u.stores) (c : Moment) (m : List ℕ) (w : message.Write) (read : message.decode_write m ≡ some w)
     (fine : Checked c.clock w) (counts : count_lent u.refused ≡ true) (r : ℕ) (x : Writes u c m v r) where
   abbrev h : List ℕ
   h = u.header
@@ -172,7 +172,7 @@ module _ (u v : Images) (i : Intact u.header u.stores) (c : Moment) (m : List �
       (λ z g. ap (λ (y : message.Write). slot_of p y.key) (some_same (sym read ∙ g))) (changes h s k served.left))
 
   abbrev call : Result client.WriteAnswer held.Node
-  call = client.onWrite (node_in u) c.clock c.least k w.epoch (stored_op w.op)
+  call = client.on_write (node_in u) c.clock c.least k w.epoch (stored_op w.op)
 
   at_state : lent ≡ call
   at_state =

@@ -36,13 +36,13 @@ abbrev writes : WireOp → message.Write
 writes op = record { key = record { collection = []; shard = 0 }; epoch = 1; op = op }
 
 abbrev x : List ℕ
-x = message.encodeWrite (writes (wire_upsert 3 (1073741824 ∷ [])))
+x = message.encode_write (writes (wire_upsert 3 (1073741824 ∷ [])))
 
 abbrev y : List ℕ
-y = message.encodeWrite (writes (wire_delete 5))
+y = message.encode_write (writes (wire_delete 5))
 
 abbrev z : List ℕ
-z = message.encodeWrite (writes (wire_upsert 5 (1073741824 ∷ [])))
+z = message.encode_write (writes (wire_upsert 5 (1073741824 ∷ [])))
 
 abbrev sets : ℕ → Op
 sets id = upsert id (float_of 1073741824 ∷ [])
@@ -106,31 +106,31 @@ after_z-y =
 -- ---- Each is a store
 
 before-fits : lent_fits before ≡ true
-unfolding opened before test.lentFits test.sized store.wellFormedStore store.everyBelow store.same_rows view.logOf view.firsts view.entry_of view.op_of view.stretch table.rows_of table.zipped table.playRows table.playRowsFrom table.rowOp lib.Ieee.fits
+unfolding opened before test.lent_fits test.sized store.well_formed_store store.every_below store.same_rows view.log_of view.firsts view.entry_of view.op_of view.stretch table.rows_of table.zipped table.play_rows table.play_rows_from table.row_op lib.Ieee.fits
 before-fits = refl
 
 after_x-fits : lent_fits after-x ≡ true
-unfolding opened after-x test.lentFits test.sized store.wellFormedStore store.everyBelow store.same_rows view.logOf view.firsts view.entry_of view.op_of view.stretch table.rows_of table.zipped table.playRows table.playRowsFrom table.rowOp lib.Ieee.fits
+unfolding opened after-x test.lent_fits test.sized store.well_formed_store store.every_below store.same_rows view.log_of view.firsts view.entry_of view.op_of view.stretch table.rows_of table.zipped table.play_rows table.play_rows_from table.row_op lib.Ieee.fits
 after_x-fits = refl
 
 after_x_y-fits : lent_fits after_x-y ≡ true
-unfolding opened after_x-y test.lentFits test.sized store.wellFormedStore store.everyBelow store.same_rows view.logOf view.firsts view.entry_of view.op_of view.stretch table.rows_of table.zipped table.playRows table.playRowsFrom table.rowOp lib.Ieee.fits
+unfolding opened after_x-y test.lent_fits test.sized store.well_formed_store store.every_below store.same_rows view.log_of view.firsts view.entry_of view.op_of view.stretch table.rows_of table.zipped table.play_rows table.play_rows_from table.row_op lib.Ieee.fits
 after_x_y-fits = refl
 
 after_y-fits : lent_fits after-y ≡ true
-unfolding opened after-y test.lentFits test.sized store.wellFormedStore store.everyBelow store.same_rows view.logOf view.firsts view.entry_of view.op_of view.stretch table.rows_of table.zipped table.playRows table.playRowsFrom table.rowOp lib.Ieee.fits
+unfolding opened after-y test.lent_fits test.sized store.well_formed_store store.every_below store.same_rows view.log_of view.firsts view.entry_of view.op_of view.stretch table.rows_of table.zipped table.play_rows table.play_rows_from table.row_op lib.Ieee.fits
 after_y-fits = refl
 
 after_y_x-fits : lent_fits after_y-x ≡ true
-unfolding opened after_y-x test.lentFits test.sized store.wellFormedStore store.everyBelow store.same_rows view.logOf view.firsts view.entry_of view.op_of view.stretch table.rows_of table.zipped table.playRows table.playRowsFrom table.rowOp lib.Ieee.fits
+unfolding opened after_y-x test.lent_fits test.sized store.well_formed_store store.every_below store.same_rows view.log_of view.firsts view.entry_of view.op_of view.stretch table.rows_of table.zipped table.play_rows table.play_rows_from table.row_op lib.Ieee.fits
 after_y_x-fits = refl
 
 after_z-fits : lent_fits after-z ≡ true
-unfolding opened after-z test.lentFits test.sized store.wellFormedStore store.everyBelow store.same_rows view.logOf view.firsts view.entry_of view.op_of view.stretch table.rows_of table.zipped table.playRows table.playRowsFrom table.rowOp lib.Ieee.fits
+unfolding opened after-z test.lent_fits test.sized store.well_formed_store store.every_below store.same_rows view.log_of view.firsts view.entry_of view.op_of view.stretch table.rows_of table.zipped table.play_rows table.play_rows_from table.row_op lib.Ieee.fits
 after_z-fits = refl
 
 after_z_y_fits : lent_fits after_z-y ≡ true
-unfolding opened after_z-y test.lentFits test.sized store.wellFormedStore store.everyBelow store.same_rows view.logOf view.firsts view.entry_of view.op_of view.stretch table.rows_of table.zipped table.playRows table.playRowsFrom table.rowOp lib.Ieee.fits
+unfolding opened after_z-y test.lent_fits test.sized store.well_formed_store store.every_below store.same_rows view.log_of view.firsts view.entry_of view.op_of view.stretch table.rows_of table.zipped table.play_rows table.play_rows_from table.row_op lib.Ieee.fits
 after_z_y_fits = refl
 
 -- ---- Each call keeps its contract
@@ -168,27 +168,27 @@ abbrev entry-z : Inscribed
 entry-z = record { epoch = 1; code = 1; id = 5; bits = 1073741824 ∷ [] }
 
 call-x : Appends x 1 before after-x (done 2 2)
-unfolding opened before after-x store.replicaIn view.logOf view.firsts view.entry_of view.op_of view.stretch view.writtenAll view.written table.rows_of table.zipped table.vectors_of table.vectorOf
+unfolding opened before after-x store.replica_in view.log_of view.firsts view.entry_of view.op_of view.stretch view.written_all view.written table.rows_of table.zipped table.vectors_of table.vector_of
 call-x = called x (sets 3) edit-x before after-x before-fits (omega arith) entry-x 2 after_x-fits refl (λ m. refl) refl refl refl
 
 call_x_y : Appends y 1 after-x after_x-y (done 3 1)
-unfolding opened after-x after_x-y store.replicaIn view.logOf view.firsts view.entry_of view.op_of view.stretch view.writtenAll view.written table.rows_of table.zipped table.vectors_of table.vectorOf
+unfolding opened after-x after_x-y store.replica_in view.log_of view.firsts view.entry_of view.op_of view.stretch view.written_all view.written table.rows_of table.zipped table.vectors_of table.vector_of
 call_x_y = called y (delete 5) edit-y after-x after_x-y after_x-fits (omega arith) entry-y 1 after_x_y-fits refl (λ m. refl) refl refl refl
 
 call-y : Appends y 1 before after-y (done 2 0)
-unfolding opened before after-y store.replicaIn view.logOf view.firsts view.entry_of view.op_of view.stretch view.writtenAll view.written table.rows_of table.zipped table.vectors_of table.vectorOf
+unfolding opened before after-y store.replica_in view.log_of view.firsts view.entry_of view.op_of view.stretch view.written_all view.written table.rows_of table.zipped table.vectors_of table.vector_of
 call-y = called y (delete 5) edit-y before after-y before-fits (omega arith) entry-y 0 after_y-fits refl (λ m. refl) refl refl refl
 
 call_y_x : Appends x 1 after-y after_y-x (done 3 1)
-unfolding opened after-y after_y-x store.replicaIn view.logOf view.firsts view.entry_of view.op_of view.stretch view.writtenAll view.written table.rows_of table.zipped table.vectors_of table.vectorOf
+unfolding opened after-y after_y-x store.replica_in view.log_of view.firsts view.entry_of view.op_of view.stretch view.written_all view.written table.rows_of table.zipped table.vectors_of table.vector_of
 call_y_x = called x (sets 3) edit-x after-y after_y-x after_y-fits (omega arith) entry-x 1 after_y_x-fits refl (λ m. refl) refl refl refl
 
 call-z : Appends z 1 before after-z (done 2 1)
-unfolding opened before after-z store.replicaIn view.logOf view.firsts view.entry_of view.op_of view.stretch view.writtenAll view.written table.rows_of table.zipped table.vectors_of table.vectorOf
+unfolding opened before after-z store.replica_in view.log_of view.firsts view.entry_of view.op_of view.stretch view.written_all view.written table.rows_of table.zipped table.vectors_of table.vector_of
 call-z = called z (sets 5) edit-z before after-z before-fits (omega arith) entry-z 1 after_z-fits refl (λ m. refl) refl refl refl
 
 call_z_y : Appends y 1 after-z after_z-y (done 3 0)
-unfolding opened after-z after_z-y store.replicaIn view.logOf view.firsts view.entry_of view.op_of view.stretch view.writtenAll view.written table.rows_of table.zipped table.vectors_of table.vectorOf
+unfolding opened after-z after_z-y store.replica_in view.log_of view.firsts view.entry_of view.op_of view.stretch view.written_all view.written table.rows_of table.zipped table.vectors_of table.vector_of
 call_z_y = called y (delete 5) edit-y after-z after_z-y after_z-fits (omega arith) entry-y 0 after_z_y_fits refl (λ m. refl) refl refl refl
 
 turn_x_y : InTurn x y 1 before after_x-y

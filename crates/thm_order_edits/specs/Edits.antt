@@ -16,7 +16,7 @@ use Rattle.log_calls.specs.declared.Done.{Done}
 -- a Write message with this operation, its vector in the domain
 pub record Edit (b : List ℕ) (op : Op) : Type 0 where
   pub write : message.Write
-  pub read : message.decodeWrite b ≡ some write
+  pub read : message.decode_write b ≡ some write
   pub domain : op_in_domain write.op ≡ true
   pub stored : stored_op write.op ≡ op
 

@@ -56,7 +56,7 @@ module _ (stored last : ℕ) (a : LentStore) (well : lent_fits (store_of a (kept
   lent s formed =
       let n = header stored last in and_true (lent_node s n) (lent_at n a (place_of n key)) formed store-lent
 
-module _ (m : List ℕ) (op : WireOp) (decoded : message.decodeWrite m ≡ some (asks op)) (s₁ n₁ s₂ n₂ : ℕ) (a b : LentStore) (l₁ l₂ : Log) (v₁ v₂ : Vectors)
+module _ (m : List ℕ) (op : WireOp) (decoded : message.decode_write m ≡ some (asks op)) (s₁ n₁ s₂ n₂ : ℕ) (a b : LentStore) (l₁ l₂ : Log) (v₁ v₂ : Vectors)
     (before : Reads a s₁ n₁ l₁ v₁) (after : Reads b s₂ n₂ l₂ v₂) (formed : (s : Stores) → lent_node s (header s₁ n₁) ≡ true)
     (taken : (t : Key → Bool) → t key ≡ true
     → record { answer = C.Accepted (record { 0 = n₂ }); node = read l₂ v₂ } ≡ answered_as write_word (write_with t (read l₁ v₁) 5 1 m)) where

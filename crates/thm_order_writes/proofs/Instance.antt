@@ -45,23 +45,23 @@ abbrev pub ones : List ℕ
 ones = 0x3f800000 ∷ []
 
 unfoldable pub x : List ℕ
-x = message.encodeWrite (asks (wire_upsert 41 ones))
+x = message.encode_write (asks (wire_upsert 41 ones))
 
 unfoldable pub y : List ℕ
-y = message.encodeWrite (asks (wire_upsert 7 ones))
+y = message.encode_write (asks (wire_upsert 7 ones))
 
 unfoldable pub z : List ℕ
-z = message.encodeWrite (asks (wire_delete 41))
+z = message.encode_write (asks (wire_delete 41))
 
-pub read-x : message.decodeWrite x ≡ some (asks (wire_upsert 41 ones))
+pub read-x : message.decode_write x ≡ some (asks (wire_upsert 41 ones))
 unfolding opened x
 read-x = refl
 
-pub read-y : message.decodeWrite y ≡ some (asks (wire_upsert 7 ones))
+pub read-y : message.decode_write y ≡ some (asks (wire_upsert 7 ones))
 unfolding opened y
 read-y = refl
 
-pub read-z : message.decodeWrite z ≡ some (asks (wire_delete 41))
+pub read-z : message.decode_write z ≡ some (asks (wire_delete 41))
 unfolding opened z
 read-z = refl
 
@@ -118,31 +118,31 @@ abbrev pub row : ℕ → Vector
 row id = record { id = id; components = one ∷ [] }
 
 reads_before : Reads before 0 0 [] []
-unfolding opened fits lent_fits sized well_formed_store every_below same_rows view.logOf view.firsts view.entry_of view.op_of view.stretch table.rows_of table.zipped table.vectors_of table.vectorOf table.rowOp table.playRows table.playRowsFrom
+unfolding opened fits lent_fits sized well_formed_store every_below same_rows view.log_of view.firsts view.entry_of view.op_of view.stretch table.rows_of table.zipped table.vectors_of table.vector_of table.row_op table.play_rows table.play_rows_from
 reads_before = record { log = refl; vectors = refl; fits = refl }
 
 pub reads_after_x : Reads after-x 1 1 (entry 1 (sets 41) ∷ []) (row 41 ∷ [])
-unfolding opened after-x fits lent_fits sized well_formed_store every_below same_rows view.logOf view.firsts view.entry_of view.op_of view.stretch table.rows_of table.zipped table.vectors_of table.vectorOf table.rowOp table.playRows table.playRowsFrom
+unfolding opened after-x fits lent_fits sized well_formed_store every_below same_rows view.log_of view.firsts view.entry_of view.op_of view.stretch table.rows_of table.zipped table.vectors_of table.vector_of table.row_op table.play_rows table.play_rows_from
 reads_after_x = record { log = refl; vectors = refl; fits = refl }
 
 pub reads_after_y : Reads after-y 1 1 (entry 1 (sets 7) ∷ []) (row 7 ∷ [])
-unfolding opened after-y fits lent_fits sized well_formed_store every_below same_rows view.logOf view.firsts view.entry_of view.op_of view.stretch table.rows_of table.zipped table.vectors_of table.vectorOf table.rowOp table.playRows table.playRowsFrom
+unfolding opened after-y fits lent_fits sized well_formed_store every_below same_rows view.log_of view.firsts view.entry_of view.op_of view.stretch table.rows_of table.zipped table.vectors_of table.vector_of table.row_op table.play_rows table.play_rows_from
 reads_after_y = record { log = refl; vectors = refl; fits = refl }
 
 pub reads_after_z : Reads after-z 0 1 (entry 1 (delete 41) ∷ []) []
-unfolding opened after-z fits lent_fits sized well_formed_store every_below same_rows view.logOf view.firsts view.entry_of view.op_of view.stretch table.rows_of table.zipped table.vectors_of table.vectorOf table.rowOp table.playRows table.playRowsFrom
+unfolding opened after-z fits lent_fits sized well_formed_store every_below same_rows view.log_of view.firsts view.entry_of view.op_of view.stretch table.rows_of table.zipped table.vectors_of table.vector_of table.row_op table.play_rows table.play_rows_from
 reads_after_z = record { log = refl; vectors = refl; fits = refl }
 
 pub reads_after_x_y : Reads after_x-y 2 2 (entry 1 (sets 41) ∷ entry 2 (sets 7) ∷ []) (row 7 ∷ row 41 ∷ [])
-unfolding opened after_x-y fits lent_fits sized well_formed_store every_below same_rows view.logOf view.firsts view.entry_of view.op_of view.stretch table.rows_of table.zipped table.vectors_of table.vectorOf table.rowOp table.playRows table.playRowsFrom
+unfolding opened after_x-y fits lent_fits sized well_formed_store every_below same_rows view.log_of view.firsts view.entry_of view.op_of view.stretch table.rows_of table.zipped table.vectors_of table.vector_of table.row_op table.play_rows table.play_rows_from
 reads_after_x_y = record { log = refl; vectors = refl; fits = refl }
 
 pub reads_after_y_x : Reads after_y-x 2 2 (entry 1 (sets 7) ∷ entry 2 (sets 41) ∷ []) (row 7 ∷ row 41 ∷ [])
-unfolding opened after_y-x fits lent_fits sized well_formed_store every_below same_rows view.logOf view.firsts view.entry_of view.op_of view.stretch table.rows_of table.zipped table.vectors_of table.vectorOf table.rowOp table.playRows table.playRowsFrom
+unfolding opened after_y-x fits lent_fits sized well_formed_store every_below same_rows view.log_of view.firsts view.entry_of view.op_of view.stretch table.rows_of table.zipped table.vectors_of table.vector_of table.row_op table.play_rows table.play_rows_from
 reads_after_y_x = record { log = refl; vectors = refl; fits = refl }
 
 pub reads_after_x_z : Reads after_x-z 0 2 (entry 1 (sets 41) ∷ entry 2 (delete 41) ∷ []) []
-unfolding opened after_x-z fits lent_fits sized well_formed_store every_below same_rows view.logOf view.firsts view.entry_of view.op_of view.stretch table.rows_of table.zipped table.vectors_of table.vectorOf table.rowOp table.playRows table.playRowsFrom
+unfolding opened after_x-z fits lent_fits sized well_formed_store every_below same_rows view.log_of view.firsts view.entry_of view.op_of view.stretch table.rows_of table.zipped table.vectors_of table.vector_of table.row_op table.play_rows table.play_rows_from
 reads_after_x_z = record { log = refl; vectors = refl; fits = refl }
 
 -- ---- the headers pass their test
@@ -231,7 +231,7 @@ pub slot_zero : (stored last : ℕ) → 0 ≡ slot_of (header stored last) key
 unfolding opened slot_of
 slot_zero stored last = refl
 
-named : (stored last : ℕ) (m : List ℕ) (op : WireOp) → message.decodeWrite m ≡ some (asks op) → WriteSlot (header stored last) m 0
+named : (stored last : ℕ) (m : List ℕ) (op : WireOp) → message.decode_write m ≡ some (asks op) → WriteSlot (header stored last) m 0
 named stored last m op decoded v d =
     slot_zero stored last ∙ ap (λ (w : message.Write). slot_of (header stored last) w.key) (some_same (sym decoded ∙ d))
 

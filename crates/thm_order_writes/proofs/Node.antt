@@ -136,7 +136,7 @@ pub record Checked (clock : ℕ) (w : message.Write) : Type 0 where
   pub early : late_time clock ≡ false
   pub inside : op_in_domain w.op ≡ true
 
-module _ (t : Key → Bool) (n : Node) (clock least : ℕ) (m : List ℕ) (w : message.Write) (read : message.decodeWrite m ≡ some w) where
+module _ (t : Key → Bool) (n : Node) (clock least : ℕ) (m : List ℕ) (w : message.Write) (read : message.decode_write m ≡ some w) where
   abbrev call : Result WriteAnswer Node
   call = on_write n clock least w.key w.epoch (stored_op w.op)
 

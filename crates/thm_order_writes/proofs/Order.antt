@@ -100,10 +100,10 @@ module _ (u : Owned) (k : Key) (x y : List ℕ) (a b : Op) (e : Edit x k a) (f :
   abbrev n : held.Node
   n = node_of v
 
-  does-next : (client.onWrite n d.clock d.least f.write.key f.write.epoch (stored_op f.write.op)).answer ≡ client.accepted (o₁ + 1)
+  does-next : (client.on_write n d.clock d.least f.write.key f.write.epoch (stored_op f.write.op)).answer ≡ client.accepted (o₁ + 1)
   does-next =
-      ap (λ (j : Key). (client.onWrite n d.clock d.least j f.write.epoch (stored_op f.write.op)).answer) f.key
-      ∙ ap (λ (z : Op). (client.onWrite n d.clock d.least k f.write.epoch z).answer) f.stored
+      ap (λ (j : Key). (client.on_write n d.clock d.least j f.write.epoch (stored_op f.write.op)).answer) f.key
+      ∙ ap (λ (z : Op). (client.on_write n d.clock d.least k f.write.epoch z).answer) f.stored
       ∙ next (node_of u) n (node_of w) _ _ d.clock d.least k _ f.write.epoch a b o₁ o₂ space (taken u c x k a e v o₁ p).appended
       (taken u d y k b f w o₂ q).appended
 

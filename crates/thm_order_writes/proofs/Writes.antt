@@ -75,7 +75,7 @@ module _ (u : Owned) (c : Moment) (m : List ℕ) (v : Owned) (w : WriteReply) (x
   left = ap node_of x.leaves ∙ ap (λ (z : Answered WriteReply). z.node) is-told
 
   -- a shard that is lent has its vectors played from its log
-  in_step : (k : message.Write) → message.decodeWrite m ≡ some k → lent k.key ≡ true → (h : held.Held) → held_shard (node_of u) k.key ≡ some h
+  in_step : (k : message.Write) → message.decode_write m ≡ some k → lent k.key ≡ true → (h : held.Held) → held_shard (node_of u) k.key ≡ some h
       → InStep h.replica
   unfolding well_formed_lent
   in_step k read e h is =

@@ -51,7 +51,7 @@ log_at u k = log_in (held_shard (node_of u) k)
 -- a Write message with this operation at the shard of a key
 pub record Edit (m : List ℕ) (k : Key) (op : Op) : Type 0 where
   pub write : message.Write
-  pub read : message.decodeWrite m ≡ some write
+  pub read : message.decode_write m ≡ some write
   pub key : write.key ≡ k
   pub stored : stored_op write.op ≡ op
 

@@ -84,7 +84,7 @@ module _ (c : Scene) (holder : holds c.p c.world.holders ≡ true) where
   due j = entries_from c.log (j + 1) max_batch
 
   abbrev asking : List ℕ → real.Request
-  asking bytes = record { sent = step.sentOf bytes; key = w.key; epoch = E; bytes = bytes }
+  asking bytes = record { sent = step.sent_of bytes; key = w.key; epoch = E; bytes = bytes }
 
   -- ---- what a step of a's worker for p is
 
@@ -174,7 +174,7 @@ module _ (c : Scene) (holder : holds c.p c.world.holders ≡ true) where
     first-answers s j k i q found x =
         let sim = x.2 in
         let r = calls.adopts w k.abstract.map.epoch p (s.nodes p) (k.abstract.nodes p) (k.related.nodes p) q E x.0 x.1 sim
-        (k.steady.epochs p holder) (follows-p (proto.leadsFrom (k.abstract.nodes p).role E) refl) in
+        (k.steady.epochs p holder) (follows-p (proto.leads_from (k.abstract.nodes p).role E) refl) in
         let u = r.0 in
         let le = r.2 in (
           reply_adopted u,
@@ -193,7 +193,7 @@ module _ (c : Scene) (holder : holds c.p c.world.holders ≡ true) where
           },
         )
       where
-        follows-p : (t : Bool) → proto.leadsFrom (k.abstract.nodes p).role E ≡ t → t ≡ false
+        follows-p : (t : Bool) → proto.leads_from (k.abstract.nodes p).role E ≡ t → t ≡ false
         follows-p false e = refl
         follows-p true e = absurd (p-follows c (Some c) (some_closed c yes) k.abstract k.kept k.steady holder E refl e)
 

@@ -109,12 +109,12 @@ module _ (w : World) (top n : ℕ) (x : held.Node) (b : Node) (k : NodeSim w top
   Answer = Result BackupAnswer held.Node
 
   -- an alignment of an epoch that the peer does not exceed, and does not lead at, is adopted
-  module _ (e end : ℕ) (t : List End) (c : AlignSim w n q e end t) (low : b.replica.epoch ≤ e) (follows : proto.leadsFrom b.role e ≡ false) where
+  module _ (e end : ℕ) (t : List End) (c : AlignSim w n q e end t) (low : b.replica.epoch ≤ e) (follows : proto.leads_from b.role e ≡ false) where
     abbrev Adopts : Answer → Type 0
     Adopts v = (u : ℕ) × (v.answer ≡ replied (reply_adopted u)) × (u ≤ max_entries)
 
-    role_of_lem : (r : role.Role) (z : ShardReplica) (ps : List Peer) (d : Role) → RoleSim w top n r z ps d → proto.leadsFrom d e ≡ false → leads_from r e ≡ false
-    unfolding proto.leadsFrom
+    role_of_lem : (r : role.Role) (z : ShardReplica) (ps : List Peer) (d : Role) → RoleSim w top n r z ps d → proto.leads_from d e ≡ false → leads_from r e ≡ false
+    unfolding proto.leads_from
     role_of_lem r z ps proto.backup s f = ap (λ (v : role.Role). leads_from v e) s
     role_of_lem r z ps (lead l) s f = ap (λ (v : role.Role). leads_from v e) s.role ∙ f
 

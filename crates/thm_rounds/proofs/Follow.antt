@@ -142,7 +142,7 @@ module _ (c : Scene) where
     pub enough : by ≡ false → goal ≤ upto
 
   abbrev asking : List ℕ → real.Request
-  asking bytes = record { sent = step.sentOf bytes; key = w.key; epoch = E; bytes = bytes }
+  asking bytes = record { sent = step.sent_of bytes; key = w.key; epoch = E; bytes = bytes }
 
   abbrev answering : real.Request → Reply → real.Reply
   answering q v = record { node = a; peer = p; sent = q.sent; key = q.key; epoch = q.epoch; bytes = encode_reply v }
@@ -183,7 +183,7 @@ module _ (c : Scene) where
 
     posts : (s : real.State) (metric : Metric) (room : ℕ) (bytes : List ℕ) → call_request (s.nodes a) room w.key E p metric ≡ written bytes
         → Has ((step.step s (worker_steps a w.key E p metric room)).requests a p) (asking bytes)
-    unfolding step.step step.onWork step.posted real.setRequests
+    unfolding step.step step.on_work step.posted real.set_requests
     posts s metric room bytes e =
         subst (λ (r : RequestAnswer). Has ((step.posted s a w.key E p r).requests a p) (asking bytes)) (sym e)
         (subst (λ (l : List real.Request). Has l (asking bytes))
@@ -247,24 +247,24 @@ module _ (c : Scene) where
 
     goes_back : (s : real.State) (i : ℕ) (q : real.Request) → nth (s.requests a p) i ≡ some q → (v : Reply)
         → (step.heard (s.nodes p) q.sent q.bytes).answer ≡ replied v → Has (step.step s (request_arrives a p i)).replies (answering q v)
-    unfolding step.step step.onArrival step.arrives step.answered real.setReplies real.setRequests real.setNode
+    unfolding step.step step.on_arrival step.arrives step.answered real.set_replies real.set_requests real.set_node
     goes_back s i q found v e =
         let r = step.heard (s.nodes p) q.sent q.bytes in
-        let u : real.State = real.setRequests (real.setNode s p r.after) a p (step.removed (s.requests a p) i) in
+        let u : real.State = real.set_requests (real.set_node s p r.after) a p (step.removed (s.requests a p) i) in
         subst (λ (o : Option real.Request). Has (step.arrives s a p i o).replies (answering q v)) (sym found)
         (subst (λ (z : BackupAnswer). Has (step.answered u a p q z).replies (answering q v)) (sym e) (has_last s.replies (answering q v)))
 
     -- ---- counted
 
     same_nodes : (t : real.State) (q : real.Reply) (v : AckAnswer) → (step.acked t q v).nodes ≡ t.nodes
-    unfolding step.acked real.setOffers
+    unfolding step.acked real.set_offers
     same_nodes t q noted = refl
     same_nodes t q expand = refl
     same_nodes t q (ack_refused r) = refl
 
     node-after : (s : real.State) (i : ℕ) (q : real.Reply) → nth s.replies i ≡ some q → q.node ≡ a
         → (step.step s (reply_arrives i)).nodes a ≡ (call_ack (s.nodes a) q.key q.epoch q.peer q.sent q.bytes).after
-    unfolding step.step step.onReply step.replies real.setReplies real.setNode
+    unfolding step.step step.on_reply step.replies real.set_replies real.set_node
     node-after s i q found e =
         let r : ℕ → _ = λ n. call_ack (s.nodes n) q.key q.epoch q.peer q.sent q.bytes in
         ap (λ (o : Option real.Reply). (step.replies s i o).nodes a) found

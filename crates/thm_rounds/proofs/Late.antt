@@ -40,11 +40,11 @@ unfoldable pub clean : State
 clean = run full (alignment 1 2 ∷ arrival 1 2 0 ∷ counting 0 ∷ [])
 
 pub two_rounds : held (sends clean 1) ≡ 256
-unfolding model.opened upd upd2 proto.setNode proto.setRequests proto.addReply proto.addAccepted proto.withRole proto.withPeer proto.leadAt proto.writeAs proto.onWrite proto.post proto.alignAs proto.onAlign proto.sendBatch proto.sendAs proto.onSend proto.leadsFrom proto.replied proto.adopting proto.storing proto.hearOne proto.hearAs proto.onHear proto.countedAs proto.countRole proto.countAs proto.onCount proto.step proto.run proto.fresh many full sends clean
+unfolding model.opened upd upd2 proto.set_node proto.set_requests proto.add_reply proto.add_accepted proto.with_role proto.with_peer proto.lead_at proto.write_as proto.on_write proto.post proto.align_as proto.on_align proto.send_batch proto.send_as proto.on_send proto.leads_from proto.replied proto.adopting proto.storing proto.hear_one proto.hear_as proto.on_hear proto.counted_as proto.count_role proto.count_as proto.on_count proto.step proto.run proto.fresh many full sends clean
 two_rounds = refl
 
 pub three_rounds : held (sends (sends clean 1) 2) ≡ 257
-unfolding model.opened upd upd2 proto.setNode proto.setRequests proto.addReply proto.addAccepted proto.withRole proto.withPeer proto.leadAt proto.writeAs proto.onWrite proto.post proto.alignAs proto.onAlign proto.sendBatch proto.sendAs proto.onSend proto.leadsFrom proto.replied proto.adopting proto.storing proto.hearOne proto.hearAs proto.onHear proto.countedAs proto.countRole proto.countAs proto.onCount proto.step proto.run proto.fresh many full sends clean
+unfolding model.opened upd upd2 proto.set_node proto.set_requests proto.add_reply proto.add_accepted proto.with_role proto.with_peer proto.lead_at proto.write_as proto.on_write proto.post proto.align_as proto.on_align proto.send_batch proto.send_as proto.on_send proto.leads_from proto.replied proto.adopting proto.storing proto.hear_one proto.hear_as proto.on_hear proto.counted_as proto.count_role proto.count_as proto.on_count proto.step proto.run proto.fresh many full sends clean
 three_rounds = refl
 
 -- ---- an alignment from before was adopted too, and its answer, the first, is still under way
@@ -57,17 +57,17 @@ unfoldable pub late : State
 late = run second (counting 0 ∷ [])
 
 pub counted : ack_of (second.nodes 1).role ≡ 256
-unfolding model.opened upd upd2 proto.setNode proto.setRequests proto.addReply proto.addAccepted proto.withRole proto.withPeer proto.leadAt proto.writeAs proto.onWrite proto.post proto.alignAs proto.onAlign proto.sendBatch proto.sendAs proto.onSend proto.leadsFrom proto.replied proto.adopting proto.storing proto.hearOne proto.hearAs proto.onHear proto.countedAs proto.countRole proto.countAs proto.onCount proto.step proto.run proto.fresh many full sends second late
+unfolding model.opened upd upd2 proto.set_node proto.set_requests proto.add_reply proto.add_accepted proto.with_role proto.with_peer proto.lead_at proto.write_as proto.on_write proto.post proto.align_as proto.on_align proto.send_batch proto.send_as proto.on_send proto.leads_from proto.replied proto.adopting proto.storing proto.hear_one proto.hear_as proto.on_hear proto.counted_as proto.count_role proto.count_as proto.on_count proto.step proto.run proto.fresh many full sends second late
 counted = refl
 
 pub taken_back : ack_of (late.nodes 1).role ≡ 0
-unfolding model.opened upd upd2 proto.setNode proto.setRequests proto.addReply proto.addAccepted proto.withRole proto.withPeer proto.leadAt proto.writeAs proto.onWrite proto.post proto.alignAs proto.onAlign proto.sendBatch proto.sendAs proto.onSend proto.leadsFrom proto.replied proto.adopting proto.storing proto.hearOne proto.hearAs proto.onHear proto.countedAs proto.countRole proto.countAs proto.onCount proto.step proto.run proto.fresh many full sends second late
+unfolding model.opened upd upd2 proto.set_node proto.set_requests proto.add_reply proto.add_accepted proto.with_role proto.with_peer proto.lead_at proto.write_as proto.on_write proto.post proto.align_as proto.on_align proto.send_batch proto.send_as proto.on_send proto.leads_from proto.replied proto.adopting proto.storing proto.hear_one proto.hear_as proto.on_hear proto.counted_as proto.count_role proto.count_as proto.on_count proto.step proto.run proto.fresh many full sends second late
 taken_back = refl
 
 pub three_not_enough : held (sends late 3) ≡ 256
-unfolding model.opened upd upd2 proto.setNode proto.setRequests proto.addReply proto.addAccepted proto.withRole proto.withPeer proto.leadAt proto.writeAs proto.onWrite proto.post proto.alignAs proto.onAlign proto.sendBatch proto.sendAs proto.onSend proto.leadsFrom proto.replied proto.adopting proto.storing proto.hearOne proto.hearAs proto.onHear proto.countedAs proto.countRole proto.countAs proto.onCount proto.step proto.run proto.fresh many full sends second late
+unfolding model.opened upd upd2 proto.set_node proto.set_requests proto.add_reply proto.add_accepted proto.with_role proto.with_peer proto.lead_at proto.write_as proto.on_write proto.post proto.align_as proto.on_align proto.send_batch proto.send_as proto.on_send proto.leads_from proto.replied proto.adopting proto.storing proto.hear_one proto.hear_as proto.on_hear proto.counted_as proto.count_role proto.count_as proto.on_count proto.step proto.run proto.fresh many full sends second late
 three_not_enough = refl
 
 pub four_rounds : held (sends (sends late 3) 4) ≡ 257
-unfolding model.opened upd upd2 proto.setNode proto.setRequests proto.addReply proto.addAccepted proto.withRole proto.withPeer proto.leadAt proto.writeAs proto.onWrite proto.post proto.alignAs proto.onAlign proto.sendBatch proto.sendAs proto.onSend proto.leadsFrom proto.replied proto.adopting proto.storing proto.hearOne proto.hearAs proto.onHear proto.countedAs proto.countRole proto.countAs proto.onCount proto.step proto.run proto.fresh many full sends second late
+unfolding model.opened upd upd2 proto.set_node proto.set_requests proto.add_reply proto.add_accepted proto.with_role proto.with_peer proto.lead_at proto.write_as proto.on_write proto.post proto.align_as proto.on_align proto.send_batch proto.send_as proto.on_send proto.leads_from proto.replied proto.adopting proto.storing proto.hear_one proto.hear_as proto.on_hear proto.counted_as proto.count_role proto.count_as proto.on_count proto.step proto.run proto.fresh many full sends second late
 four_rounds = refl

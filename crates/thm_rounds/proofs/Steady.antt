@@ -449,4 +449,4 @@ module _ (c : Scene) where
       → SteadyAt K (run s ms) × Inv (run s ms)
   unfolding run
   steady_run K cl s v k [] g = (k, v)
-  steady_run K cl s v k (m ∷ ms) g = steady_run K cl (step s m) (protocol.on-move s m v) (steady_move K cl s v k m g.0) ms g.1
+  steady_run K cl s v k (m ∷ ms) g = steady_run K cl (step s m) (protocol.on_move s m v) (steady_move K cl s v k m g.0) ms g.1

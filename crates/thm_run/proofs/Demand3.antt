@@ -114,4 +114,4 @@ module _ (s : State) (f : Fresh s) where
 pub durable : (s : State) → Fresh s → (es : List Event) → allowed_run s es ≡ true → Durable (run s es)
 durable s f es t =
     let v = invariant s f es t in
-    held_fast (world_of s f) (run s es) v.abstract v.related (protocol.stands-in-sync v.abstract v.kept)
+    held_fast (world_of s f) (run s es) v.abstract v.related (protocol.stands_in_sync v.abstract v.kept)

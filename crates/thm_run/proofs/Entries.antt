@@ -63,7 +63,7 @@ module _ (s : State) (f : Fresh s) (es : List Event) (t : allowed_run s es ≡ t
   pub alike : Alike (run s es)
   alike = record {
     entries = λ k n m o x y p q.
-        protocol.entries-alike v.abstract v.kept n m o x y (stands k n o x p).there (stands k m o y q).there;
+        protocol.entries_alike v.abstract v.kept n m o x y (stands k n o x p).there (stands k m o y q).there;
   }
 
   origin : (k : Key) (n o : ℕ) (x : Entry) → entry_at (log_of ((run s es).nodes n) k) o ≡ some x → Origin (run s es) k o x

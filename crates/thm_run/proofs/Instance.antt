@@ -50,24 +50,24 @@ at_second = one_entry (log_of ((lone.end).nodes 2) key) (entry 1 1 41) lone.stor
 -- the entry that came as CopyShard is that of the primary
 pub same-entry : (x : Entry) → entry_at (log_of ((lone.end).nodes 2) key) 1 ≡ some x → x.epoch ≡ 1 → x ≡ entry 1 1 41
 unfolding lone.end
-same-entry x p e = (alike start start-fresh lone.events lone.may-happen).entries key 2 1 1 x (entry 1 1 41) p at_first e
+same-entry x p e = (alike start start-fresh lone.events lone.may_happen).entries key 2 1 1 x (entry 1 1 41) p at_first e
 
 -- and the Write that node 1 accepted at epoch 1
 pub first-written : Origin lone.end key 1 (entry 1 1 41)
 unfolding lone.end
-first-written = (written start start-fresh lone.events lone.may-happen).entries key 2 1 (entry 1 1 41) at_second
+first-written = (written start start-fresh lone.events lone.may_happen).entries key 2 1 (entry 1 1 41) at_second
 
 -- ---- request 2.3: the acknowledged write stands at node 2, overtaken or repeated as the alignment may be
 
-pub overtaken_stands : Stands (wrote 1 1 1 41) (log_of ((run start (late.eventsOf late.overtaken)).nodes 2) key)
+pub overtaken_stands : Stands (wrote 1 1 1 41) (log_of ((run start (late.events_of late.overtaken)).nodes 2) key)
 overtaken_stands =
-    (durable start start-fresh (late.eventsOf late.overtaken) late.overtaken-may).stands (wrote 1 1 1 41) 0
-    (rw late.overtaken-acknowledged (unfold nth in refl)) 2 late.overtaken-in-sync
+    (durable start start-fresh (late.events_of late.overtaken) late.overtaken-may).stands (wrote 1 1 1 41) 0
+    (rw late.overtaken_acknowledged (unfold nth in refl)) 2 late.overtaken_in_sync
 
-pub repeated_stands : Stands (wrote 1 1 1 41) (log_of ((run start (late.eventsOf late.repeated)).nodes 2) key)
+pub repeated_stands : Stands (wrote 1 1 1 41) (log_of ((run start (late.events_of late.repeated)).nodes 2) key)
 repeated_stands =
-    (durable start start-fresh (late.eventsOf late.repeated) late.repeated-may).stands (wrote 1 1 1 41) 0
-    (rw late.repeated-acknowledged (unfold nth in refl)) 2 late.repeated-in-sync
+    (durable start start-fresh (late.events_of late.repeated) late.repeated-may).stands (wrote 1 1 1 41) 0
+    (rw late.repeated_acknowledged (unfold nth in refl)) 2 late.repeated_in_sync
 
 -- ---- the paper's rules
 
@@ -97,10 +97,10 @@ pub written_too : Written lone.end
 unfolding lone.end
 written_too = paper-written seqs seqs-rise start start-fresh lone.events lone-paper
 
-pub overtaken_too : Durable (run start (late.eventsOf late.overtaken))
+pub overtaken_too : Durable (run start (late.events_of late.overtaken))
 overtaken_too =
-    paper_durable seqs seqs-rise start start-fresh (late.eventsOf late.overtaken) (from-fresh (late.eventsOf late.overtaken) overtaken_of_paper)
+    paper_durable seqs seqs-rise start start-fresh (late.events_of late.overtaken) (from-fresh (late.events_of late.overtaken) overtaken_of_paper)
 
-pub repeated_too : Durable (run start (late.eventsOf late.repeated))
+pub repeated_too : Durable (run start (late.events_of late.repeated))
 repeated_too =
-    paper_durable seqs seqs-rise start start-fresh (late.eventsOf late.repeated) (from-fresh (late.eventsOf late.repeated) repeated_of_paper)
+    paper_durable seqs seqs-rise start start-fresh (late.events_of late.repeated) (from-fresh (late.events_of late.repeated) repeated_of_paper)

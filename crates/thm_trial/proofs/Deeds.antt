@@ -131,9 +131,9 @@ module _ (n more : ℕ) (t : Hall) (h : History) (k : Known n (32 + more) t h) (
   base = set_node t.now w.node (call_wait (t.now.nodes w.node) t.clock timeout w.key w.epoch w.offset).after
 
   is-waited : Waited base (step.step t.now waits) w (shrinks answer)
-  unfolding step.step step.onWait step.waitFor
+  unfolding step.step step.on_wait step.wait_for
   is-waited =
-      subst (λ (o : Option Write). Waited base (step.waitFor t.now t.clock timeout o) w (shrinks answer)) (sym found) (waited-all base w answer)
+      subst (λ (o : Option Write). Waited base (step.wait_for t.now t.clock timeout o) w (shrinks answer)) (sym found) (waited-all base w answer)
 
   mine_1 : is_mine_write w ≡ true
   mine_1 = every-nth is_mine_write t.now.accepted place w k.writes found
@@ -272,8 +272,8 @@ module _ (x : Settings) (n more : ℕ) (t : Hall) (h : History) (c : Calm n (32 
       ap is_there (nth-append ws (w ∷ []) i (nth_lt ws i f.0 f.1) ∙ f.1)
 
   wrote : (epoch : ℕ) (o : Option message.Write) → decode_write (edit_bytes number epoch) ≡ o → (a : WriteAnswer) → (written epoch).answer ≡ a
-      → Wrote (step.recordWrite (left epoch) 1 o a) a
-  unfolding step.recordWrite set_writes set_node
+      → Wrote (step.record_write (left epoch) 1 o a) a
+  unfolding step.record_write set_writes set_node
   wrote epoch none e (client.write_refused r) q = record { longer = λ i g. g; stands = refl }
   wrote epoch none e (client.accepted o) q = differ (sym (unread epoch e) ∙ q)
     where
@@ -286,7 +286,7 @@ module _ (x : Settings) (n more : ℕ) (t : Hall) (h : History) (c : Calm n (32 
   }
 
   sends_to_1 : (epoch : ℕ) → Presented n more t (send_to x t number p epoch (some 1))
-  unfolding happens step.step step.onWrite remember set_node
+  unfolding happens step.step step.on_write remember set_node
   sends_to_1 epoch =
       let e = event epoch in
       let g = on-write n (32 + more) t h c.known t.clock x.least (edit_bytes number epoch) (edit-bytes number epoch) in

@@ -149,13 +149,13 @@ any-more p (x ∷ xs) ys h = go (p x) h (any-more p xs ys)
 module _ (n more : ℕ) (t : Hall) (h : History) (k : Known n more t h) where
   -- 'every node is granted a lease'
   pub on-grant : (i life sent lease : ℕ) → Known n more (happens t (lease_granted i life sent lease)) (remember t.now h (lease_granted i life sent lease))
-  unfolding step.step step.onGrant set_node remember paper.paper
+  unfolding step.step step.on_grant set_node remember paper.paper
   on-grant i life sent lease =
       stays n more t h k (lease_granted i life sent lease) refl (record { map = refl; clients = refl; offers = refl; accepted = refl }) refl k.workers
 
   -- 'and shown the current map'
   pub on-shown : (i fresh : ℕ) → Known n more (happens t (map_shown i fresh)) (remember t.now h (map_shown i fresh))
-  unfolding step.step step.onShown set_node remember paper.paper
+  unfolding step.step step.on_shown set_node remember paper.paper
   on-shown i fresh =
       stays n more t h k (map_shown i fresh) refl (record { map = refl; clients = refl; offers = refl; accepted = refl }) refl
       (every_to (has_worker h.workers) (has_worker (remember t.now h (map_shown i fresh)).workers)
@@ -165,8 +165,8 @@ module _ (n more : ℕ) (t : Hall) (h : History) (k : Known n more t h) where
 
   -- what is recorded of a Write at node 1
   recorded : (s : State) → every is_mine_write s.accepted ≡ true → (o : Option message.Write) (a : WriteAnswer)
-      → every is_mine_write (step.recordWrite s 1 o a).accepted ≡ true
-  unfolding step.recordWrite set_writes every
+      → every is_mine_write (step.record_write s 1 o a).accepted ≡ true
+  unfolding step.record_write set_writes every
   recorded s h none a = h
   recorded s h (some m) (client.write_refused r) = h
   recorded s h (some m) (client.accepted o) =
@@ -179,15 +179,15 @@ module _ (n more : ℕ) (t : Hall) (h : History) (k : Known n more t h) where
     pub requests : s'.requests ≡ s.requests
     pub replies : s'.replies ≡ s.replies
 
-  pub beside-write : (s : State) (o : Option message.Write) (a : WriteAnswer) → Recorded s (step.recordWrite s 1 o a)
-  unfolding step.recordWrite set_writes
+  pub beside-write : (s : State) (o : Option message.Write) (a : WriteAnswer) → Recorded s (step.record_write s 1 o a)
+  unfolding step.record_write set_writes
   beside-write s none a = record { map = refl; clients = refl; offers = refl; requests = refl; replies = refl }
   beside-write s (some m) (client.write_refused r) = record { map = refl; clients = refl; offers = refl; requests = refl; replies = refl }
   beside-write s (some m) (client.accepted o) = record { map = refl; clients = refl; offers = refl; requests = refl; replies = refl }
 
   pub on-write : (now least : ℕ) (bytes : List ℕ) → is_bytes bytes ≡ true
       → Known n more (happens t (client_writes 1 now least bytes)) (remember t.now h (client_writes 1 now least bytes))
-  unfolding happens step.step step.onWrite set_node remember paper.paper
+  unfolding happens step.step step.on_write set_node remember paper.paper
   on-write now least bytes b =
       let e = client_writes 1 now least bytes in
       let r = call_write (t.now.nodes 1) now least bytes in
@@ -319,7 +319,7 @@ module _ (n more : ℕ) (t : Hall) (h : History) (k : Known n (suc more) t h) (o
       (λ e. not_both o.awaited awaited e)
 
   pub reached : Reached (step.step t.now arrives)
-  unfolding step.step step.onOffer
+  unfolding step.step step.on_offer
   reached = subst (λ (x : Option Offer). Reached (step.offered t.now 0 t.index t.seq x)) (sym in_front) reached_by
 
   -- what is remembered then
@@ -394,7 +394,7 @@ pub record Settles (n more : ℕ) (t t' : Hall) (h : History) (left : List Offer
 
 pub settles_one : (n more : ℕ) (t : Hall) (h : History) → Known n (suc more) t h → (o : Offer) (os : List Offer) → t.now.offers ≡ o ∷ os
     → Settles n more t (settle_one t) h os
-unfolding settle_one happens step.step step.onOutcome remember paper.paper
+unfolding settle_one happens step.step step.on_outcome remember paper.paper
 settles_one n more t h k o os have =
     let v = offer_arrives 0 t.index t.seq in
     let r = reached n more t h k o os have in

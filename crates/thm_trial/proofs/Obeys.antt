@@ -34,7 +34,7 @@ use Rattle.thm_trial.proofs.Works.{Calmed, works_calm}
 -- ---- every node is ready
 
 prepared : (n more : ℕ) (t : Hall) (h : History) → Calm n more t h → (is : List ℕ) → Calmed n more t.now.accepted (prepare_all t is)
-unfolding prepare_all prepare happens step.step step.onGrant step.onShown set_node remember
+unfolding prepare_all prepare happens step.step step.on_grant step.on_shown set_node remember
 prepared n more t h c [] = (h, c, refl)
 prepared n more t h c (i ∷ is) =
     let g = lease_granted i life t.clock last_clock in
@@ -167,35 +167,35 @@ record Begins (n : ℕ) : Type 0 where
   peers : leb (length (drop 1 (up_to n))) 7 ≡ true
 
 begins_1 : Begins 1
-unfolding all info fresh_history paper.firstStarted
+unfolding all info fresh_history paper.first_started
 begins_1 = record { workers = refl; version = refl; sender = refl; led = refl; peers = refl }
 
 begins_2 : Begins 2
-unfolding all info fresh_history paper.firstStarted
+unfolding all info fresh_history paper.first_started
 begins_2 = record { workers = refl; version = refl; sender = refl; led = refl; peers = refl }
 
 begins_3 : Begins 3
-unfolding all info fresh_history paper.firstStarted
+unfolding all info fresh_history paper.first_started
 begins_3 = record { workers = refl; version = refl; sender = refl; led = refl; peers = refl }
 
 begins_4 : Begins 4
-unfolding all info fresh_history paper.firstStarted
+unfolding all info fresh_history paper.first_started
 begins_4 = record { workers = refl; version = refl; sender = refl; led = refl; peers = refl }
 
 begins_5 : Begins 5
-unfolding all info fresh_history paper.firstStarted
+unfolding all info fresh_history paper.first_started
 begins_5 = record { workers = refl; version = refl; sender = refl; led = refl; peers = refl }
 
 begins_6 : Begins 6
-unfolding all info fresh_history paper.firstStarted
+unfolding all info fresh_history paper.first_started
 begins_6 = record { workers = refl; version = refl; sender = refl; led = refl; peers = refl }
 
 begins_7 : Begins 7
-unfolding all info fresh_history paper.firstStarted
+unfolding all info fresh_history paper.first_started
 begins_7 = record { workers = refl; version = refl; sender = refl; led = refl; peers = refl }
 
 begins_8 : Begins 8
-unfolding all info fresh_history paper.firstStarted
+unfolding all info fresh_history paper.first_started
 begins_8 = record { workers = refl; version = refl; sender = refl; led = refl; peers = refl }
 
 begins : (n : ℕ) → 1 ≤ n → n ≤ 8 → Begins n
@@ -279,7 +279,7 @@ module _ (x : Settings) (w : within x ≡ true) where
   pub stands : Durable (trial_of x).hall.now
   stands =
       subst Durable (sym (is-run x))
-      (allowed.paper-durable seqs rising (beginning x.nodes) (begins_fresh x.nodes some_nodes few-nodes).0 (trial_of x).hall.past obeys_fresh)
+      (allowed.paper_durable seqs rising (beginning x.nodes) (begins_fresh x.nodes some_nodes few-nodes).0 (trial_of x).hall.past obeys_fresh)
 
   -- node 1 is the map's primary to the end
   pub primary_stays : Led (trial_of x).hall.now.map

@@ -61,7 +61,7 @@ data Posts (peer : ℕ) (s : State) (h : History) : Type 0 where
 module _ (peer : ℕ) (s : State) (h : History) (c : Quiet s h) where
   -- what is remembered when the requests between them have become these
   abbrev noted_as : List Request → History
-  noted_as l = paper.setMail h (paper.posting h.mail 1 hall_key 1 peer life (drop (length (s.requests 1 peer)) l))
+  noted_as l = paper.set_mail h (paper.posting h.mail 1 hall_key 1 peer life (drop (length (s.requests 1 peer)) l))
 
   posts : (a : RequestAnswer) → Posts peer (step.posted s 1 hall_key 1 peer life a) (noted_as ((step.posted s 1 hall_key 1 peer life a).requests 1 peer))
   unfolding step.posted set_requests nth
@@ -75,7 +75,7 @@ module _ (peer : ℕ) (s : State) (h : History) (c : Quiet s h) where
       let e : l ≡ q ∷ [] = ap (λ (x : List Request). x ++ (q ∷ [])) (c.requests peer) in
       let d : drop (length (s.requests 1 peer)) (at r 1 (at (r 1) peer l) 1 peer) ≡ q ∷ [] =
       ap (λ (x : List Request). drop (length x) (at r 1 (at (r 1) peer l) 1 peer)) (c.requests peer) ∙ at_link r 1 peer l ∙ e in
-      subst (λ (x : List Request). Posts peer (set_requests s 1 peer l) (paper.setMail h (paper.posting m 1 hall_key 1 peer life x))) (sym d)
+      subst (λ (x : List Request). Posts peer (set_requests s 1 peer l) (paper.set_mail h (paper.posting m 1 hall_key 1 peer life x))) (sym d)
       (one q m.count (record {
         link = at_link r 1 peer l ∙ e;
         rest = λ j n. at_others r 1 peer l j n ∙ c.requests j;
@@ -114,7 +114,7 @@ module _ (peer : ℕ) (s : State) (h : History) (q : Request) (number : ℕ) (u 
       go false e = at_others h.mail.requests 1 peer (removed (h.mail.requests 1 peer) 0) j (eqb-false j peer e) ∙ u.numbers j (eqb-false j peer e)
 
   lost_quiet : Quiet (step.step s (request_lost 1 peer 0)) (remember s h (request_lost 1 peer 0))
-  unfolding step.step step.onRequestLost set_requests remember
+  unfolding step.step step.on_request_lost set_requests remember
   lost_quiet = record { requests = cleared; replies = u.replies; posted = uncounted; answered = u.answered }
 
 -- ---- the request arrives
@@ -141,13 +141,13 @@ module _ (peer : ℕ) (s : State) (h : History) (q : Request) (number : ℕ) (u 
   base x = set_requests (set_node s peer x) 1 peer (removed (s.requests 1 peer) 0)
 
   abbrev noted-at : List Reply → History
-  noted-at l = paper.setMail h (paper.replying (paper.withoutRequest h.mail 1 peer 0) (some number) (drop (length s.replies) l))
+  noted-at l = paper.set_mail h (paper.replying (paper.without_request h.mail 1 peer 0) (some number) (drop (length s.replies) l))
 
   answers : (x : Node) (a : BackupAnswer) → Answers peer (step.answered (base x) 1 peer q a) (noted-at (step.answered (base x) 1 peer q a).replies)
   unfolding step.answered set_replies set_requests set_node nth
   answers x (backup_refused r) =
       let d : drop (length s.replies) s.replies ≡ [] = ap (λ (l : List Reply). drop (length l) l) u.replies in
-      subst (λ (l : List Reply). Answers peer (base x) (paper.setMail h (paper.replying (paper.withoutRequest h.mail 1 peer 0) (some number) l))) (sym d)
+      subst (λ (l : List Reply). Answers peer (base x) (paper.set_mail h (paper.replying (paper.without_request h.mail 1 peer 0) (some number) l))) (sym d)
       (silent (ap (λ (l : List Reply). nth l 0) u.replies)
       (record { requests = cleared peer s h q number u; replies = u.replies; posted = uncounted peer s h q number u; answered = u.answered }))
   answers x (replied b) =
@@ -155,7 +155,7 @@ module _ (peer : ℕ) (s : State) (h : History) (q : Request) (number : ℕ) (u 
       let e : s.replies ++ (r ∷ []) ≡ r ∷ [] = ap (λ (l : List Reply). l ++ (r ∷ [])) u.replies in
       let d : drop (length s.replies) (s.replies ++ (r ∷ [])) ≡ r ∷ [] =
       ap (λ (l : List Reply). drop (length l) (l ++ (r ∷ []))) u.replies in
-      subst (λ (l : List Reply). Answers peer (set_replies (base x) (s.replies ++ (r ∷ []))) (paper.setMail h (paper.replying (paper.withoutRequest h.mail 1 peer 0) (some number) l))) (sym d)
+      subst (λ (l : List Reply). Answers peer (set_replies (base x) (s.replies ++ (r ∷ []))) (paper.set_mail h (paper.replying (paper.without_request h.mail 1 peer 0) (some number) l))) (sym d)
       (answer r number (record {
         requests = cleared peer s h q number u;
         replies = e;
@@ -181,14 +181,14 @@ module _ (peer : ℕ) (s : State) (h : History) (q : Request) (number : ℕ) (u 
   arrives = request_arrives 1 peer 0
 
   arrived : Answers peer (step.step s arrives) (remember s h arrives)
-  unfolding step.step step.onArrival remember step.arrives
+  unfolding step.step step.on_arrival remember step.arrives
   arrived =
       let r = step.heard (s.nodes peer) q.sent q.bytes in
       subst (λ (o : Option Request). Answers peer (step.arrives s 1 peer 0 o)
-      (paper.setMail h (paper.replying (paper.withoutRequest h.mail 1 peer 0) (nth (h.mail.requests 1 peer) 0) (drop (length s.replies) (step.arrives s 1 peer 0 o).replies))))
+      (paper.set_mail h (paper.replying (paper.without_request h.mail 1 peer 0) (nth (h.mail.requests 1 peer) 0) (drop (length s.replies) (step.arrives s 1 peer 0 o).replies))))
       (sym on_link)
       (subst (λ (o : Option ℕ). Answers peer (step.arrives s 1 peer 0 (some q))
-      (paper.setMail h (paper.replying (paper.withoutRequest h.mail 1 peer 0) o (drop (length s.replies) (step.arrives s 1 peer 0 (some q)).replies))))
+      (paper.set_mail h (paper.replying (paper.without_request h.mail 1 peer 0) o (drop (length s.replies) (step.arrives s 1 peer 0 (some q)).replies))))
       (sym on-number) (answers r.after r.answer))
 
   may_arrive : paper.paper seqs s h arrives ≡ true
@@ -248,12 +248,12 @@ acked-all s r e expand = record {
   few = omega arith;
 }
 
-first-post : (r : Reply) (p : Posted) (l : List Posted) → nth l 0 ≡ some p → paper.isPost r p ≡ true → find (paper.isPost r) l ≡ some p
+first-post : (r : Reply) (p : Posted) (l : List Posted) → nth l 0 ≡ some p → paper.is_post r p ≡ true → find (paper.is_post r) l ≡ some p
 unfolding nth find
 first-post r p [] e h = none_some e
 first-post r p (x ∷ xs) e h =
     let k : x ≡ p = some_same e in
-    subst (λ (y : Posted). cond (paper.isPost r y) (some y) (find (paper.isPost r) xs) ≡ some p) (sym k) (rw h)
+    subst (λ (y : Posted). cond (paper.is_post r y) (some y) (find (paper.is_post r) xs) ≡ some p) (sym k) (rw h)
 
 module _ (n more peer : ℕ) (t : Hall) (h : History) (k : Known n (32 + more) t h) (none_open : t.now.offers ≡ []) (r : Reply) (number : ℕ)
     (u : Answering peer t.now h r number) where
@@ -271,7 +271,7 @@ module _ (n more peer : ℕ) (t : Hall) (h : History) (k : Known n (32 + more) t
   abbrev post : Posted
   post = record { node = 1; key = hall_key; epoch = 1; peer = peer; incarnation = life; number = number }
 
-  is_its : paper.isPost r post ≡ true
+  is_its : paper.is_post r post ≡ true
   unfolding ◌and◌ same_key same_name
   is_its = rw (u.node, u.to, u.incarnation, u.key, u.epoch, eq-eqb peer peer refl)
 
@@ -287,7 +287,7 @@ module _ (n more peer : ℕ) (t : Hall) (h : History) (k : Known n (32 + more) t
   left = set_replies (set_node t.now r.node hears.after) (removed t.now.replies 0)
 
   is-acked : Acked left (step.step t.now counts)
-  unfolding step.step step.onReply step.replies
+  unfolding step.step step.on_reply step.replies
   is-acked = subst (λ (o : Option Reply). Acked left (step.replies t.now 0 o)) (sym on_way) (acked-all left r u.node hears.answer)
 
   reply_makes : Makes n (32 + more) t h k counts
@@ -345,7 +345,7 @@ Calmed n more ws t = (after : History) × Calm n more t after × (t.now.accepted
 module _ (n more peer : ℕ) (t : Hall) (h : History) (k : Known n (32 + more) t h) (none_open : t.now.offers ≡ []) (q : Request) (number : ℕ)
     (u : Under peer t.now h q number) (ws : List Write) (same : t.now.accepted ≡ ws) where
   loses : Calmed n more ws (happens t (request_lost 1 peer 0))
-  unfolding happens step.step step.onRequestLost set_requests remember
+  unfolding happens step.step step.on_request_lost set_requests remember
   loses =
       let e = request_lost 1 peer 0 in
       let g = stays n (32 + more) t h k e (may_lose peer t.now h q number u) (record { map = refl; clients = refl; offers = refl; accepted = refl }) refl k.workers in (
@@ -358,16 +358,16 @@ module _ (n more peer : ℕ) (t : Hall) (h : History) (k : Known n (32 + more) t
   arrival = request_arrives 1 peer 0
 
   delivered : Known n (32 + more) (happens t arrival) (remember t.now h arrival)
-  unfolding step.step step.onArrival remember
+  unfolding step.step step.on_arrival remember
   delivered =
       stays n (32 + more) t h k arrival (may_arrive peer t.now h q number u) (arrive_beside peer t.now (nth (t.now.requests 1 peer) 0)) refl k.workers
 
   still-none : (happens t arrival).now.offers ≡ []
-  unfolding happens step.step step.onArrival
+  unfolding happens step.step step.on_arrival
   still-none = (arrive_beside peer t.now (nth (t.now.requests 1 peer) 0)).offers ∙ none_open
 
   still-same : (happens t arrival).now.accepted ≡ ws
-  unfolding happens step.step step.onArrival
+  unfolding happens step.step step.on_arrival
   still-same = (arrive_beside peer t.now (nth (t.now.requests 1 peer) 0)).accepted ∙ same
 
   replies : Answers peer (happens t arrival).now (remember t.now h arrival) → Calmed n more ws (trial.replied (happens t arrival) (is_some (nth (happens t arrival).now.replies 0)))
@@ -388,7 +388,7 @@ module _ (n more peer : ℕ) (t : Hall) (h : History) (k : Known n (32 + more) t
 
 pub works_calm : (n more peer : ℕ) (t : Hall) (h : History) → Calm n (32 + more) t h → has_worker h.workers peer ≡ true → (down : Bool)
     → Calmed n more t.now.accepted (works t peer down)
-unfolding works happens step.step step.onWork remember paper.paper
+unfolding works happens step.step step.on_work remember paper.paper
 works_calm n more peer t h c w down =
     go (posts peer t.now h c.quiet (call_request (t.now.nodes 1) request_room hall_key 1 peer life Euclidean))
   where

@@ -64,10 +64,10 @@ grants =
 -- ---- the replies
 
 abbrev pub adopted_reply : List ℕ
-adopted_reply = message.encodeReply (message.reply_adopted 0)
+adopted_reply = message.encode_reply (message.reply_adopted 0)
 
 abbrev pub stored_reply : List ℕ
-stored_reply = message.encodeReply (message.reply_stored 1)
+stored_reply = message.encode_reply (message.reply_stored 1)
 
 abbrev aligning : NodeAcked
 aligning = record { answer = A.Noted; node = leads (At 100) 1 1 0 true }

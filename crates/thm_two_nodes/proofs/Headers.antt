@@ -29,7 +29,7 @@ use Rattle.thm_two_nodes.specs.Images.{free, new_second, first_row, first, secon
 -- ---- what they are read as
 
 abbrev eight : List Replica
-eight = record { node = node 1; incarnation = 4 } ∷ record { node = node 2; incarnation = 4 } ∷ replicate 6 parts.noReplica
+eight = record { node = node 1; incarnation = 4 } ∷ record { node = node 2; incarnation = 4 } ∷ replicate 6 parts.no_replica
 
 -- what node 1 knows of node 2
 abbrev pub row : (acked : ℕ) → (aligned : Bool) → Peer
@@ -52,7 +52,7 @@ leading last p = record {
   own = true;
   replicas = eight;
   holders = 2;
-  peers = p ∷ replicate 31 rows.noPeer;
+  peers = p ∷ replicate 31 rows.no_peer;
   count = 1;
 }
 
@@ -65,7 +65,7 @@ following epoch last = record {
   own = false;
   replicas = eight;
   holders = 2;
-  peers = replicate 32 rows.noPeer;
+  peers = replicate 32 rows.no_peer;
   count = 0;
 }
 
@@ -79,7 +79,7 @@ with id e x = record {
   incarnation = 4;
   expiry = e;
   version = 3;
-  held = x ∷ replicate 7 image.noHeldRow;
+  held = x ∷ replicate 7 image.no_held_row;
   count = 1;
 }
 
@@ -94,40 +94,40 @@ unfolding new_second node_at image.no_node shape.rows_at
 read-new = refl
 
 pub read-shown : node_at shown ≡ leads Never 0 0 0 false
-unfolding opened first node_at shape.rows_at rows.heldRowAt
+unfolding opened first node_at shape.rows_at rows.held_row_at
 read-shown = refl
 
 pub read-leased : node_at leased ≡ leads (At 100) 0 0 0 false
-unfolding opened first node_at shape.rows_at rows.heldRowAt
+unfolding opened first node_at shape.rows_at rows.held_row_at
 read-leased = refl
 
 pub read-written : node_at written ≡ leads (At 100) 1 1 0 false
-unfolding opened first node_at shape.rows_at rows.heldRowAt
+unfolding opened first node_at shape.rows_at rows.held_row_at
 read-written = refl
 
 pub read-aligned : node_at aligned ≡ leads (At 100) 1 1 0 true
-unfolding opened first node_at shape.rows_at rows.heldRowAt
+unfolding opened first node_at shape.rows_at rows.held_row_at
 read-aligned = refl
 
 pub read-acked : node_at acked ≡ leads (At 100) 1 1 1 true
-unfolding opened first node_at shape.rows_at rows.heldRowAt
+unfolding opened first node_at shape.rows_at rows.held_row_at
 read-acked = refl
 
 pub read-second : node_at shown_second ≡ follows 0 0 0
-unfolding opened second node_at shape.rows_at rows.heldRowAt
+unfolding opened second node_at shape.rows_at rows.held_row_at
 read-second = refl
 
 pub read-adopted : node_at adopted ≡ follows 1 0 0
-unfolding opened second node_at shape.rows_at rows.heldRowAt
+unfolding opened second node_at shape.rows_at rows.held_row_at
 read-adopted = refl
 
 pub read-holding : node_at holding ≡ follows 1 1 1
-unfolding opened second node_at shape.rows_at rows.heldRowAt
+unfolding opened second node_at shape.rows_at rows.held_row_at
 read-holding = refl
 
 -- the new one lends a header; the others by what was written (Put)
 pub lent-new : header_lent new_second ≡ true
-unfolding opened new_second free header_lent image.codesListed image.shardCodes
+unfolding opened new_second free header_lent image.codes_listed image.shard_codes
 lent-new = refl
 
 -- ---- each holds bytes: its row does, and what is free is zeros

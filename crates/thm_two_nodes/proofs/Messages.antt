@@ -16,9 +16,9 @@ abbrev pub alignment : message.NewEpoch
 alignment = record { key = key; epoch = 1; end = 0; table = []; metric = Euclidean }
 
 unfoldable pub align_bytes : List ℕ
-align_bytes = message.encodeNewEpoch alignment
+align_bytes = message.encode_new_epoch alignment
 
-pub align_decoded : message.decodeNewEpoch align_bytes ≡ some alignment
+pub align_decoded : message.decode_new_epoch align_bytes ≡ some alignment
 unfolding opened align_bytes
 align_decoded = refl
 
@@ -29,9 +29,9 @@ abbrev pub lone : message.Replicated
 lone = record { key = key; epoch = 1; offset = 1; op = wire_upsert 41 (0x3f800000 ∷ []) }
 
 unfoldable pub entry_bytes : List ℕ
-entry_bytes = message.encodeReplicate lone
+entry_bytes = message.encode_replicate lone
 
-pub entry_decoded : message.decodeReplicate entry_bytes ≡ some lone
+pub entry_decoded : message.decode_replicate entry_bytes ≡ some lone
 unfolding opened entry_bytes
 entry_decoded = refl
 

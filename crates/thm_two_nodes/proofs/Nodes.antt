@@ -88,19 +88,19 @@ unfolding opened lent_store_at
 second_store epoch = kept_read
 
 pub lends_leased : lends_state leased stores key ≡ true
-unfolding opened lends_state held_row_readable read.allReadable every_below
+unfolding opened lends_state held_row_readable read.all_readable every_below
 lends_leased = rw (lent-leased, read-leased, stores_long, le-leb 1392640 1392640 (omega arith)) refl
 
 pub lends_second : lends_state shown_second stores key ≡ true
-unfolding opened lends_state held_row_readable read.allReadable every_below
+unfolding opened lends_state held_row_readable read.all_readable every_below
 lends_second = rw (lent-second, read-second, stores_long, le-leb 1392640 1392640 (omega arith)) refl
 
 pub lends_adopted : lends_state adopted stores key ≡ true
-unfolding opened lends_state held_row_readable read.allReadable every_below
+unfolding opened lends_state held_row_readable read.all_readable every_below
 lends_adopted = rw (lent-adopted, read-adopted, stores_long, le-leb 1392640 1392640 (omega arith)) refl
 
 pub empty-fits : lent_fits (store_in before 0 0) ≡ true
-unfolding opened lent_fits sized well_formed_store every_below same_rows view.logOf view.firsts table.rows_of table.zipped table.playRows table.playRowsFrom
+unfolding opened lent_fits sized well_formed_store every_below same_rows view.log_of view.firsts table.rows_of table.zipped table.play_rows table.play_rows_from
 empty-fits = refl
 
 leased-node : (s : Stores) → lent_node s (leads (At 100) 0 0 0 false) ≡ true
@@ -198,5 +198,5 @@ unfolding opened slots_fit
 second-slots epoch stored last = refl
 
 pub one-fits : lent_fits (store_in after 1 1) ≡ true
-unfolding opened fits lent_fits sized well_formed_store every_below same_rows view.logOf view.firsts view.entry_of view.op_of view.stretch table.rows_of table.zipped table.rowOp table.playRows table.playRowsFrom
+unfolding opened fits lent_fits sized well_formed_store every_below same_rows view.log_of view.firsts view.entry_of view.op_of view.stretch table.rows_of table.zipped table.row_op table.play_rows table.play_rows_from
 one-fits = refl

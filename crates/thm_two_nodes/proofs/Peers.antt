@@ -83,7 +83,7 @@ abbrev adopting : PeerAnswer
 adopting = record { answer = R.Adopted (record { 0 = 0 }); node = follows 1 0 0 }
 
 adopts : (s : Stores)
-    → record { answer = R.Adopted (record { 0 = 0 }); node = second 1 [] [] } ≡ answered_as word (calls.newEpochWith (lent_for s (follows 0 0 0) before) (second 0 [] []) align_bytes)
+    → record { answer = R.Adopted (record { 0 = 0 }); node = second 1 [] [] } ≡ answered_as word (calls.new_epoch_with (lent_for s (follows 0 0 0) before) (second 0 [] []) align_bytes)
 unfolding opened align_bytes
 adopts s = rw (second-passes s 0) refl
 
@@ -96,7 +96,7 @@ adopts_at = record {
   same = λ s t slot w c.
       ap (λ (x : held.Node). record { answer = R.Adopted (record { 0 = 0 }); node = x }) (second_empty t 1)
       ∙ adopts s
-      ∙ ap (λ (x : held.Node). answered_as word (calls.newEpochWith (lent_for s (follows 0 0 0) before) x align_bytes)) (sym (second_empty s 0));
+      ∙ ap (λ (x : held.Node). answered_as word (calls.new_epoch_with (lent_for s (follows 0 0 0) before) x align_bytes)) (sym (second_empty s 0));
   kept = λ e. not_both false e refl;
   slots_are = align_slots 0 0 0 0;
   slots = λ e. second-slots 1 0 0;
@@ -104,7 +104,7 @@ adopts_at = record {
 }
 
 empty-puts : StorePuts stores stores (kept 0 (following 0 0)) (kept 0 (following 1 0)) before
-unfolding opened store_put write.entriesPut write.rowsPut view.logOf view.firsts table.rows_of table.zipped
+unfolding opened store_put write.entries_put write.rows_put view.log_of view.firsts table.rows_of table.zipped
 empty-puts = record { image = refl; fits = record { log = tt; rows = tt } }
 
 adopt_puts : Puts shown_second adopted stores stores (follows 0 0 0) (follows 1 0 0) before 0
@@ -129,7 +129,7 @@ aligned-by b c d = record {
 }
 
 unfoldable pub adopt_reply : List ℕ
-adopt_reply = sets reply 0 (message.encodeReply (message.reply_adopted 0))
+adopt_reply = sets reply 0 (message.encode_reply (message.reply_adopted 0))
 
 adopt_ends : ended 0 (buffers adopted stores adopt_reply) ≡ ended_as (buffers shown_second stores reply) adopted stores adopting.answer
 unfolding adopt_reply
@@ -148,7 +148,7 @@ storing = record { answer = R.Stored (record { 0 = 1 }); node = follows 1 1 1 }
 
 stores_one : (s : Stores)
     → record { answer = R.Stored (record { 0 = 1 }); node = second 1 (entry ∷ []) vectors }
-    ≡ answered_as word (calls.replicateWith (lent_for s (follows 1 0 0) before) (second 1 [] []) entry_bytes)
+    ≡ answered_as word (calls.replicate_with (lent_for s (follows 1 0 0) before) (second 1 [] []) entry_bytes)
 unfolding opened entry_bytes fits
 stores_one s = rw (second-passes s 1) refl
 
@@ -163,7 +163,7 @@ stores_at = record {
       ap (λ (x : held.Node). record { answer = R.Stored (record { 0 = 1 }); node = x })
       (second-one t (log-lent after log-after rows-after t slot z c.after) (vectors-lent after log-after rows-after t slot z c.after))
       ∙ stores_one s
-      ∙ ap (λ (x : held.Node). answered_as word (calls.replicateWith (lent_for s (follows 1 0 0) before) x entry_bytes)) (sym (second_empty s 1));
+      ∙ ap (λ (x : held.Node). answered_as word (calls.replicate_with (lent_for s (follows 1 0 0) before) x entry_bytes)) (sym (second_empty s 1));
   kept = λ e. not_both false e refl;
   slots_are = refl;
   slots = λ e. second-slots 1 1 1;
@@ -187,7 +187,7 @@ store_facts = record {
 }
 
 unfoldable pub store_reply : List ℕ
-store_reply = sets reply 0 (message.encodeReply (message.reply_stored 1))
+store_reply = sets reply 0 (message.encode_reply (message.reply_stored 1))
 
 store-ends : ended 0 (buffers holding stored store_reply) ≡ ended_as (buffers adopted stores reply) holding stored storing.answer
 unfolding store_reply
@@ -214,7 +214,7 @@ keeping = record { answer = R.Adopted (record { 0 = 1 }); node = follows 1 1 1 }
 
 keeps : (s : Stores)
     → record { answer = R.Adopted (record { 0 = 1 }); node = second 1 (entry ∷ []) vectors }
-    ≡ answered_as word (calls.newEpochWith (lent_for s (follows 1 1 1) columns) (second 1 (entry ∷ []) vectors) align_bytes)
+    ≡ answered_as word (calls.new_epoch_with (lent_for s (follows 1 1 1) columns) (second 1 (entry ∷ []) vectors) align_bytes)
 unfolding opened align_bytes
 keeps s = rw (holding-passes s) refl
 
@@ -229,7 +229,7 @@ keeps-at = record {
       ap (λ (x : held.Node). record { answer = R.Adopted (record { 0 = 1 }); node = x })
       (second-one t (log-lent after log-after rows-after t slot z c.after) (vectors-lent after log-after rows-after t slot z c.after))
       ∙ keeps s
-      ∙ ap (λ (x : held.Node). answered_as word (calls.newEpochWith (lent_for s (follows 1 1 1) columns) x align_bytes))
+      ∙ ap (λ (x : held.Node). answered_as word (calls.new_epoch_with (lent_for s (follows 1 1 1) columns) x align_bytes))
       (sym (second-one s (log-lent columns columns-log columns-rows s slot z c.before) (vectors-lent columns columns-log columns-rows s slot z c.before)));
   kept = λ e. not_both false e refl;
   slots_are = align_slots 1 1 1 1;
@@ -239,10 +239,10 @@ keeps-at = record {
 
 -- the rows of the table are written over themselves
 unfoldable pub again : List ℕ
-again = write.rowsPut stored 0 (row ∷ [])
+again = write.rows_put stored 0 (row ∷ [])
 
 again-puts : StorePuts stored again (kept 1 (following 1 1)) (kept 1 (following 1 1)) after
-unfolding opened store_put write.entriesPut again
+unfolding opened store_put write.entries_put again
 again-puts = record { image = rw (log-after, rows-after) refl; fits = record { log = puts.fits.log; rows = puts.fits.rows } }
 
 keep-puts : Puts holding holding stored again (follows 1 1 1) (follows 1 1 1) after 0
@@ -258,7 +258,7 @@ keep_facts = record {
 }
 
 unfoldable pub keep_reply : List ℕ
-keep_reply = sets reply 0 (message.encodeReply (message.reply_adopted 1))
+keep_reply = sets reply 0 (message.encode_reply (message.reply_adopted 1))
 
 keep-ends : ended 0 (buffers holding again keep_reply) ≡ ended_as (buffers holding stored reply) holding again keeping.answer
 unfolding keep_reply
@@ -273,7 +273,7 @@ announces-late =
 -- ---- what node 2's images are then read as
 
 pub again-bytes : Bytes again
-unfolding again write.rowsPut
+unfolding again write.rows_put
 again-bytes = sets-bytes (bytes_of 8 1) (sets stored 157696 (bytes_of 8 41)) 165888 (sets-bytes (bytes_of 8 41) stored 157696 stored_bytes small.1) small.0
 
 writable : Writable (kept 1 (following 1 1)) (kept 1 (following 1 1)) after
@@ -293,7 +293,7 @@ rows-again =
     ∙ rows-after
 
 again-read : view_node (stores_in again) (follows 1 1 1) ≡ second 1 (entry ∷ []) vectors
-unfolding opened stores_in table.vectors_of table.vectorOf
+unfolding opened stores_in table.vectors_of table.vector_of
 again-read = rw (log-again, rows-again) refl
 
 pub state_late : state_at holding again ≡ second 1 (entry ∷ []) vectors

@@ -20,7 +20,7 @@ use Rattle.thm_two_nodes.proofs.Fits.{leads-fits, follows-fits}
 -- ---- node 1
 
 put-shown : shown ≡ header_put new (leads Never 0 0 0 false)
-unfolding opened new free first header_put rows.heldRowBytes tidy.tidyHeldRow tidy.tidyHeld canon.padded
+unfolding opened new free first header_put rows.held_row_bytes tidy.tidy_held_row tidy.tidy_held canon.padded
 put-shown = refl
 
 pub header-shown : HeaderWrites new shown (leads Never 0 0 0 false)
@@ -32,7 +32,7 @@ pub lent-shown : header_lent shown ≡ true
 lent-shown = (header-shown.becomes (lent_long new one.lent-new)).lent
 
 put-leased : leased ≡ header_put shown (leads (At 100) 0 0 0 false)
-unfolding opened first header_put rows.heldRowBytes tidy.tidyHeldRow tidy.tidyHeld canon.padded
+unfolding opened first header_put rows.held_row_bytes tidy.tidy_held_row tidy.tidy_held canon.padded
 put-leased = refl
 
 pub header-leased : HeaderWrites shown leased (leads (At 100) 0 0 0 false)
@@ -44,7 +44,7 @@ pub lent-leased : header_lent leased ≡ true
 lent-leased = (header-leased.becomes (lent_long shown lent-shown)).lent
 
 put_written : written ≡ header_put leased (leads (At 100) 1 1 0 false)
-unfolding opened first header_put rows.heldRowBytes tidy.tidyHeldRow tidy.tidyHeld canon.padded
+unfolding opened first header_put rows.held_row_bytes tidy.tidy_held_row tidy.tidy_held canon.padded
 put_written = refl
 
 pub header-written : HeaderWrites leased written (leads (At 100) 1 1 0 false)
@@ -56,7 +56,7 @@ pub lent_written : header_lent written ≡ true
 lent_written = (header-written.becomes (lent_long leased lent-leased)).lent
 
 put-aligned : aligned ≡ header_put written (leads (At 100) 1 1 0 true)
-unfolding opened first header_put rows.heldRowBytes tidy.tidyHeldRow tidy.tidyHeld canon.padded
+unfolding opened first header_put rows.held_row_bytes tidy.tidy_held_row tidy.tidy_held canon.padded
 put-aligned = refl
 
 pub header-aligned : HeaderWrites written aligned (leads (At 100) 1 1 0 true)
@@ -68,7 +68,7 @@ pub lent-aligned : header_lent aligned ≡ true
 lent-aligned = (header-aligned.becomes (lent_long written lent_written)).lent
 
 put-acked : acked ≡ header_put aligned (leads (At 100) 1 1 1 true)
-unfolding opened first header_put rows.heldRowBytes tidy.tidyHeldRow tidy.tidyHeld canon.padded
+unfolding opened first header_put rows.held_row_bytes tidy.tidy_held_row tidy.tidy_held canon.padded
 put-acked = refl
 
 pub header-acked : HeaderWrites aligned acked (leads (At 100) 1 1 1 true)
@@ -81,7 +81,7 @@ lent-acked = (header-acked.becomes (lent_long aligned lent-aligned)).lent
 
 -- a wait leaves it as it was
 put-waited : acked ≡ header_put acked (leads (At 100) 1 1 1 true)
-unfolding opened first header_put rows.heldRowBytes tidy.tidyHeldRow tidy.tidyHeld canon.padded
+unfolding opened first header_put rows.held_row_bytes tidy.tidy_held_row tidy.tidy_held canon.padded
 put-waited = refl
 
 pub header-waited : HeaderWrites acked acked (leads (At 100) 1 1 1 true)
@@ -92,7 +92,7 @@ header-waited =
 -- ---- node 2
 
 put_second : shown_second ≡ header_put new_second (follows 0 0 0)
-unfolding opened new_second second header_put rows.heldRowBytes tidy.tidyHeldRow tidy.tidyHeld canon.padded
+unfolding opened new_second second header_put rows.held_row_bytes tidy.tidy_held_row tidy.tidy_held canon.padded
 put_second = refl
 
 pub header-second : HeaderWrites new_second shown_second (follows 0 0 0)
@@ -104,7 +104,7 @@ pub lent-second : header_lent shown_second ≡ true
 lent-second = (header-second.becomes (lent_long new_second lent-new)).lent
 
 put-adopted : adopted ≡ header_put shown_second (follows 1 0 0)
-unfolding opened second header_put rows.heldRowBytes tidy.tidyHeldRow tidy.tidyHeld canon.padded
+unfolding opened second header_put rows.held_row_bytes tidy.tidy_held_row tidy.tidy_held canon.padded
 put-adopted = refl
 
 pub header-adopted : HeaderWrites shown_second adopted (follows 1 0 0)
@@ -116,7 +116,7 @@ pub lent-adopted : header_lent adopted ≡ true
 lent-adopted = (header-adopted.becomes (lent_long shown_second lent-second)).lent
 
 put-holding : holding ≡ header_put adopted (follows 1 1 1)
-unfolding opened second header_put rows.heldRowBytes tidy.tidyHeldRow tidy.tidyHeld canon.padded
+unfolding opened second header_put rows.held_row_bytes tidy.tidy_held_row tidy.tidy_held canon.padded
 put-holding = refl
 
 pub header-holding : HeaderWrites adopted holding (follows 1 1 1)
@@ -129,7 +129,7 @@ lent-holding = (header-holding.becomes (lent_long adopted lent-adopted)).lent
 
 -- the late alignment leaves it as it was
 put-kept : holding ≡ header_put holding (follows 1 1 1)
-unfolding opened second header_put rows.heldRowBytes tidy.tidyHeldRow tidy.tidyHeld canon.padded
+unfolding opened second header_put rows.held_row_bytes tidy.tidy_held_row tidy.tidy_held canon.padded
 put-kept = refl
 
 pub header-kept : HeaderWrites holding holding (follows 1 1 1)

@@ -67,13 +67,13 @@ leased : Cluster
 leased = with_header begun 1 images.leased
 
 written : Cluster
-written = host (with_node leased 1 images.written stored) (λ s. write_said s 1 (message.decodeWrite bytes) (offset_in 0 offset))
+written = host (with_node leased 1 images.written stored) (λ s. write_said s 1 (message.decode_write bytes) (offset_in 0 offset))
 
 asked : Cluster
 asked = host written (λ s. posted s 1 key 1 2 (sent_by 2) sent_align align_length)
 
 doubled : Cluster
-doubled = host asked (λ s. step.onRequestRepeats s 1 2 0)
+doubled = host asked (λ s. step.on_request_repeats s 1 2 0)
 
 met : Cluster
 met = host (with_node doubled 2 images.adopted stores) (λ s. answered (taken 0 s) 1 2 alignment 0 adopt_reply)
@@ -322,7 +322,7 @@ unfolding with_header with_node host seen begun leased written asked doubled met
 in_sync_lem = ap (λ (m : tables.Map). in_sync_at m key 2) map_read ∙ listed
 
 -- demand 3: so it stands in the log that node 2's bytes are read as
-pub stands : Stands wrote (claim.logOf ((seen last).nodes 2) key)
+pub stands : Stands wrote (claim.log_of ((seen last).nodes 2) key)
 stands = kept.stands wrote 0 (rw acknowledged (unfold nth in refl)) 2 in_sync_lem
 
 -- which is this log, with these vectors
@@ -330,17 +330,17 @@ pub node-read : (seen last).nodes 2 ≡ second 1 (entry ∷ []) vectors
 unfolding at with_header with_node host seen begun leased written asked doubled met counted sent held late known last
 node-read = state_late
 
-pub log-read : claim.logOf ((seen last).nodes 2) key ≡ entry ∷ []
+pub log-read : claim.log_of ((seen last).nodes 2) key ≡ entry ∷ []
 unfolding opened
-log-read = ap (λ (n : node.Node). claim.logOf n key) node-read
+log-read = ap (λ (n : node.Node). claim.log_of n key) node-read
 
 -- request 2.5: its entry is the Write that was accepted at epoch 1, and node 1 has no other under that epoch
-at_second : entry_at (claim.logOf ((seen last).nodes 2) key) 1 ≡ some entry
+at_second : entry_at (claim.log_of ((seen last).nodes 2) key) 1 ≡ some entry
 unfolding entry_at nth
 at_second = ap (λ (l : Log). entry_at l 1) log-read
 
 pub origin : Origin (seen last) key 1 entry
 origin = (theorem.written begun last events fresh calls-made).entries key 2 1 entry at_second
 
-pub same-entry : (x : Entry) → entry_at (claim.logOf ((seen last).nodes 1) key) 1 ≡ some x → x.epoch ≡ 1 → x ≡ entry
+pub same-entry : (x : Entry) → entry_at (claim.log_of ((seen last).nodes 1) key) 1 ≡ some x → x.epoch ≡ 1 → x ≡ entry
 same-entry x p e = (theorem.alike begun last events fresh calls-made).entries key 1 2 1 x entry p at_second e

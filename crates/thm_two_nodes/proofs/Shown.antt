@@ -50,8 +50,8 @@ use Rattle.thm_two_nodes.proofs.Put.{header-shown, header-second}
 
 -- ---- node 2 when it is new
 
-new-put : new_second ≡ image.headerPut unused (fresh_node 2 4)
-unfolding new_second free unused image.headerPut image.no_node
+new-put : new_second ≡ image.header_put unused (fresh_node 2 4)
+unfolding new_second free unused image.header_put image.no_node
 new-put = refl
 
 pub is-new : Freshens unused new_second 2 4 0
@@ -69,21 +69,21 @@ abbrev second : NodeShown
 second = record { answer = S.Shown; starts = replicate 8 starting; count = 0; node = follows 0 0 0 }
 
 -- computed of the plain map
-first_plain : (s : Stores) → view_shown s first ≡ shown_answered (calls.shownWith (lent_node s (fresh_node 1 4) and true) (view_node s (fresh_node 1 4)) 0 map)
+first_plain : (s : Stores) → view_shown s first ≡ shown_answered (calls.shown_with (lent_node s (fresh_node 1 4) and true) (view_node s (fresh_node 1 4)) 0 map)
 unfolding opened image.no_node lent_node slots_fit view_starts
 first_plain s = rw (nil (s.log 0 0) (s.long 0 0), s.bare 0) refl
 
-second_plain : (s : Stores) → view_shown s second ≡ shown_answered (calls.shownWith (lent_node s (fresh_node 2 4) and true) (view_node s (fresh_node 2 4)) 0 map)
+second_plain : (s : Stores) → view_shown s second ≡ shown_answered (calls.shown_with (lent_node s (fresh_node 2 4) and true) (view_node s (fresh_node 2 4)) 0 map)
 unfolding opened image.no_node lent_node slots_fit view_starts
 second_plain s = rw (nil (s.log 0 0) (s.long 0 0), s.bare 0) refl
 
 -- .. and carried over to the one that the bytes are read as
-same : (n : Node) (x : NodeShown) → ((s : Stores) → view_shown s x ≡ shown_answered (calls.shownWith (lent_node s n and true) (view_node s n) 0 map))
+same : (n : Node) (x : NodeShown) → ((s : Stores) → view_shown s x ≡ shown_answered (calls.shown_with (lent_node s n and true) (view_node s n) 0 map))
     → (s : Stores)
-    → view_shown s x ≡ shown_answered (calls.shownWith (lent_node s n and well_formed_lent (map_at map_bytes)) (view_node s n) 0 (view_map (map_at map_bytes)))
+    → view_shown s x ≡ shown_answered (calls.shown_with (lent_node s n and well_formed_lent (map_at map_bytes)) (view_node s n) 0 (view_map (map_at map_bytes)))
 same n x plain s =
-    subst (λ (m : tables.Map). view_shown s x ≡ shown_answered (calls.shownWith (lent_node s n and well_formed_lent (map_at map_bytes)) (view_node s n) 0 m)) (sym map_read)
-    (subst (λ (b : Bool). view_shown s x ≡ shown_answered (calls.shownWith (lent_node s n and b) (view_node s n) 0 map)) (sym tested) (plain s))
+    subst (λ (m : tables.Map). view_shown s x ≡ shown_answered (calls.shown_with (lent_node s n and well_formed_lent (map_at map_bytes)) (view_node s n) 0 m)) (sym map_read)
+    (subst (λ (b : Bool). view_shown s x ≡ shown_answered (calls.shown_with (lent_node s n and b) (view_node s n) 0 map)) (sym tested) (plain s))
 
 first-hears : HearsMap (fresh_node 1 4) (map_at map_bytes) 0 first
 unfolding opened image.no_node formed_node slots_fit slotted slots_after free_from

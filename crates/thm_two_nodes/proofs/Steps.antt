@@ -51,11 +51,11 @@ is-worker = refl
 -- ---- the steps
 
 -- a log of one entry
-align_at_lem : (l : Log) (v : Vectors) → length l ≡ 1 → stepped.Stepped step.Align ≡ step_answered (calls.stepWith (λ x. true) (first l v (row 0 false)) key 1 2)
+align_at_lem : (l : Log) (v : Vectors) → length l ≡ 1 → stepped.Stepped step.Align ≡ step_answered (calls.step_with (λ x. true) (first l v (row 0 false)) key 1 2)
 unfolding opened
 align_at_lem l v e = refl
 
-send_at : (l : Log) (v : Vectors) → length l ≡ 1 → stepped.Stepped (step.Send 1 1) ≡ step_answered (calls.stepWith (λ x. true) (first l v (row 0 true)) key 1 2)
+send_at : (l : Log) (v : Vectors) → length l ≡ 1 → stepped.Stepped (step.Send 1 1) ≡ step_answered (calls.step_with (λ x. true) (first l v (row 0 true)) key 1 2)
 unfolding opened
 send_at [] v e = absurd (omega arith)
 send_at (x ∷ []) v e = refl
@@ -70,29 +70,29 @@ sends s = rw (first-node true s) (send_at (s.log 0 1) (s.vectors 0 1 1) (s.long 
 -- ---- the requests
 
 align_asked : (s : Stores)
-    → calls.requestWith (lent_for s (leads (At 100) 1 1 0 false) columns) (first (entry ∷ []) vectors (row 0 false)) (length space) key 1 2 Euclidean
+    → calls.request_with (lent_for s (leads (At 100) 1 1 0 false) columns) (first (entry ∷ []) vectors (row 0 false)) (length space) key 1 2 Euclidean
     ≡ calls.written align_bytes
 unfolding opened align_bytes
 align_asked s = rw (written-passes s) refl
 
 entry-asked : (s : Stores)
-    → calls.requestWith (lent_for s (leads (At 100) 1 1 0 true) columns) (first (entry ∷ []) vectors (row 0 true)) (length space) key 1 2 Euclidean
+    → calls.request_with (lent_for s (leads (At 100) 1 1 0 true) columns) (first (entry ∷ []) vectors (row 0 true)) (length space) key 1 2 Euclidean
     ≡ calls.written entry_bytes
 unfolding opened entry_bytes fits to_bits of_bits
 entry-asked s = rw (aligned-passes s) refl
 
 module _ (isAligned : Bool) (sends : List ℕ)
     (asked : (s : Stores)
-    → calls.requestWith (lent_for s (leads (At 100) 1 1 0 isAligned) columns) (first (entry ∷ []) vectors (row 0 isAligned)) (length space) key 1 2 Euclidean
+    → calls.request_with (lent_for s (leads (At 100) 1 1 0 isAligned) columns) (first (entry ∷ []) vectors (row 0 isAligned)) (length space) key 1 2 Euclidean
     ≡ calls.written sends) where
   abbrev n : Node
   n = leads (At 100) 1 1 0 isAligned
 
   said : (s : Stores) → Lends s (slot_of n key) columns
-      → calls.requestWith (lent_for s n columns) (view_node s n) (length space) key 1 2 Euclidean ≡ calls.written sends
+      → calls.request_with (lent_for s n columns) (view_node s n) (length space) key 1 2 Euclidean ≡ calls.written sends
   said s c =
       let z = first_slot 1 1 isAligned in
-      ap (λ (v : held.Node). calls.requestWith (lent_for s n columns) v (length space) key 1 2 Euclidean)
+      ap (λ (v : held.Node). calls.request_with (lent_for s n columns) v (length space) key 1 2 Euclidean)
       (first_one s isAligned (log-lent columns columns-log columns-rows s _ z c) (vectors-lent columns columns-log columns-rows s _ z c)) ∙ asked s
 
   requests : Requests n columns key 1 2 Euclidean space (sets space 0 sends) (request.Written (length sends))

@@ -43,7 +43,7 @@ is = leads (At 100) 1 1 0 false
 
 taken : (s : Stores)
     → record { answer = accepted; node = first (entry ∷ []) vectors (row 0 false) }
-    ≡ answered_as write_word (calls.writeWith (lent_for s was before) (first [] [] (row 0 false)) 5 1 bytes)
+    ≡ answered_as write_word (calls.write_with (lent_for s was before) (first [] [] (row 0 false)) 5 1 bytes)
 unfolding opened bytes fits
 taken s = rw (first_passes s) refl
 
@@ -53,7 +53,7 @@ same = λ s t slot w c.
     ap (λ (x : held.Node). record { answer = accepted; node = x })
     (first_one t false (log-lent after log-after rows-after t slot z c.after) (vectors-lent after log-after rows-after t slot z c.after))
     ∙ taken s
-    ∙ ap (λ (x : held.Node). answered_as write_word (calls.writeWith (lent_for s was before) x 5 1 bytes)) (sym (first-empty s))
+    ∙ ap (λ (x : held.Node). answered_as write_word (calls.write_with (lent_for s was before) x 5 1 bytes)) (sym (first-empty s))
 
 abbrev pub wrote : WriteAnswer
 wrote = record { answer = accepted; node = is; refused = 0 }

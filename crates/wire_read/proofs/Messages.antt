@@ -310,13 +310,13 @@ module _ (s : List ℕ) where
   part-request true q n e = rw (ne_eqb _ _ e)
   part-request false q n e = refl
 
-  pub request-whole : (request_read_of s 0).next ≡ length s → (request_read_of s 0).message ≡ shown_or (request_shown 0) (request.decodeRequest s)
-  unfolding request_read_of request_at request.decodeRequest whole
-  request-whole e = whole-request (fits request_f s 0) (request.requestOf (value request_f s 0)) (next request_f s 0) e
+  pub request-whole : (request_read_of s 0).next ≡ length s → (request_read_of s 0).message ≡ shown_or (request_shown 0) (request.decode_request s)
+  unfolding request_read_of request_at request.decode_request whole
+  request-whole e = whole-request (fits request_f s 0) (request.request_of (value request_f s 0)) (next request_f s 0) e
 
-  pub request-part : ((request_read_of s 0).next ≡ length s → ⊥) → Undecodable ≡ shown_or (request_shown 0) (request.decodeRequest s)
-  unfolding request_read_of request_at request.decodeRequest whole
-  request-part e = part-request (fits request_f s 0) (request.requestOf (value request_f s 0)) (next request_f s 0) e
+  pub request-part : ((request_read_of s 0).next ≡ length s → ⊥) → Undecodable ≡ shown_or (request_shown 0) (request.decode_request s)
+  unfolding request_read_of request_at request.decode_request whole
+  request-part e = part-request (fits request_f s 0) (request.request_of (value request_f s 0)) (next request_f s 0) e
 
 -- ---- the code picks the kind
 
@@ -326,7 +326,7 @@ message-empty [] e = refl
 message-empty (x ∷ xs) e = absurd (omega arith)
 
 module _ (s : List ℕ) where
-  pub message_01 : get_or s 0 0 ≡ 0x01 → shown_or (request_shown 0) (request.decodeRequest s) ≡ message_of s
+  pub message_01 : get_or s 0 0 ≡ 0x01 → shown_or (request_shown 0) (request.decode_request s) ≡ message_of s
   unfolding message_of
   message_01 e = rw e
 

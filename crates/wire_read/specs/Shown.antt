@@ -70,20 +70,20 @@ abbrev pub change_shown : ℕ → Key → (node epoch : ℕ) → ChangePart
 change_shown at k n e = record { key = key_shown at k; node = record { 0 = n }; epoch = record { 0 = e } }
 
 -- the operands of 10, 12, 13, 14 and 15 to 18, as they are read at a position
-abbrev pub create_part_of : ℕ → Value request.createF → CreatePart
+abbrev pub create_part_of : ℕ → Value request.create_f → CreatePart
 create_part_of at v =
     create_shown at v.0
     (record { dimension = v.1.0; metric = metric_of v.1.1.0; shards = v.1.1.1.0; replication = v.1.1.1.1.0 })
     v.1.1.1.1.1
 
-abbrev pub register_of : ℕ → Value request.registerF → RegisterPart
+abbrev pub register_of : ℕ → Value request.register_f → RegisterPart
 register_of at v =
     record { node = record { 0 = v.0 }; address = part (at + 8 + 1) (length v.1.0); incarnation = v.1.1 }
 
 abbrev pub dead_of : Value (u64 ▸ u64) → DeadPart
 dead_of v = record { node = record { 0 = v.0 }; incarnation = v.1 }
 
-abbrev pub add_of : ℕ → Value request.addF → AddPart
+abbrev pub add_of : ℕ → Value request.add_f → AddPart
 add_of at v = record {
   key = key_shown at (key_of v.0);
   node = record { 0 = v.1.0 };
@@ -91,7 +91,7 @@ add_of at v = record {
   epoch = record { 0 = v.1.1.1 };
 }
 
-abbrev pub change_of : ℕ → Value request.ownershipF → ChangePart
+abbrev pub change_of : ℕ → Value request.ownership_f → ChangePart
 change_of at v = change_shown at (key_of v.0) v.1.0 v.1.1
 
 -- a command whose code stands at a position
@@ -177,13 +177,13 @@ module _ {A : Type 0} where
 unfoldable pub message_of : List ℕ → Message
 message_of s =
     let c = slice_index_or s 0 0 in
-    cond (c == 0x01) (shown_or (request_shown 0) (request.decodeRequest s))
-    (cond (c == 0x20) (shown_or replicate_shown (message.decodeReplicate s))
-    (cond (c == 0x21) (shown_or new_epoch_shown (message.decodeNewEpoch s))
-    (cond (c == 0x22) (shown_or copy_shown (message.decodeCopyShard s))
-    (cond (c == 0x23) (shown_or write_shown (message.decodeWrite s))
-    (cond (c == 0x24) (shown_or search_shown (message.decodeSearch s))
-    (shown_or reply_shown (message.decodeReply s)))))))
+    cond (c == 0x01) (shown_or (request_shown 0) (request.decode_request s))
+    (cond (c == 0x20) (shown_or replicate_shown (message.decode_replicate s))
+    (cond (c == 0x21) (shown_or new_epoch_shown (message.decode_new_epoch s))
+    (cond (c == 0x22) (shown_or copy_shown (message.decode_copy_shard s))
+    (cond (c == 0x23) (shown_or write_shown (message.decode_write s))
+    (cond (c == 0x24) (shown_or search_shown (message.decode_search s))
+    (shown_or reply_shown (message.decode_reply s)))))))
 
 abbrev pub read_or : ℕ → Option (request.Request × ℕ) → RequestRead
 read_or at none = record { message = Undecodable; next = at }
@@ -191,4 +191,4 @@ read_or at (some r) = record { message = request_shown at r.0; next = r.1 }
 
 -- 'Program applymap': the request that stands at a position, with the position after it
 unfoldable pub request_read_of : List ℕ → ℕ → RequestRead
-request_read_of s at = read_or at (request.requestAt s at)
+request_read_of s at = read_or at (request.request_at s at)

@@ -45,7 +45,7 @@ returns-3 c =
     let s = a.header.now in
     let u = sym c.before.before.before.before.before.before.before.late.ensures ∙ c.before.before.before.before.before.before.if1.false in
     let lent : header_lent s ≡ true = sym c.before.before.before.before.is-lent.ensures ∙ not_false _ c.before.before.before.if2.false in
-    asked-called u lent (granted_not s lent a.incarnation a.sent a.lease (first_fails (calls.lateTime a.sent) (calls.lateTime a.lease) u) (second_fails (calls.lateTime a.sent) (calls.lateTime a.lease) u) (sym c.before.is-formed.ensures ∙ not_true _ c.if3.true))
+    asked-called u lent (granted_not s lent a.incarnation a.sent a.lease (first_fails (calls.late_time a.sent) (calls.late_time a.lease) u) (second_fails (calls.late_time a.sent) (calls.late_time a.lease) u) (sym c.before.is-formed.ensures ∙ not_true _ c.if3.true))
 
 get8-requires : tie.Need-get8-requires
 get8-requires c κs = let l = lent_long c.before.before.before.before.before.before.before.before.before.before.args.header.now (sym c.before.before.before.before.before.is-lent.ensures ∙ not_false _ c.before.before.before.before.if2.false) in omega arith
@@ -66,8 +66,8 @@ grant-requires : tie.Need-grant-requires
 grant-requires c κs =
     let the-args = c.before.before.before.before.before.before.before.before.before.before.before.before.before.before.before.before.before.before.args in
     let u = sym c.before.before.before.before.before.before.before.before.before.before.before.before.before.before.before.before.late.ensures ∙ c.before.before.before.before.before.before.before.before.before.before.before.before.before.before.before.if1.false in
-    let a = ltb-false max_time the-args.sent (first_fails (calls.lateTime the-args.sent) (calls.lateTime the-args.lease) u) in
-    let b = ltb-false max_time the-args.lease (second_fails (calls.lateTime the-args.sent) (calls.lateTime the-args.lease) u) in (a, b)
+    let a = ltb-false max_time the-args.sent (first_fails (calls.late_time the-args.sent) (calls.late_time the-args.lease) u) in
+    let b = ltb-false max_time the-args.lease (second_fails (calls.late_time the-args.sent) (calls.late_time the-args.lease) u) in (a, b)
 
 expiry-code-requires : tie.Need-expiry-code-requires
 expiry-code-requires c κs = search rules
@@ -100,7 +100,7 @@ returns-4 c =
     let u = sym c.before.before.before.before.before.before.before.before.before.before.before.before.before.before.before.before.before.before.before.before.before.before.before.late.ensures ∙ c.before.before.before.before.before.before.before.before.before.before.before.before.before.before.before.before.before.before.before.before.before.before.if1.false in
     let lent : header_lent s ≡ true = sym c.before.before.before.before.before.before.before.before.before.before.before.before.before.before.before.before.before.before.before.before.is-lent.ensures ∙ not_false _ c.before.before.before.before.before.before.before.before.before.before.before.before.before.before.before.before.before.before.before.if2.false in
     let last : the-expiry-of.result ≡ expiry_of (number_at 4 s 36) (number_at 8 s 40) = the-expiry-of.ensures ∙ (rw (c.before.before.before.before.before.before.before.before.before.before.get4.ensures, c.before.before.before.before.before.before.before.before.get83.ensures)) in
-    asked-called u lent (granted_so s lent a.incarnation a.sent a.lease (first_fails (calls.lateTime a.sent) (calls.lateTime a.lease) u) (second_fails (calls.lateTime a.sent) (calls.lateTime a.lease) u) (sym c.before.before.before.before.before.before.before.before.before.before.before.before.before.before.before.before.before.is-formed.ensures ∙ not_false _ c.before.before.before.before.before.before.before.before.before.before.before.before.before.before.before.before.if3.false) the-get82.result the-expiry-of.result the-grant.result the-get82.ensures last the-grant.ensures the-expiry-code.result the-expiry-time.result the-expiry-code.ensures the-expiry-time.ensures _ c.before.before.put-end.ensures)
+    asked-called u lent (granted_so s lent a.incarnation a.sent a.lease (first_fails (calls.late_time a.sent) (calls.late_time a.lease) u) (second_fails (calls.late_time a.sent) (calls.late_time a.lease) u) (sym c.before.before.before.before.before.before.before.before.before.before.before.before.before.before.before.before.before.is-formed.ensures ∙ not_false _ c.before.before.before.before.before.before.before.before.before.before.before.before.before.before.before.before.if3.false) the-get82.result the-expiry-of.result the-grant.result the-get82.ensures last the-grant.ensures the-expiry-code.result the-expiry-time.result the-expiry-code.ensures the-expiry-time.ensures _ c.before.before.put-end.ensures)
 
 pub grant-spec : {M : Type 1} → statement M
 grant-spec = tie.close (tie.spec late-requires returns is-lent-requires same_length returns-2 is-formed-requires same-length-2 returns-3 get8-requires get8-requires-2 get4-requires get8-requires-3 expiry-of-requires grant-requires expiry-code-requires expiry-time-requires put-end-requires same-length-3 returns-4)

@@ -76,11 +76,11 @@ later_op vs (delete i) (delete j) h q =
 
 pub play-two : (l : Log) (a b : Entry) → play (l ++ (a ∷ b ∷ [])) ≡ apply_op (apply_op (play l) a.op) b.op
 unfolding play_from
-play-two l a b = played.play-join l (a ∷ b ∷ [])
+play-two l a b = played.play_join l (a ∷ b ∷ [])
 
 -- two stretches of log, one after the other, are played as they are played joined
 pub play_join : (l m : Log) → play (l ++ m) ≡ play_from (play l) m
-play_join l m = played.play-join l m
+play_join l m = played.play_join l m
 
 -- edits of different ids leave the same vectors in either order, after any log
 pub swap_edits : (l : Log) (a b : Entry) → (op_id a.op ≡ op_id b.op → ⊥) → play (l ++ (a ∷ b ∷ [])) ≡ play (l ++ (b ∷ a ∷ []))
@@ -89,7 +89,7 @@ swap_edits l a b n = play-two l a b ∙ swap_ops (play l) a.op b.op (play-rising
 -- of two edits of one id the later alone counts
 pub later_counts : (l : Log) (a b : Entry) → op_id a.op ≡ op_id b.op → play (l ++ (a ∷ b ∷ [])) ≡ play (l ++ (b ∷ []))
 later_counts l a b q =
-    play-two l a b ∙ later_op (play l) a.op b.op (play-rising l) q ∙ sym (played.play-snoc l b)
+    play-two l a b ∙ later_op (play l) a.op b.op (play-rising l) q ∙ sym (played.play_snoc l b)
 
 -- the same vectors give every search the same answer, so the laws above are of every search too
 pub search_alike : (metric : Metric) (query : List Float) (vs ws : Vectors) (k : ℕ) → vs ≡ ws

@@ -9,5 +9,5 @@ use Rattle.spec.proofs.Opened as model
 use Prim.Native.Nat.{ℕ}
 
 unfoldable pub opened : ℕ
-unfolding model.opened state.at state.setMap state.setNode state.setRequests state.setReplies state.setOffers state.setOutcomes state.setWrites source.sending source.sourceRequest source.alignHeld source.sourceNewEpoch step.removed step.replaced step.onCommand step.onShown step.onGrant step.recordWrite step.onWrite step.onSearch step.waited step.waitFor step.onWait step.sentOf step.posted step.onWork step.heard step.answered step.arrives step.onArrival step.onRequestLost step.doubled step.onRequestRepeats step.acked step.replies step.onReply step.onReplyLost step.replyDoubled step.onReplyRepeats step.offerBytes step.told step.offered step.onOffer step.onOfferLost step.givenUp step.onOfferTimeout step.learnt step.onOutcome step.onOutcomeLost step.late step.onOutcomeTimeout step.step step.run rules.isBytes rules.isU64 rules.freshSeq rules.allowed rules.allowedRun claim.inSyncAt claim.logOf claim.vectors_of
+unfolding model.opened state.at state.set_map state.set_node state.set_requests state.set_replies state.set_offers state.set_outcomes state.set_writes source.sending source.source_request source.align_held source.source_new_epoch step.removed step.replaced step.on_command step.on_shown step.on_grant step.record_write step.on_write step.on_search step.waited step.wait_for step.on_wait step.sent_of step.posted step.on_work step.heard step.answered step.arrives step.on_arrival step.on_request_lost step.doubled step.on_request_repeats step.acked step.replies step.on_reply step.on_reply_lost step.reply_doubled step.on_reply_repeats step.offer_bytes step.told step.offered step.on_offer step.on_offer_lost step.given_up step.on_offer_timeout step.learnt step.on_outcome step.on_outcome_lost step.late step.on_outcome_timeout step.step step.run rules.is_bytes rules.is_u64 rules.fresh_seq rules.allowed rules.allowed_run claim.in_sync_at claim.log_of claim.vectors_of
 opened = 0

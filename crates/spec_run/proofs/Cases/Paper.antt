@@ -27,25 +27,25 @@ abbrev pub history : History
 history = fresh_history start info
 
 pub promotion_of_paper : paper_run seqs start history promotion.events ≡ true
-unfolding opened start started created promotion.events paper.firstStarted fresh_history paper.proposing paper.made paper.remember paper.paper paper_run
+unfolding opened start started created promotion.events paper.first_started fresh_history paper.proposing paper.made paper.remember paper.paper paper_run
 promotion_of_paper = refl
 
 pub shrink_of_paper : paper_run seqs start history shrinkExpand.events ≡ true
-unfolding opened start started created shrinkExpand.events paper.firstStarted fresh_history paper.proposing paper.made paper.remember paper.paper paper_run
+unfolding opened start started created shrinkExpand.events paper.first_started fresh_history paper.proposing paper.made paper.remember paper.paper paper_run
 shrink_of_paper = refl
 
 pub loss_of_paper : paper_run seqs start history loss.events ≡ true
-unfolding opened start started created loss.events paper.firstStarted fresh_history paper.proposing paper.made paper.remember paper.paper paper_run
+unfolding opened start started created loss.events paper.first_started fresh_history paper.proposing paper.made paper.remember paper.paper paper_run
 loss_of_paper = refl
 
 pub lone_of_paper : paper_run seqs start history lone.events ≡ true
-unfolding opened start started created lone.before lone.events paper.firstStarted fresh_history paper.proposing paper.made paper.remember paper.paper paper_run
+unfolding opened start started created lone.before lone.events paper.first_started fresh_history paper.proposing paper.made paper.remember paper.paper paper_run
 lone_of_paper = refl
 
-pub overtaken_of_paper : paper_run seqs start history (late.eventsOf late.overtaken) ≡ true
-unfolding opened start started created late.overtaken late.rest late.late late.eventsOf paper.firstStarted fresh_history paper.proposing paper.made paper.remember paper.paper paper_run
+pub overtaken_of_paper : paper_run seqs start history (late.events_of late.overtaken) ≡ true
+unfolding opened start started created late.overtaken late.rest late.late late.events_of paper.first_started fresh_history paper.proposing paper.made paper.remember paper.paper paper_run
 overtaken_of_paper = refl
 
-pub repeated_of_paper : paper_run seqs start history (late.eventsOf late.repeated) ≡ true
-unfolding opened start started created late.repeated late.rest late.late late.eventsOf paper.firstStarted fresh_history paper.proposing paper.made paper.remember paper.paper paper_run
+pub repeated_of_paper : paper_run seqs start history (late.events_of late.repeated) ≡ true
+unfolding opened start started created late.repeated late.rest late.late late.events_of paper.first_started fresh_history paper.proposing paper.made paper.remember paper.paper paper_run
 repeated_of_paper = refl

@@ -220,7 +220,7 @@ grants = λ s. rw (s.long 0 0) refl
 abbrev pub aligned : NodeAcked
 aligned = record { answer = A.Noted; node = first (At 100) 1 0 true }
 
-pub aligns : HearsReply (first (At 100) 1 0 false) run.key 1 2 sent.Align (message.encodeReply (message.reply_adopted 0)) aligned
+pub aligns : HearsReply (first (At 100) 1 0 false) run.key 1 2 sent.Align (message.encode_reply (message.reply_adopted 0)) aligned
 unfolding opened fill lent_node slots_fit counts_fit
 aligns = λ s. rw (s.long 0 1) refl
 
@@ -228,7 +228,7 @@ aligns = λ s. rw (s.long 0 1) refl
 abbrev pub acked : NodeAcked
 acked = record { answer = A.Noted; node = first (At 100) 1 1 true }
 
-pub acks : HearsReply (first (At 100) 1 0 true) run.key 1 2 sent.Replicate (message.encodeReply (message.reply_stored 1)) acked
+pub acks : HearsReply (first (At 100) 1 0 true) run.key 1 2 sent.Replicate (message.encode_reply (message.reply_stored 1)) acked
 unfolding opened fill lent_node slots_fit counts_fit
 acks = λ s. rw (s.long 0 1) refl
 
@@ -336,7 +336,7 @@ write-slot slot w = w (record { key = run.key; epoch = 1; op = wire_delete 41 })
 
 write-taken : (s : Stores)
     → record { answer = accepted; node = read_first (run.entry 1 1 41 ∷ []) (row 0 false) }
-    ≡ answered_as write_word (calls.writeWith (lent_for s (first (At 100) 0 0 false) before) (read_first [] (row 0 false)) 5 1 bytes)
+    ≡ answered_as write_word (calls.write_with (lent_for s (first (At 100) 0 0 false) before) (read_first [] (row 0 false)) 5 1 bytes)
 unfolding opened
 write-taken s = rw (first_empty_lent s) refl
 
@@ -345,7 +345,7 @@ write_same = λ s t slot w c.
     let z = write-slot slot w in
     ap (λ (x : held.Node). record { answer = accepted; node = x }) (first_one t false (log-one t slot z c.after) (vectors-one t slot z c.after))
     ∙ write-taken s
-    ∙ ap (λ (x : held.Node). answered_as write_word (calls.writeWith (lent_for s (first (At 100) 0 0 false) before) x 5 1 bytes)) (sym (first-empty s))
+    ∙ ap (λ (x : held.Node). answered_as write_word (calls.write_with (lent_for s (first (At 100) 0 0 false) before) x 5 1 bytes)) (sym (first-empty s))
 
 abbrev pub wrote : WriteAnswer
 wrote = record { answer = accepted; node = first (At 100) 1 0 false; refused = 0 }
@@ -380,48 +380,48 @@ abbrev pub new_epoch : message.NewEpoch
 new_epoch = record { key = run.key; epoch = 1; end = 0; table = []; metric = Euclidean }
 
 abbrev pub align_bytes : List ℕ
-align_bytes = message.encodeNewEpoch new_epoch
+align_bytes = message.encode_new_epoch new_epoch
 
 abbrev pub lone : message.Replicated
 lone = record { key = run.key; epoch = 1; offset = 1; op = wire_delete 41 }
 
 abbrev pub entry_bytes : List ℕ
-entry_bytes = message.encodeReplicate lone
+entry_bytes = message.encode_replicate lone
 
 pub first_slot : (aligned : Bool) → slot_of (first (At 100) 1 0 aligned) run.key ≡ 0
 unfolding opened fill slot_of
 first_slot aligned = refl
 
-pub align_asked : (s : Stores) → calls.requestWith (lent_for s (first (At 100) 1 0 false) after) (read_first (run.entry 1 1 41 ∷ []) (row 0 false)) (length output) run.key 1 2 Euclidean
+pub align_asked : (s : Stores) → calls.request_with (lent_for s (first (At 100) 1 0 false) after) (read_first (run.entry 1 1 41 ∷ []) (row 0 false)) (length output) run.key 1 2 Euclidean
     ≡ calls.written align_bytes
 unfolding opened fill
 align_asked s = rw (first_one_lent s false) refl
 
-pub entry-asked : (s : Stores) → calls.requestWith (lent_for s (first (At 100) 1 0 true) after) (read_first (run.entry 1 1 41 ∷ []) (row 0 true)) (length output) run.key 1 2 Euclidean
+pub entry-asked : (s : Stores) → calls.request_with (lent_for s (first (At 100) 1 0 true) after) (read_first (run.entry 1 1 41 ∷ []) (row 0 true)) (length output) run.key 1 2 Euclidean
     ≡ calls.written entry_bytes
 unfolding opened fill
 entry-asked s = rw (first_one_lent s true) refl
 
 module _ (aligned : Bool) (sends : List ℕ)
-    (asked : (s : Stores) → calls.requestWith (lent_for s (first (At 100) 1 0 aligned) after) (read_first (run.entry 1 1 41 ∷ []) (row 0 aligned)) (length output) run.key 1 2 Euclidean
+    (asked : (s : Stores) → calls.request_with (lent_for s (first (At 100) 1 0 aligned) after) (read_first (run.entry 1 1 41 ∷ []) (row 0 aligned)) (length output) run.key 1 2 Euclidean
     ≡ calls.written sends) where
   pub requests : Requests (first (At 100) 1 0 aligned) after run.key 1 2 Euclidean output (left_of (calls.written sends) output) (Q.Written (length sends))
   requests = record { answer = λ s c. ap answer_of (sym (said s c)); bytes = λ s c. ap (λ (a : calls.RequestAnswer). left_of a output) (sym (said s c)) }
     where
       said : (s : Stores) → Lends s (slot_of (first (At 100) 1 0 aligned) run.key) after
-          → calls.requestWith (lent_for s (first (At 100) 1 0 aligned) after) (view_node s (first (At 100) 1 0 aligned)) (length output) run.key 1 2 Euclidean ≡ calls.written sends
+          → calls.request_with (lent_for s (first (At 100) 1 0 aligned) after) (view_node s (first (At 100) 1 0 aligned)) (length output) run.key 1 2 Euclidean ≡ calls.written sends
       said s c =
           let z = first_slot aligned in
-          ap (λ (x : held.Node). calls.requestWith (lent_for s (first (At 100) 1 0 aligned) after) x (length output) run.key 1 2 Euclidean)
+          ap (λ (x : held.Node). calls.request_with (lent_for s (first (At 100) 1 0 aligned) after) x (length output) run.key 1 2 Euclidean)
           (first_one s aligned (log-one s _ z c) (vectors-one s _ z c)) ∙ asked s
 
 -- ---- what node 2 hears
 
-pub align_decoded : message.decodeNewEpoch align_bytes ≡ some new_epoch
+pub align_decoded : message.decode_new_epoch align_bytes ≡ some new_epoch
 unfolding opened
 align_decoded = refl
 
-pub entry_decoded : message.decodeReplicate entry_bytes ≡ some lone
+pub entry_decoded : message.decode_replicate entry_bytes ≡ some lone
 unfolding opened
 entry_decoded = refl
 
@@ -443,7 +443,7 @@ abbrev pub adopted : PeerAnswer
 adopted = record { answer = R.Adopted (record { 0 = 0 }); node = second 1 0 }
 
 adopts_empty : (s : Stores)
-    → record { answer = R.Adopted (record { 0 = 0 }); node = read-second 1 [] } ≡ answered_as word (calls.newEpochWith (lent_for s (second 0 0) before) (read-second 0 []) align_bytes)
+    → record { answer = R.Adopted (record { 0 = 0 }); node = read-second 1 [] } ≡ answered_as word (calls.new_epoch_with (lent_for s (second 0 0) before) (read-second 0 []) align_bytes)
 unfolding opened
 adopts_empty s = rw (second_empty_lent s 0) refl
 
@@ -456,7 +456,7 @@ announces-first = record {
   same = λ s t slot w c.
       ap (λ (x : held.Node). record { answer = R.Adopted (record { 0 = 0 }); node = x }) (second_empty t 1)
       ∙ adopts_empty s
-      ∙ ap (λ (x : held.Node). answered_as word (calls.newEpochWith (lent_for s (second 0 0) before) x align_bytes)) (sym (second_empty s 0));
+      ∙ ap (λ (x : held.Node). answered_as word (calls.new_epoch_with (lent_for s (second 0 0) before) x align_bytes)) (sym (second_empty s 0));
   kept = λ e. not_both false e refl;
   slots_are = align_slots 0 0 0;
   slots = λ e. second-slots 1 0;
@@ -469,7 +469,7 @@ stored = record { answer = R.Stored (record { 0 = 1 }); node = second 1 1 }
 
 stores_one : (s : Stores)
     → record { answer = R.Stored (record { 0 = 1 }); node = read-second 1 (run.entry 1 1 41 ∷ []) }
-    ≡ answered_as word (calls.replicateWith (lent_for s (second 1 0) before) (read-second 1 []) entry_bytes)
+    ≡ answered_as word (calls.replicate_with (lent_for s (second 1 0) before) (read-second 1 []) entry_bytes)
 unfolding opened
 stores_one s = rw (second_empty_lent s 1) refl
 
@@ -483,7 +483,7 @@ replicates = record {
       let z = w lone entry_decoded ∙ second-slot 1 0 in
       ap (λ (x : held.Node). record { answer = R.Stored (record { 0 = 1 }); node = x }) (second-one t (log-one t slot z c.after) (vectors-one t slot z c.after))
       ∙ stores_one s
-      ∙ ap (λ (x : held.Node). answered_as word (calls.replicateWith (lent_for s (second 1 0) before) x entry_bytes)) (sym (second_empty s 1));
+      ∙ ap (λ (x : held.Node). answered_as word (calls.replicate_with (lent_for s (second 1 0) before) x entry_bytes)) (sym (second_empty s 1));
   kept = λ e. not_both false e refl;
   slots_are = refl;
   slots = λ e. second-slots 1 1;
@@ -496,7 +496,7 @@ kept = record { answer = R.Adopted (record { 0 = 1 }); node = second 1 1 }
 
 keeps-one : (s : Stores)
     → record { answer = R.Adopted (record { 0 = 1 }); node = read-second 1 (run.entry 1 1 41 ∷ []) }
-    ≡ answered_as word (calls.newEpochWith (lent_for s (second 1 1) after) (read-second 1 (run.entry 1 1 41 ∷ [])) align_bytes)
+    ≡ answered_as word (calls.new_epoch_with (lent_for s (second 1 1) after) (read-second 1 (run.entry 1 1 41 ∷ [])) align_bytes)
 unfolding opened
 keeps-one s = rw (second_one_lent s) refl
 
@@ -510,7 +510,7 @@ announces-late = record {
       let z = align_slot 1 1 slot w in
       ap (λ (x : held.Node). record { answer = R.Adopted (record { 0 = 1 }); node = x }) (second-one t (log-one t slot z c.after) (vectors-one t slot z c.after))
       ∙ keeps-one s
-      ∙ ap (λ (x : held.Node). answered_as word (calls.newEpochWith (lent_for s (second 1 1) after) x align_bytes))
+      ∙ ap (λ (x : held.Node). answered_as word (calls.new_epoch_with (lent_for s (second 1 1) after) x align_bytes))
       (sym (second-one s (log-one s slot z c.before) (vectors-one s slot z c.before)));
   kept = λ e. not_both false e refl;
   slots_are = align_slots 1 1 1;

@@ -131,7 +131,7 @@ abbrev entry : Request
 entry = record { sent = ack.sent_replicate; key = run.key; epoch = 1; bytes = entry_bytes }
 
 abbrev reply : ack.Sent → message.Reply → Reply
-reply s r = record { node = 1; peer = 2; sent = s; key = run.key; epoch = 1; bytes = message.encodeReply r }
+reply s r = record { node = 1; peer = 2; sent = s; key = run.key; epoch = 1; bytes = message.encode_reply r }
 
 -- ---- the engines after each call
 
@@ -139,13 +139,13 @@ leased : Engine
 leased = with_node begun 1 (first (At 100) 0 0 false)
 
 written : Engine
-written = host (with_store leased 1 (first (At 100) 1 0 false) 0 after) (λ s. write_said s 1 (message.decodeWrite bytes) accepted)
+written = host (with_store leased 1 (first (At 100) 1 0 false) 0 after) (λ s. write_said s 1 (message.decode_write bytes) accepted)
 
 asked : Engine
 asked = host written (λ s. request_said s 1 run.key 1 2 (Q.Written (length align_bytes)) (left_of (calls.written align_bytes) output))
 
 doubled : Engine
-doubled = host asked (λ s. step.onRequestRepeats s 1 2 0)
+doubled = host asked (λ s. step.on_request_repeats s 1 2 0)
 
 abbrev taken : (place : ℕ) → State → State
 taken i s = set_requests s 1 2 (removed (s.requests 1 2) i)
@@ -325,17 +325,17 @@ unfolding opened fill with_node with_store host seen begun leased written asked 
 in_sync_lem = refl
 
 -- demand 3: the acknowledged write stands at node 2
-pub stands : Stands (run.wrote 1 1 1 41) (claim.logOf ((seen last).nodes 2) run.key)
+pub stands : Stands (run.wrote 1 1 1 41) (claim.log_of ((seen last).nodes 2) run.key)
 stands =
     (theorem.durable begun last events fresh calls-made).stands (run.wrote 1 1 1 41) 0 (rw acknowledged (unfold nth in refl)) 2 in_sync_lem
 
 -- request 2.5: the entries of the two nodes are one, and it is the Write that was accepted at epoch 1
-at-node : entry_at (claim.logOf ((seen last).nodes 2) run.key) 1 ≡ some (run.entry 1 1 41)
+at-node : entry_at (claim.log_of ((seen last).nodes 2) run.key) 1 ≡ some (run.entry 1 1 41)
 unfolding opened fill with_node with_store host seen begun nodes leased written asked doubled met counted sent held late known last stores_of log_of firsts entry_of op_of
 at-node = refl
 
 pub origin : Origin (seen last) run.key 1 (run.entry 1 1 41)
 origin = (theorem.written begun last events fresh calls-made).entries run.key 2 1 (run.entry 1 1 41) at-node
 
-pub same-entry : (x : Entry) → entry_at (claim.logOf ((seen last).nodes 1) run.key) 1 ≡ some x → x.epoch ≡ 1 → x ≡ run.entry 1 1 41
+pub same-entry : (x : Entry) → entry_at (claim.log_of ((seen last).nodes 1) run.key) 1 ≡ some x → x.epoch ≡ 1 → x ≡ run.entry 1 1 41
 same-entry x p e = (theorem.alike begun last events fresh calls-made).entries run.key 1 2 1 x (run.entry 1 1 41) p at-node e

@@ -47,7 +47,7 @@ leased : Cluster
 leased = with_header first 1 images.leased
 
 written : Cluster
-written = host (with_node leased 1 images.written stored) (λ s. write_said s 1 (message.decodeWrite bytes) (offset_in 0 offset))
+written = host (with_node leased 1 images.written stored) (λ s. write_said s 1 (message.decode_write bytes) (offset_in 0 offset))
 
 pub last : Cluster
 last = host (with_header written 1 images.written) (λ s. wait_said s wrote 0 [] room)
@@ -125,7 +125,7 @@ unfolding with_header with_node host seen first leased written last
 in_sync_lem = ap (λ (m : tables.Map). in_sync_at m key 1) map_read ∙ listed
 
 -- so it stands in the log that node 1's bytes are read as
-pub stands : Stands wrote (claim.logOf ((seen last).nodes 1) key)
+pub stands : Stands wrote (claim.log_of ((seen last).nodes 1) key)
 stands = kept.stands wrote 0 (rw acknowledged (unfold nth in refl)) 1 in_sync_lem
 
 -- which is this log, with these vectors
@@ -133,17 +133,17 @@ pub node-read : (seen last).nodes 1 ≡ read (entry ∷ []) vectors
 unfolding at with_header with_node host seen first leased written last
 node-read = state_written
 
-pub log-read : claim.logOf ((seen last).nodes 1) key ≡ entry ∷ []
+pub log-read : claim.log_of ((seen last).nodes 1) key ≡ entry ∷ []
 unfolding opened
-log-read = ap (λ (n : held.Node). claim.logOf n key) node-read
+log-read = ap (λ (n : held.Node). claim.log_of n key) node-read
 
 -- request 2.5: its entry is the Write that was accepted at epoch 1, and nothing else stands there under that epoch
-at_first : entry_at (claim.logOf ((seen last).nodes 1) key) 1 ≡ some entry
+at_first : entry_at (claim.log_of ((seen last).nodes 1) key) 1 ≡ some entry
 unfolding entry_at nth
 at_first = ap (λ (l : Log). entry_at l 1) log-read
 
 pub origin : Origin (seen last) key 1 entry
 origin = (theorem.written first last events first-fresh calls-made).entries key 1 1 entry at_first
 
-pub same-entry : (x : Entry) → entry_at (claim.logOf ((seen last).nodes 1) key) 1 ≡ some x → x.epoch ≡ 1 → x ≡ entry
+pub same-entry : (x : Entry) → entry_at (claim.log_of ((seen last).nodes 1) key) 1 ≡ some x → x.epoch ≡ 1 → x ≡ entry
 same-entry x p e = (theorem.alike first last events first-fresh calls-made).entries key 1 1 1 x entry p at_first e

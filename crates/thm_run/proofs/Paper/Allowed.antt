@@ -117,19 +117,19 @@ module _ (q : Seqs) (rising : Rising q) (w : World) (s : real.State) (a : proto.
         (unused q rising s.map.sessions s.offers c v.counted v.known i (s.clients o.node) o z.turn z.found z.at z.own)
 
     abbrev r : layout.Request
-    r = record { index = index; client = s.clients o.node; seq = seq; command = step.commandOf o o.what }
+    r = record { index = index; client = s.clients o.node; seq = seq; command = step.command_of o o.what }
 
-    applied : apply_bytes s.map (step.offerBytes s o index seq) ≡ apply_call s.map r
+    applied : apply_bytes s.map (step.offer_bytes s o index seq) ≡ apply_call s.map r
     unfolding apply_bytes apply_decoded
     applied = ap (apply_decoded s.map) (commands.decoded w s a k i o z.found index seq z.small z.less fresh)
 
     offer_kept : Inv q (step.offered s i index seq (some o)).map.sessions (step.offered s i index seq (some o)).offers (taken s c i index (some o))
     unfolding step.offered set_offers set_map
     offer_kept =
-        let y = apply_bytes s.map (step.offerBytes s o index seq) in
+        let y = apply_bytes s.map (step.offer_bytes s o index seq) in
         let t = set_offers (set_map s y.map) (removed s.offers i) in
-        let e = events.told_same t o (step.isApplied y.answer) in
-        quiet q t (step.told t o (step.isApplied y.answer)) (taken s c i index (some o)) e.map e.offers
+        let e = events.told_same t o (step.is_applied y.answer) in
+        quiet q t (step.told t o (step.is_applied y.answer)) (taken s c i index (some o)) e.map e.offers
         (record {
           counted = taken-counted q s.map r s.offers c v.counted v.known i o z.turn z.found z.at z.own z.same;
           known =
@@ -174,8 +174,8 @@ module _ (q : Seqs) (rising : Rising q) (w : World) (s : real.State) (a : proto.
   stays : (s' : real.State) → Same s s' → Inv q s'.map.sessions s'.offers c
   stays s' e = quiet q s s' c e.map e.offers v
 
-  command_kept : (bytes : List ℕ) → promotes c (decode_request bytes) ≡ true → After (step.onCommand s bytes) (remember s h (command bytes))
-  unfolding step.onCommand set_map apply_bytes apply_decoded remember
+  command_kept : (bytes : List ℕ) → promotes c (decode_request bytes) ≡ true → After (step.on_command s bytes) (remember s h (command bytes))
+  unfolding step.on_command set_map apply_bytes apply_decoded remember
   command_kept bytes t = go (decode_request bytes) t
     where
       go : (o : Option layout.Request) → promotes c o ≡ true
@@ -186,11 +186,11 @@ module _ (q : Seqs) (rising : Rising q) (w : World) (s : real.State) (a : proto.
         known = promoted-known q s.map r c v.known;
       }
 
-  late-kept : (i : ℕ) → Inv q (step.onOfferTimeout s i).map.sessions (step.onOfferTimeout s i).offers c
-  unfolding step.onOfferTimeout step.givenUp set_offers
+  late-kept : (i : ℕ) → Inv q (step.on_offer_timeout s i).map.sessions (step.on_offer_timeout s i).offers c
+  unfolding step.on_offer_timeout step.given_up set_offers
   late-kept i = go (nth s.offers i) refl
     where
-      go : (o : Option Offer) → nth s.offers i ≡ o → Inv q (step.givenUp s i o).map.sessions (step.givenUp s i o).offers c
+      go : (o : Option Offer) → nth s.offers i ≡ o → Inv q (step.given_up s i o).map.sessions (step.given_up s i o).offers c
       go none e = v
       go (some o) e = record {
         counted = renamed q s.offers c i o (unawaited o) e refl v.counted;
@@ -198,33 +198,33 @@ module _ (q : Seqs) (rising : Rising q) (w : World) (s : real.State) (a : proto.
       }
 
   kept : (e : Event) → paper q s h e ≡ true → After (step.step s e) (remember s h e)
-  unfolding paper step.step step.onOffer remember made
+  unfolding paper step.step step.on_offer remember made
   kept (command bytes) t = command_kept bytes (and_right (is_bytes bytes) (promotes c (decode_request bytes)) t)
   kept (map_shown n under) t = stays _ (events.shown-same s n under)
   kept (lease_granted n i sent lease) t = stays _ (events.grant-same s n i sent lease)
   kept (client_writes n now least bytes) t = stays _ (events.write_same s n now least bytes)
-  kept (client_searches n now room bytes) t = stays _ (events.search-same s n now room bytes)
+  kept (client_searches n now room bytes) t = stays _ (events.search_same s n now room bytes)
   kept (node_waits i now timeout) t =
-      let e = events.wait-more s i now timeout in makes q s (step.onWait s i now timeout) c e.new e.map e.offers v
-  kept (worker_steps n key epoch peer metric room) t = stays _ (events.work-same s n key epoch peer metric room)
+      let e = events.wait_more s i now timeout in makes q s (step.on_wait s i now timeout) c e.new e.map e.offers v
+  kept (worker_steps n key epoch peer metric room) t = stays _ (events.work_same s n key epoch peer metric room)
   kept (request_arrives from to i) t = stays _ (events.arrival-same s from to i)
-  kept (request_lost from to i) t = stays _ (events.request-lost-same s from to i)
-  kept (request_repeats from to i) t = stays _ (events.request-again-same s from to i)
-  kept (reply_arrives i) t = let e = events.reply-more s i in makes q s (step.onReply s i) c e.new e.map e.offers v
-  kept (reply_lost i) t = stays _ (events.reply-lost-same s i)
-  kept (reply_repeats i) t = stays _ (events.reply-again-same s i)
+  kept (request_lost from to i) t = stays _ (events.request_lost_same s from to i)
+  kept (request_repeats from to i) t = stays _ (events.request_again_same s from to i)
+  kept (reply_arrives i) t = let e = events.reply-more s i in makes q s (step.on_reply s i) c e.new e.map e.offers v
+  kept (reply_lost i) t = stays _ (events.reply_lost_same s i)
+  kept (reply_repeats i) t = stays _ (events.reply_again_same s i)
   kept (offer_arrives i index seq) t =
       let z = arriving i index seq t in
       subst (λ (o : Option Offer). Inv q (step.offered s i index seq o).map.sessions (step.offered s i index seq o).offers (taken s c i index o))
       (sym z.found) (offer_kept i index seq z)
-  kept (offer_lost i) t = unfold step.onOfferLost in unfold set_offers in record {
+  kept (offer_lost i) t = unfold step.on_offer_lost in unfold set_offers in record {
     counted = turns.gone-counted q s.offers c i v.counted;
     known = turns.gone-known q s.map.sessions c i v.known;
   }
   kept (offer_times_out i) t = late-kept i
   kept (outcome_arrives i) t = stays _ (events.outcome-same s i)
-  kept (outcome_lost i) t = stays _ (events.outcome-lost-same s i)
-  kept (outcome_times_out i) t = stays _ (events.outcome-late-same s i)
+  kept (outcome_lost i) t = stays _ (events.outcome_lost_same s i)
+  kept (outcome_times_out i) t = stays _ (events.outcome_late_same s i)
 
 -- ---- the run
 
@@ -245,7 +245,7 @@ module _ (q : Seqs) (rising : Rising q) (s : real.State) (f : Fresh s) where
   first : Inv q s.map.sessions s.offers (fresh_history s f.shard).commanded
   unfolding fresh_history
   first = record {
-    counted = record { beside = ap (map turns.offerNode) f.offers; below = tt; apart = tt };
+    counted = record { beside = ap (map turns.offer_node) f.offers; below = tt; apart = tt };
     known = λ client x e. inl (ap before e);
   }
 

@@ -185,7 +185,7 @@ module _ (s : State) (m : Mail) (b : Beside s m) where
       subst (λ (l : List Request). Beside s (posting m n k epoch peer l)) (sym (none-new (s.requests n peer))) b
   work n k epoch peer (written bytes) =
       let l = s.requests n peer in
-      let x : Request = record { sent = step.sentOf bytes; key = k; epoch = epoch; bytes = bytes } in
+      let x : Request = record { sent = step.sent_of bytes; key = k; epoch = epoch; bytes = bytes } in
       let f = at s.requests n (at (s.requests n) peer (l ++ (x ∷ []))) in
       let here : f n peer ≡ l ++ (x ∷ []) =
       ap (λ (g : ℕ → List Request). g peer) (at_same s.requests n (at (s.requests n) peer (l ++ (x ∷ [])))) ∙ at_same (s.requests n) peer (l ++ (x ∷ [])) in
@@ -209,7 +209,7 @@ module _ (s : State) (m : Mail) (b : Beside s m) where
       (sym (ap (drop (length s.replies)) e ∙ none-new s.replies))
       (record { requests = f; replies = b.replies ∙ ap (λ (l : List Reply). length l) (sym e) })
   arrival from to i j q t (replied r) e f =
-      let x : Reply = record { node = from; peer = to; sent = q.sent; key = q.key; epoch = q.epoch; bytes = message.encodeReply r } in
+      let x : Reply = record { node = from; peer = to; sent = q.sent; key = q.key; epoch = q.epoch; bytes = message.encode_reply r } in
       subst (λ (l : List Reply). Beside (set_replies t (t.replies ++ (x ∷ []))) (replying (without_request m from to i) (some j) l))
       (sym (ap (λ (l : List Reply). drop (length s.replies) (l ++ (x ∷ []))) e ∙ drop-append_seam s.replies (x ∷ [])))
       (record {

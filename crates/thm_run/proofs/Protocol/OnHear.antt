@@ -103,7 +103,7 @@ module _ (h : History) (s : State) (k : Clauses h s) (a p e end : ℕ) (t : List
       (replied (set_node s p (adopting (s.nodes p) e end t)) a p e (adopts (length (cut_to (s.nodes p).replica e end t).log)))
   unfolding replied set_node adopting cut_to
   adopted_later =
-      add_reply_lem (adopt.new h s k a p e end t ok later) (set_node s p (adopting (s.nodes p) e end t)) (adopt.adopts-ok h s k a p e end t ok later)
+      add_reply_lem (adopt.new h s k a p e end t ok later) (set_node s p (adopting (s.nodes p) e end t)) (adopt.adopts_ok h s k a p e end t ok later)
       (record { node = a; peer = p; epoch = e; answer = adopts (length (keep end t (s.nodes p).replica.log)) }) (
         omega (arith, upd2-same h.held e p (length (keep end t (s.nodes p).replica.log))),
         omega (arith, (ap (λ (z : Node). z.replica.epoch) (upd_same s.nodes p (adopting (s.nodes p) e end t)))),

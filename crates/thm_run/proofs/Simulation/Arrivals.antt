@@ -54,8 +54,8 @@ use Rattle.thm_run.proofs.Simulation.Commands.{u64_of}
 
 -- the primary's test, on either side
 leads-from : (w : World) (top n : ℕ) (r : role.Role) (s : ShardReplica) (ps : List Peer) (b : Role) → RoleSim w top n r s ps b → (e : ℕ)
-    → leads_from r e ≡ proto.leadsFrom b e
-unfolding proto.leadsFrom
+    → leads_from r e ≡ proto.leads_from b e
+unfolding proto.leads_from
 leads-from w top n r s ps proto.backup k e = ap (λ (v : role.Role). leads_from v e) k
 leads-from w top n r s ps (lead l) k e = ap (λ (v : role.Role). leads_from v e) k.role
 
@@ -74,17 +74,17 @@ module _ (w : World) (s : real.State) (a : State) (k : Sim w s a) (from to : ℕ
   rest = step.removed (s.requests from to) i
 
   abbrev next : held.Node → real.State
-  next y = real.setRequests (real.setNode s to y) from to rest
+  next y = real.set_requests (real.set_node s to y) from to rest
 
   -- what the call answered, and the node it left
   abbrev Goal : Result BackupAnswer held.Node → Type 0
   Goal v = Gently w (step.answered (next v.after) from to q v.answer) a
 
   -- the others stay under way
-  leaves : (y : held.Node) (a₁ : State) → Sim w (real.setNode s to y) a₁ → Sim w (next y) a₁
-  unfolding real.setNode
+  leaves : (y : held.Node) (a₁ : State) → Sim w (real.set_node s to y) a₁ → Sim w (next y) a₁
+  unfolding real.set_node
   leaves y a₁ k₁ =
-      on_requests w (real.setNode s to y) a₁ k₁ from to rest
+      on_requests w (real.set_node s to y) a₁ k₁ from to rest
       (all-removed (RequestAt w to (a₁.requests from to)) (s.requests from to) i (k₁.requests from to))
 
   -- a refusal is a loss
@@ -93,14 +93,14 @@ module _ (w : World) (s : real.State) (a : State) (k : Sim w s a) (from to : ℕ
   refused why y h = rests w _ a (leaves y a (on-node w s a k to y h))
 
   -- an answer goes back, from the protocol's state a₁
-  answers : (y : held.Node) (a₁ : State) → Sim w (real.setNode s to y) a₁ → (v : Reply) (c : Answer) → GoodReply v
+  answers : (y : held.Node) (a₁ : State) → Sim w (real.set_node s to y) a₁ → (v : Reply) (c : Answer) → GoodReply v
       → ((e : ℕ) → deed_of q.sent v e ≡ deed_for w c e) → proto.step a (arrival from to place) ≡ proto.replied a₁ from to q.epoch c
       → Goal (gives (replied v) y)
-  unfolding step.answered proto.replied proto.addReply real.setReplies real.setRequests real.setNode
+  unfolding step.answered proto.replied proto.add_reply real.set_replies real.set_requests real.set_node
   answers y a₁ k₁ v c good deed moved =
       let s₁ : real.State = next y in
       let r : proto.Reply = record { node = from; peer = to; epoch = q.epoch; answer = c } in
-      let a₂ : State = proto.addReply a₁ r in
+      let a₂ : State = proto.add_reply a₁ r in
       let k₂ = on-answer w s₁ a₁ (leaves y a₁ k₁) r in
       let q₂ : real.Reply = record { node = from; peer = to; sent = q.sent; key = q.key; epoch = q.epoch; bytes = encode_reply v } in
       let new : ReplySim w (a₁.replies ++ (r ∷ [])) q₂ = record {
@@ -116,9 +116,9 @@ module _ (w : World) (s : real.State) (a : State) (k : Sim w s a) (from to : ℕ
       gently w _ a (arrival from to place) tt (subst (Sim w _) (sym moved) k₃)
 
   -- the protocol hears its request
-  hears : (r : Request) → nth (a.requests from to) place ≡ some r → proto.step a (arrival from to place) ≡ proto.hearOne a from to b r
-  unfolding proto.step proto.onHear proto.hearAs
-  hears r e = ap (proto.hearAs a from to) e
+  hears : (r : Request) → nth (a.requests from to) place ≡ some r → proto.step a (arrival from to place) ≡ proto.hear_one a from to b r
+  unfolding proto.step proto.on_hear proto.hear_as
+  hears r e = ap (proto.hear_as a from to) e
 
   -- ---- NewEpoch
 
@@ -129,13 +129,13 @@ module _ (w : World) (s : real.State) (a : State) (k : Sim w s a) (from to : ℕ
 
       -- what the protocol makes of it, by the same tests
       abbrev adopts_as : ShardReplica → (d : ℕ) → State
-      adopts_as r d = proto.replied (proto.setNode a to (record { replica = r; role = proto.backup })) from to d (adopts (last_offset r))
+      adopts_as r d = proto.replied (proto.set_node a to (record { replica = r; role = proto.backup })) from to d (adopts (last_offset r))
 
       heard : proto.step a (arrival from to place)
           ≡ cond (leads_from h.role e) (proto.replied a from to q.epoch (stale_align h.replica.epoch))
           (cond (ltb e h.replica.epoch) (proto.replied a from to q.epoch (stale_align h.replica.epoch))
           (cond (eqb e h.replica.epoch) (adopts_as h.replica q.epoch) (adopts_as (cut_to h.replica e end t) q.epoch)))
-      unfolding proto.hearOne proto.adopting proto.withRole
+      unfolding proto.hear_one proto.adopting proto.with_role
       heard =
           let F : ShardReplica → Bool → ℕ → State = λ r f d.
           cond f (proto.replied a from to d (stale_align r.epoch))
@@ -170,7 +170,7 @@ module _ (w : World) (s : real.State) (a : State) (k : Sim w s a) (from to : ℕ
             fits = fits;
             role = refl;
           } in
-          answers _ (proto.setNode a to b₁)
+          answers _ (proto.set_node a to b₁)
           (on-nodes w s a k to _ b₁ (node-with w top to x b (k.nodes to) b₁ (demoted (with_replica h r)) c.holder f hs₁))
           (reply_adopted (last_offset r)) (adopts (last_offset r)) (let m = (held_facts w top to x b (k.nodes to) h is).log in omega arith)
           (told (reply_adopted (last_offset r)) (adopts (last_offset r)) (λ z. refl)) moved
@@ -220,14 +220,14 @@ module _ (w : World) (s : real.State) (a : State) (k : Sim w s a) (from to : ℕ
 
       -- what the protocol makes of it
       sent : proto.step a (arrival from to place)
-          ≡ cond (eqb e own) (proto.replied (proto.setNode a to (record { replica = more; role = b.role })) from to q.epoch
+          ≡ cond (eqb e own) (proto.replied (proto.set_node a to (record { replica = more; role = b.role })) from to q.epoch
           (stores (last_offset more)))
           (proto.replied a from to q.epoch (stale_send own))
-      unfolding proto.hearOne proto.storing
+      unfolding proto.hear_one proto.storing
       sent =
           let F : ShardReplica → ℕ → State = λ r d.
           cond (eqb e r.epoch)
-          (proto.replied (proto.setNode a to (record { replica = store_all r e es; role = b.role })) from to d (stores (last_offset (store_all r e es))))
+          (proto.replied (proto.set_node a to (record { replica = store_all r e es; role = b.role })) from to d (stores (last_offset (store_all r e es))))
           (proto.replied a from to d (stale_send r.epoch)) in
           hears (send e es) head ∙ ap (λ (r : ShardReplica). F r e) (sym hs.replica) ∙ ap (λ (d : ℕ). F h.replica d) (sym c.epoch)
 
@@ -253,7 +253,7 @@ module _ (w : World) (s : real.State) (a : State) (k : Sim w s a) (from to : ℕ
           → AfterSend (gives (replied v) (with_replica h more))
       stored u v good deed f =
           let b₁ : Node = record { replica = more; role = b.role } in
-          answers _ (proto.setNode a to b₁)
+          answers _ (proto.set_node a to b₁)
           (on-nodes w s a k to _ b₁ (node-with w top to x b (k.nodes to) b₁ (with_replica h more) c.holder f held_more))
           v (stores (last_offset more)) good deed (sent ∙ rw u)
 
@@ -361,8 +361,8 @@ module _ (w : World) (s : real.State) (a : State) (k : Sim w s a) (from to : ℕ
         go (inl d) = copied d
         go (inr d) = alone d
 
-pub on-arrival : (w : World) (s : real.State) (a : State) → Sim w s a → (from to i : ℕ) → Gently w (step.onArrival s from to i) a
-unfolding step.onArrival step.arrives
+pub on-arrival : (w : World) (s : real.State) (a : State) → Sim w s a → (from to i : ℕ) → Gently w (step.on_arrival s from to i) a
+unfolding step.on_arrival step.arrives
 on-arrival w s a k from to i = go (nth (s.requests from to) i) refl
   where
     hear : (q : real.Request) (place : ℕ) (r : Request) → nth (a.requests from to) place ≡ some r → RequestSim w to q r

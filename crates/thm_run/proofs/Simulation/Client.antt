@@ -58,8 +58,8 @@ id-fits (wire_delete id) g = g
 module _ (w : World) (s : real.State) (a : State) (k : Sim w s a) where
   -- ---- lease grants, Search
 
-  pub granted : (n i sent lease : ℕ) → Gently w (step.onGrant s n i sent lease) a
-  unfolding step.onGrant call_grant grant_with grant
+  pub granted : (n i sent lease : ℕ) → Gently w (step.on_grant s n i sent lease) a
+  unfolding step.on_grant call_grant grant_with grant
   granted n i sent lease =
       let x = s.nodes n in
       let h = k.nodes n in
@@ -72,8 +72,8 @@ module _ (w : World) (s : real.State) (a : State) (k : Sim w s a) where
       (λ r f. record { id = h.id; formed = f; here = h.here; gone = h.gone; listed = h.listed }) (λ r f. h)))
       (grant_with_kept x h.formed (well_formed_header x) i sent lease)))
 
-  pub searched : (n now room : ℕ) (bytes : List ℕ) → Gently w (step.onSearch s n now room bytes) a
-  unfolding step.onSearch call_search
+  pub searched : (n now room : ℕ) (bytes : List ℕ) → Gently w (step.on_search s n now room bytes) a
+  unfolding step.on_search call_search
   searched n now room bytes =
       rests w _ a
       (on-node w s a k n (call_search (s.nodes n) now room bytes).after
@@ -82,8 +82,8 @@ module _ (w : World) (s : real.State) (a : State) (k : Sim w s a) where
 
   -- ---- Write
 
-  not_recorded : (t : real.State) (n : ℕ) (o : Option message.Write) (r : Refusal) → step.recordWrite t n o (write_refused r) ≡ t
-  unfolding step.recordWrite
+  not_recorded : (t : real.State) (n : ℕ) (o : Option message.Write) (r : Refusal) → step.record_write t n o (write_refused r) ≡ t
+  unfolding step.record_write
   not_recorded t n none r = refl
   not_recorded t n (some m) r = refl
 
@@ -96,12 +96,12 @@ module _ (w : World) (s : real.State) (a : State) (k : Sim w s a) where
 
     -- the state after a write that was answered so
     abbrev After : Option message.Write → Result WriteAnswer held.Node → Type 0
-    After o r = FormedNode r.after → Reaches w (step.recordWrite (real.setNode s n r.after) n o r.answer) a
+    After o r = FormedNode r.after → Reaches w (step.record_write (real.set_node s n r.after) n o r.answer) a
 
     refused : (o : Option message.Write) (r : Refusal) (y : held.Node) → NodeSim w a.map.epoch n y b
         → After o (record { answer = write_refused r; after = y })
     refused o r y h f =
-        subst (λ (t : real.State). Reaches w t a) (sym (not_recorded (real.setNode s n y) n o r)) (stays w _ a (on-node w s a k n y h))
+        subst (λ (t : real.State). Reaches w t a) (sym (not_recorded (real.set_node s n y) n o r)) (stays w _ a (on-node w s a k n y h))
 
     module _ (m : message.Write) (good : GoodWrite m) (y : holds n w.holders ≡ true) (h : Held) (e : x.held ≡ h ∷ [])
         (hs : HeldSim w a.map.epoch n h b) (same : m.key ≡ w.key) where
@@ -122,8 +122,8 @@ module _ (w : World) (s : real.State) (a : State) (k : Sim w s a) where
 
       taken : leads_at h.role m.epoch ≡ true
           → FormedNode (with_held x (with_replica h grown ∷ []))
-          → Reaches w (step.recordWrite (real.setNode s n (with_held x (with_replica h grown ∷ []))) n (some m) (accepted (last_offset grown))) a
-      unfolding step.recordWrite proto.step proto.onWrite proto.writeAs append
+          → Reaches w (step.record_write (real.set_node s n (with_held x (with_replica h grown ∷ []))) n (some m) (accepted (last_offset grown))) a
+      unfolding step.record_write proto.step proto.on_write proto.write_as append
       taken t f =
           let c = leads w a.map.epoch n h.role h.replica h.peers b.role hs.role m.epoch t in
           let l = c.0 in
@@ -136,25 +136,25 @@ module _ (w : World) (s : real.State) (a : State) (k : Sim w s a) where
             role = lead-push w a.map.epoch n h.role h.peers h.replica new l c.2;
           } in
           let v : real.Write = record { node = n; key = m.key; epoch = m.epoch; offset = last_offset grown; op = op } in
-          let sim = on-accepted w (real.setNode s n (with_held x (with_replica h grown ∷ []))) (proto.setNode a n b')
+          let sim = on-accepted w (real.set_node s n (with_held x (with_replica h grown ∷ []))) (proto.set_node a n b')
           (on-nodes w s a k n _ b' (node-with w a.map.epoch n x b (k.nodes n) b' (with_replica h grown) y f held')) v same in
           let offset : suc (length b.replica.log) ≡ last_offset grown =
           ap (λ (r : ShardReplica). suc (length r.log)) (sym hs.replica) ∙ sym longer in
-          let moved : proto.step a (writing n op) ≡ proto.addAccepted (proto.setNode a n b') (accepted_of w v) =
-          ap (proto.writeAs a n op) c.1
-          ∙ ap (λ (d : ℕ). proto.addAccepted (proto.setNode a n b')
+          let moved : proto.step a (writing n op) ≡ proto.add_accepted (proto.set_node a n b') (accepted_of w v) =
+          ap (proto.write_as a n op) c.1
+          ∙ ap (λ (d : ℕ). proto.add_accepted (proto.set_node a n b')
           (record { node = n; epoch = d; offset = suc (length b.replica.log); op = op })) c.3
-          ∙ ap (λ (o : ℕ). proto.addAccepted (proto.setNode a n b') (record { node = n; epoch = m.epoch; offset = o; op = op })) offset in
+          ∙ ap (λ (o : ℕ). proto.add_accepted (proto.set_node a n b') (record { node = n; epoch = m.epoch; offset = o; op = op })) offset in
           moves w _ a (writing n op) (subst (Sim w _) (sym moved) sim)
 
       at_held : (now least : ℕ)
           → FormedNode (with_held x ((write_held (leased x now) least m.epoch op h).after ∷ []))
-          → Reaches w (step.recordWrite (real.setNode s n (with_held x ((write_held (leased x now) least m.epoch op h).after ∷ []))) n (some m)
+          → Reaches w (step.record_write (real.set_node s n (with_held x ((write_held (leased x now) least m.epoch op h).after ∷ []))) n (some m)
           (write_held (leased x now) least m.epoch op h).answer) a
       unfolding write_held
       at_held now least =
           let P : Result WriteAnswer Held → Type 0 = λ v. FormedNode (with_held x (v.after ∷ []))
-          → Reaches w (step.recordWrite (real.setNode s n (with_held x (v.after ∷ []))) n (some m) v.answer) a in
+          → Reaches w (step.record_write (real.set_node s n (with_held x (v.after ∷ []))) n (some m) v.answer) a in
           let still : (r : Refusal) → P (record { answer = write_refused r; after = h }) =
           λ r f. refused (some m) r (with_held x (h ∷ [])) (node-with w a.map.epoch n x b (k.nodes n) b h y f hs) f in
           by-test P (not (leads_at h.role m.epoch)) (λ p. still _)
@@ -164,7 +164,7 @@ module _ (w : World) (s : real.State) (a : State) (k : Sim w s a) where
 
     decoded : (now least : ℕ) (o : Option message.Write) → ((m : message.Write) → o ≡ some m → GoodWrite m)
         → After o (write_of (well_formed_lent x) x now least o)
-    unfolding client.onWrite
+    unfolding client.on_write
     decoded now least none good = refused none _ x (k.nodes n)
     decoded now least (some m) good =
         let P : Result WriteAnswer held.Node → Type 0 = After (some m) in
@@ -175,8 +175,8 @@ module _ (w : World) (s : real.State) (a : State) (k : Sim w s a) where
         (refused (some m) unknown_shard x (k.nodes n))
         (λ y h e hs same. at_held m (good m refl) y h e hs same now least)))
 
-    pub wrote : (now least : ℕ) (bytes : List ℕ) → is_bytes bytes ≡ true → Reaches w (step.onWrite s n now least bytes) a
-    unfolding step.onWrite call_write write_with
+    pub wrote : (now least : ℕ) (bytes : List ℕ) → is_bytes bytes ≡ true → Reaches w (step.on_write s n now least bytes) a
+    unfolding step.on_write call_write write_with
     wrote now least bytes t =
         let good = are_bytes bytes t in
         by-test (After (decode_write bytes)) (late_time now) (λ p. refused (decode_write bytes) _ x (k.nodes n))

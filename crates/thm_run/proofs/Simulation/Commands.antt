@@ -82,8 +82,8 @@ module _ (w : World) (top top' : ℕ) (more : top ≤ top') where
   offer_later o k = record { key = k.key; peer = k.peer; upto = (let u = k.upto in omega arith) }
 
 on-promoted : (w : World) (s : real.State) (a : State) → Sim w s a → (m : tables.Map) (b : Map) → a.map.epoch ≤ b.epoch → MapSim w m b
-    → Sim w (real.setMap s m) (proto.setMap a b)
-unfolding real.setMap proto.setMap
+    → Sim w (real.set_map s m) (proto.set_map a b)
+unfolding real.set_map proto.set_map
 on-promoted w s a k m b more h = record {
   table = h;
   nodes = λ n. node_later w a.map.epoch b.epoch more n (s.nodes n) (a.nodes n) (k.nodes n);
@@ -119,30 +119,30 @@ module _ (w : World) (s : real.State) (a : State) (k : Sim w s a) where
   m = s.map
 
   module _ (r : Request) (key : Key) (n e : ℕ) (is : r.command ≡ promote_primary key n e) where
-    decided : (v : Answer) → decide m r.command ≡ v → well_formed_map (settle m r v).map ≡ true → Reaches w (real.setMap s (settle m r v).map) a
-    unfolding proto.step proto.onPromote proto.promoted
+    decided : (v : Answer) → decide m r.command ≡ v → well_formed_map (settle m r v).map ≡ true → Reaches w (real.set_map s (settle m r v).map) a
+    unfolding proto.step proto.on_promote proto.promoted
     decided (tables.outcome applied) q f =
         let h = promote_sim w m a.map k.table r key n e is q f in
-        let moved : proto.step a (promotion n) ≡ proto.setMap a (promoted a.map n) =
-        ap (λ (z : Bool). cond z (proto.setMap a (promoted a.map n)) a) h.0 in
+        let moved : proto.step a (promotion n) ≡ proto.set_map a (promoted a.map n) =
+        ap (λ (z : Bool). cond z (proto.set_map a (promoted a.map n)) a) h.0 in
         moves w _ a (promotion n) (subst (Sim w _) (sym moved) (on-promoted w s a k _ (promoted a.map n) (omega arith) h.1))
     decided (tables.outcome (rejected why)) q f =
         stays w _ a (same_map w s a k _ (not_applied_lem w m a.map k.table r (tables.outcome (rejected why)) refl f))
     decided (refused why) q f = stays w _ a (same_map w s a k _ (not_applied_lem w m a.map k.table r (refused why) refl f))
 
-    promotes-map : well_formed_map (apply m r).map ≡ true → Reaches w (real.setMap s (apply m r).map) a
+    promotes-map : well_formed_map (apply m r).map ≡ true → Reaches w (real.set_map s (apply m r).map) a
     promotes-map =
-        ways (λ v. well_formed_map v.map ≡ true → Reaches w (real.setMap s v.map) a) m r
+        ways (λ v. well_formed_map v.map ≡ true → Reaches w (real.set_map s v.map) a) m r
         (λ v t f. stays w _ a (same_map w s a k m k.table))
         (λ x t q f. stays w _ a (same_map w s a k m k.table))
         decided
 
-  pub on_command_lem : (bytes : List ℕ) → is_bytes bytes and promotes (decode_request bytes) ≡ true → Reaches w (step.onCommand s bytes) a
-  unfolding step.onCommand apply_bytes apply_decoded command_fits
+  pub on_command_lem : (bytes : List ℕ) → is_bytes bytes and promotes (decode_request bytes) ≡ true → Reaches w (step.on_command s bytes) a
+  unfolding step.on_command apply_bytes apply_decoded command_fits
   on_command_lem bytes t =
       go (decode_request bytes) refl (and_right (is_bytes bytes) (promotes (decode_request bytes)) t)
     where
-      go : (o : Option Request) → decode_request bytes ≡ o → promotes o ≡ true → Reaches w (real.setMap s (apply_decoded m o).map) a
+      go : (o : Option Request) → decode_request bytes ≡ o → promotes o ≡ true → Reaches w (real.set_map s (apply_decoded m o).map) a
       go none e p = stays w _ a (same_map w s a k m k.table)
       go (some r) e p =
           let c = is-promote r.command p in
@@ -150,7 +150,7 @@ module _ (w : World) (s : real.State) (a : State) (k : Sim w s a) where
           let good' : GoodCommand (promote_primary c.0 c.1 c.2) = subst GoodCommand c.3 good in
           let fits : command_fits r.command ≡ true =
           ap command_fits c.3 ∙ le-leb (length c.0.collection) max_name good'.0.0.0 in
-          subst (λ (v : Applied). Reaches w (real.setMap s v.map) a)
+          subst (λ (v : Applied). Reaches w (real.set_map s v.map) a)
           (sym (applies m r k.table.formed))
           (promotes-map r c.0 c.1 c.2 c.3 (stays_well_formed m r k.table.formed fits))
 
@@ -173,82 +173,82 @@ module _ (w : World) (s : real.State) (a : State) (k : Sim w s a) where
     left = all-removed (OfferFits w a.map.epoch) s.offers i k.offered
 
     -- not applied: the proposal is gone
-    pub turned_down_lem : (m' : tables.Map) → MapSim w m' a.map → Gently w (step.told (real.setOffers (real.setMap s m') rest) o false) a
-    unfolding proto.step proto.onForget proto.setProposals
+    pub turned_down_lem : (m' : tables.Map) → MapSim w m' a.map → Gently w (step.told (real.set_offers (real.set_map s m') rest) o false) a
+    unfolding proto.step proto.on_forget proto.set_proposals
     turned_down_lem m' h =
         gently w _ a (rejection i) tt
-        (told_not w (real.setOffers (real.setMap s m') rest) (proto.setProposals a (remove_at a.proposals i))
-        (on_offers w (real.setMap s m') a (same_map w s a k m' h) rest (remove_at a.proposals i) gone left) o fits)
+        (told_not w (real.set_offers (real.set_map s m') rest) (proto.set_proposals a (remove_at a.proposals i))
+        (on_offers w (real.set_map s m') a (same_map w s a k m' h) rest (remove_at a.proposals i) gone left) o fits)
 
     -- applied: the map of the protocol after, and the proposal gone
     module _ (m' : tables.Map) (l : List ℕ) (h : MapSim w m' (resized a.map l)) where
       abbrev s' : real.State
-      s' = real.setOffers (real.setMap s m') rest
+      s' = real.set_offers (real.set_map s m') rest
 
       abbrev a' : State
-      a' = proto.setProposals (proto.setMap a (resized a.map l)) (remove_at a.proposals i)
+      a' = proto.set_proposals (proto.set_map a (resized a.map l)) (remove_at a.proposals i)
 
       settled : Sim w s' a'
-      unfolding proto.setMap resized
+      unfolding proto.set_map resized
       settled =
-          on_offers w (real.setMap s m') (proto.setMap a (resized a.map l)) (on-map w s a k m' (resized a.map l) refl h)
+          on_offers w (real.set_map s m') (proto.set_map a (resized a.map l)) (on-map w s a k m' (resized a.map l) refl h)
           rest (remove_at a.proposals i) gone left
 
     shrunk : (m' : tables.Map) → o.what ≡ ack.shrink → a.map.epoch ≡ o.epoch → (o.peer ≡ a.map.primary → ⊥)
         → member o.peer a.map.insync ≡ true → MapSim w m' (resized a.map (sets.without o.peer a.map.insync))
-        → Gently w (step.told (real.setOffers (real.setMap s m') rest) o true) a
-    unfolding step.told proto.step proto.onTake proto.takeAs proto.mayTake proto.shrunk proto.setProposals proto.setMap proto.setOutcomes real.setOffers real.setMap ◌and◌
+        → Gently w (step.told (real.set_offers (real.set_map s m') rest) o true) a
+    unfolding step.told proto.step proto.on_take proto.take_as proto.may_take proto.shrunk proto.set_proposals proto.set_map proto.set_outcomes real.set_offers real.set_map ◌and◌
     shrunk m' what same other inside h =
         let l : List ℕ = sets.without o.peer a.map.insync in
-        let new : List proto.Outcome = a.outcomes ++ (outcome_of w (step.outcomeOf o true) ∷ []) in
-        let may : proto.mayTake a.map (proposal_of w o) ≡ true =
+        let new : List proto.Outcome = a.outcomes ++ (outcome_of w (step.outcome_of o true) ∷ []) in
+        let may : proto.may_take a.map (proposal_of w o) ≡ true =
         rw (eq-eqb o.epoch a.map.epoch (sym same), what, ne_eqb o.peer a.map.primary other) inside in
-        let moved : proto.step a (decision i o.awaited) ≡ proto.setOutcomes (a' m' l h) (cond o.awaited new a.outcomes) =
-        ap (proto.takeAs a i o.awaited) at ∙ rw (may, what) in
-        let mine : shrinks w (step.outcomeOf o true) ≡ true = ap (λ (z : ack.Proposal). leaves z true) what in
-        let sim = by_both (λ (x : real.State) (z : List proto.Outcome). Sim w x (proto.setOutcomes (a' m' l h) z)) o.awaited
-        (λ t. on_outcomes w (s' m' l h) (a' m' l h) (settled m' l h) (s.outcomes ++ (step.outcomeOf o true ∷ [])) new
-        (collect-one (outcome_of w) (shrinks w) s.outcomes (step.outcomeOf o true) mine
-        ∙ ap (λ (z : List proto.Outcome). z ++ (outcome_of w (step.outcomeOf o true) ∷ [])) k.outcomes)
-        (all_snoc (OutcomeKey w) s.outcomes (step.outcomeOf o true) k.told fits.key))
+        let moved : proto.step a (decision i o.awaited) ≡ proto.set_outcomes (a' m' l h) (cond o.awaited new a.outcomes) =
+        ap (proto.take_as a i o.awaited) at ∙ rw (may, what) in
+        let mine : shrinks w (step.outcome_of o true) ≡ true = ap (λ (z : ack.Proposal). leaves z true) what in
+        let sim = by_both (λ (x : real.State) (z : List proto.Outcome). Sim w x (proto.set_outcomes (a' m' l h) z)) o.awaited
+        (λ t. on_outcomes w (s' m' l h) (a' m' l h) (settled m' l h) (s.outcomes ++ (step.outcome_of o true ∷ [])) new
+        (collect-one (outcome_of w) (shrinks w) s.outcomes (step.outcome_of o true) mine
+        ∙ ap (λ (z : List proto.Outcome). z ++ (outcome_of w (step.outcome_of o true) ∷ [])) k.outcomes)
+        (all_snoc (OutcomeKey w) s.outcomes (step.outcome_of o true) k.told fits.key))
         (λ t. settled m' l h) in
         gently w _ a (decision i o.awaited) tt (subst (Sim w _) (sym moved) sim)
 
     expanded : (m' : tables.Map) → o.what ≡ ack.grow → a.map.epoch ≡ o.epoch
         → MapSim w m' (resized a.map (o.peer ∷ a.map.insync))
-        → Gently w (step.told (real.setOffers (real.setMap s m') rest) o true) a
-    unfolding step.told proto.step proto.onTake proto.takeAs proto.mayTake proto.expanded proto.setProposals proto.setMap real.setOffers real.setMap ◌and◌
+        → Gently w (step.told (real.set_offers (real.set_map s m') rest) o true) a
+    unfolding step.told proto.step proto.on_take proto.take_as proto.may_take proto.expanded proto.set_proposals proto.set_map real.set_offers real.set_map ◌and◌
     expanded m' what same h =
         let l : List ℕ = o.peer ∷ a.map.insync in
-        let may : proto.mayTake a.map (proposal_of w o) ≡ true = rw (eq-eqb o.epoch a.map.epoch (sym same), what) in
-        let moved : proto.step a (decision i o.awaited) ≡ a' m' l h = ap (proto.takeAs a i o.awaited) at ∙ rw (may, what) in
-        let none' : shrinks w (step.outcomeOf o true) ≡ false = ap (λ (z : ack.Proposal). leaves z true) what in
+        let may : proto.may_take a.map (proposal_of w o) ≡ true = rw (eq-eqb o.epoch a.map.epoch (sym same), what) in
+        let moved : proto.step a (decision i o.awaited) ≡ a' m' l h = ap (proto.take_as a i o.awaited) at ∙ rw (may, what) in
+        let none' : shrinks w (step.outcome_of o true) ≡ false = ap (λ (z : ack.Proposal). leaves z true) what in
         let sim = by-test (λ (x : real.State). Sim w x (a' m' l h)) o.awaited
-        (λ t. same_outcomes w (s' m' l h) (a' m' l h) (settled m' l h) (s.outcomes ++ (step.outcomeOf o true ∷ []))
-        (collect-skip (outcome_of w) (shrinks w) s.outcomes (step.outcomeOf o true) none' ∙ k.outcomes)
-        (all_snoc (OutcomeKey w) s.outcomes (step.outcomeOf o true) k.told fits.key))
+        (λ t. same_outcomes w (s' m' l h) (a' m' l h) (settled m' l h) (s.outcomes ++ (step.outcome_of o true ∷ []))
+        (collect-skip (outcome_of w) (shrinks w) s.outcomes (step.outcome_of o true) none' ∙ k.outcomes)
+        (all_snoc (OutcomeKey w) s.outcomes (step.outcome_of o true) k.told fits.key))
         (λ t. settled m' l h) in
         gently w _ a (decision i o.awaited) tt (subst (Sim w _) (sym moved) sim)
 
     module _ (index seq : ℕ) (small : index ≤ max_u64) (less : seq ≤ max_u64)
         (fresh : not_last (session_at m.sessions (s.clients o.node)) seq ≡ true) where
       abbrev r : Request
-      r = record { index = index; client = s.clients o.node; seq = seq; command = step.commandOf o o.what }
+      r = record { index = index; client = s.clients o.node; seq = seq; command = step.command_of o o.what }
 
       abbrev Goal : Applied → Type 0
-      Goal v = Gently w (step.told (real.setOffers (real.setMap s v.map) rest) o (step.isApplied v.answer)) a
+      Goal v = Gently w (step.told (real.set_offers (real.set_map s v.map) rest) o (step.is_applied v.answer)) a
 
-      not' : (v : Answer) → step.isApplied v ≡ false → (m' : tables.Map) → MapSim w m' a.map
-          → Gently w (step.told (real.setOffers (real.setMap s m') rest) o (step.isApplied v)) a
-      not' v e m' h = subst (λ (z : Bool). Gently w (step.told (real.setOffers (real.setMap s m') rest) o z) a) (sym e) (turned_down_lem m' h)
+      not' : (v : Answer) → step.is_applied v ≡ false → (m' : tables.Map) → MapSim w m' a.map
+          → Gently w (step.told (real.set_offers (real.set_map s m') rest) o (step.is_applied v)) a
+      not' v e m' h = subst (λ (z : Bool). Gently w (step.told (real.set_offers (real.set_map s m') rest) o z) a) (sym e) (turned_down_lem m' h)
 
       yes' : (p : ack.Proposal) → o.what ≡ p → decide m r.command ≡ accepts → well_formed_map (settle m r accepts).map ≡ true
-          → Gently w (step.told (real.setOffers (real.setMap s (settle m r accepts).map) rest) o true) a
+          → Gently w (step.told (real.set_offers (real.set_map s (settle m r accepts).map) rest) o true) a
       yes' ack.shrink e q f =
-          let h = shrink_sim w m a.map k.table r o.key o.peer o.epoch (ap (step.commandOf o) e) q f in
+          let h = shrink_sim w m a.map k.table r o.key o.peer o.epoch (ap (step.command_of o) e) q f in
           shrunk (settle m r accepts).map e h.0 h.1 h.2 h.3
       yes' ack.grow e q f =
-          let h = expand_sim w m a.map k.table r o.key o.peer o.epoch (ap (step.commandOf o) e) q f in
+          let h = expand_sim w m a.map k.table r o.key o.peer o.epoch (ap (step.command_of o) e) q f in
           expanded (settle m r accepts).map e h.0 h.1
 
       settles : (v : Answer) → decide m r.command ≡ v → well_formed_map (settle m r v).map ≡ true → Goal (settle m r v)
@@ -264,7 +264,7 @@ module _ (w : World) (s : real.State) (a : State) (k : Sim w s a) where
       key' : GoodKey o.key
       key' = subst GoodKey (sym fits.key) w.good_key
 
-      command : (p : ack.Proposal) → GoodCommand (step.commandOf o p) × (command_fits (step.commandOf o p) ≡ true)
+      command : (p : ack.Proposal) → GoodCommand (step.command_of o p) × (command_fits (step.command_of o p) ≡ true)
       unfolding command_fits
       command ack.shrink = ((key', fits.peer, u64_of o.epoch epoch), le-leb (length o.key.collection) max_name key'.0.0)
       command ack.grow = ((key', fits.peer, u64_of o.epoch epoch), le-leb (length o.key.collection) max_name key'.0.0)
@@ -277,8 +277,8 @@ module _ (w : World) (s : real.State) (a : State) (k : Sim w s a) where
           settles
 
       -- the proposal's bytes are read as the request
-      pub decoded : decode_request (step.offerBytes s o index seq) ≡ some r
-      unfolding step.offerBytes
+      pub decoded : decode_request (step.offer_bytes s o index seq) ≡ some r
+      unfolding step.offer_bytes
       decoded = request-back r (u64_of index small, k.clients o.node, u64_of seq less, (command o.what).0)
 
       pub offered : Gently w (step.offered s i index seq (some o)) a
@@ -289,8 +289,8 @@ module _ (w : World) (s : real.State) (a : State) (k : Sim w s a) where
           (offers_map (stays_well_formed m r k.table.formed (command o.what).1))
 
   pub on_offer_lem : (i index seq : ℕ) → is_u64 index and is_u64 seq and fresh_seq s seq (nth s.offers i) ≡ true
-      → Gently w (step.onOffer s i index seq) a
-  unfolding step.onOffer step.offered fresh_seq is_u64
+      → Gently w (step.on_offer s i index seq) a
+  unfolding step.on_offer step.offered fresh_seq is_u64
   on_offer_lem i index seq t =
       let f = fresh_seq s seq (nth s.offers i) in
       let u = and_right (is_u64 index) (is_u64 seq and f) t in

@@ -70,8 +70,8 @@ module _ (w : World) (s : real.State) (a : State) (k : Sim w s a) where
 
   -- ---- nodes
 
-  pub on-nodes : (n : ℕ) (x : held.Node) (b : Node) → NodeSim w top n x b → Sim w (real.setNode s n x) (proto.setNode a n b)
-  unfolding real.setNode proto.setNode
+  pub on-nodes : (n : ℕ) (x : held.Node) (b : Node) → NodeSim w top n x b → Sim w (real.set_node s n x) (proto.set_node a n b)
+  unfolding real.set_node proto.set_node
   on-nodes n x b h = record {
     table = k.table;
     nodes = pair-all (λ m v u. NodeSim w top m v u) h k.nodes;
@@ -88,8 +88,8 @@ module _ (w : World) (s : real.State) (a : State) (k : Sim w s a) where
     known = k.known;
   }
 
-  pub on-node : (n : ℕ) (x : held.Node) → NodeSim w top n x (a.nodes n) → Sim w (real.setNode s n x) a
-  unfolding real.setNode
+  pub on-node : (n : ℕ) (x : held.Node) → NodeSim w top n x (a.nodes n) → Sim w (real.set_node s n x) a
+  unfolding real.set_node
   on-node n x h = record {
     table = k.table;
     nodes = one-all (λ m v. NodeSim w top m v (a.nodes m)) h k.nodes;
@@ -108,8 +108,8 @@ module _ (w : World) (s : real.State) (a : State) (k : Sim w s a) where
 
   -- ---- links
 
-  pub on_requests : (from to : ℕ) (l : List real.Request) → All (RequestAt w to (a.requests from to)) l → Sim w (real.setRequests s from to l) a
-  unfolding real.setRequests
+  pub on_requests : (from to : ℕ) (l : List real.Request) → All (RequestAt w to (a.requests from to)) l → Sim w (real.set_requests s from to l) a
+  unfolding real.set_requests
   on_requests from to l h = record {
     table = k.table;
     nodes = k.nodes;
@@ -136,8 +136,8 @@ module _ (w : World) (s : real.State) (a : State) (k : Sim w s a) where
   }
 
   pub on_post : (from to : ℕ) (q : real.Request) (r : Request) → RequestSim w to q r
-      → Sim w (real.setRequests s from to (s.requests from to ++ (q ∷ []))) (proto.post a from to r)
-  unfolding real.setRequests proto.post proto.setRequests
+      → Sim w (real.set_requests s from to (s.requests from to ++ (q ∷ []))) (proto.post a from to r)
+  unfolding real.set_requests proto.post proto.set_requests
   on_post from to q r h = record {
     table = k.table;
     nodes = k.nodes;
@@ -160,8 +160,8 @@ module _ (w : World) (s : real.State) (a : State) (k : Sim w s a) where
 
   -- ---- replies
 
-  pub on-replies : (l : List real.Reply) → All (ReplySim w a.replies) l → Sim w (real.setReplies s l) a
-  unfolding real.setReplies
+  pub on-replies : (l : List real.Reply) → All (ReplySim w a.replies) l → Sim w (real.set_replies s l) a
+  unfolding real.set_replies
   on-replies l h = record {
     table = k.table;
     nodes = k.nodes;
@@ -190,8 +190,8 @@ module _ (w : World) (s : real.State) (a : State) (k : Sim w s a) where
   }
 
   -- an answer that nobody here knows of, and its concrete one
-  pub on-answer : (r : Reply) → Sim w s (proto.addReply a r)
-  unfolding proto.addReply
+  pub on-answer : (r : Reply) → Sim w s (proto.add_reply a r)
+  unfolding proto.add_reply
   on-answer r = record {
     table = k.table;
     nodes = k.nodes;
@@ -211,8 +211,8 @@ module _ (w : World) (s : real.State) (a : State) (k : Sim w s a) where
   -- ---- proposals and outcomes
 
   pub on_offers : (l : List real.Offer) (m : List Proposal) → map (proposal_of w) l ≡ m → All (OfferFits w top) l
-      → Sim w (real.setOffers s l) (proto.setProposals a m)
-  unfolding real.setOffers proto.setProposals
+      → Sim w (real.set_offers s l) (proto.set_proposals a m)
+  unfolding real.set_offers proto.set_proposals
   on_offers l m e f = record {
     table = k.table;
     nodes = k.nodes;
@@ -229,13 +229,13 @@ module _ (w : World) (s : real.State) (a : State) (k : Sim w s a) where
     known = k.known;
   }
 
-  pub same_offers : (l : List real.Offer) → map (proposal_of w) l ≡ a.proposals → All (OfferFits w top) l → Sim w (real.setOffers s l) a
-  unfolding proto.setProposals
+  pub same_offers : (l : List real.Offer) → map (proposal_of w) l ≡ a.proposals → All (OfferFits w top) l → Sim w (real.set_offers s l) a
+  unfolding proto.set_proposals
   same_offers l e f = on_offers l a.proposals e f
 
   pub on_outcomes : (l : List real.Outcome) (m : List Outcome) → collect (shrinks w) (outcome_of w) l ≡ m → All (OutcomeKey w) l
-      → Sim w (real.setOutcomes s l) (proto.setOutcomes a m)
-  unfolding real.setOutcomes proto.setOutcomes
+      → Sim w (real.set_outcomes s l) (proto.set_outcomes a m)
+  unfolding real.set_outcomes proto.set_outcomes
   on_outcomes l m e f = record {
     table = k.table;
     nodes = k.nodes;
@@ -253,15 +253,15 @@ module _ (w : World) (s : real.State) (a : State) (k : Sim w s a) where
   }
 
   pub same_outcomes : (l : List real.Outcome) → collect (shrinks w) (outcome_of w) l ≡ a.outcomes → All (OutcomeKey w) l
-      → Sim w (real.setOutcomes s l) a
-  unfolding proto.setOutcomes
+      → Sim w (real.set_outcomes s l) a
+  unfolding proto.set_outcomes
   same_outcomes l e f = on_outcomes l a.outcomes e f
 
   -- ---- writes
 
   pub on-accepted : (v : real.Write) → WriteKey w v
-      → Sim w (real.setWrites s (s.accepted ++ (v ∷ [])) s.acknowledged) (proto.addAccepted a (accepted_of w v))
-  unfolding real.setWrites proto.addAccepted
+      → Sim w (real.set_writes s (s.accepted ++ (v ∷ [])) s.acknowledged) (proto.add_accepted a (accepted_of w v))
+  unfolding real.set_writes proto.add_accepted
   on-accepted v e = record {
     table = k.table;
     nodes = k.nodes;
@@ -279,8 +279,8 @@ module _ (w : World) (s : real.State) (a : State) (k : Sim w s a) where
   }
 
   pub on_acknowledged : (v : real.Write) → WriteKey w v
-      → Sim w (real.setWrites s s.accepted (s.acknowledged ++ (v ∷ []))) (proto.addAcknowledged a (acknowledged_of w v))
-  unfolding real.setWrites proto.addAcknowledged
+      → Sim w (real.set_writes s s.accepted (s.acknowledged ++ (v ∷ []))) (proto.add_acknowledged a (acknowledged_of w v))
+  unfolding real.set_writes proto.add_acknowledged
   on_acknowledged v e = record {
     table = k.table;
     nodes = k.nodes;
@@ -302,8 +302,8 @@ module _ (w : World) (s : real.State) (a : State) (k : Sim w s a) where
   -- ---- the map
 
   -- a map of the same epoch
-  pub on-map : (m : tables.Map) (b : Map) → b.epoch ≡ top → MapSim w m b → Sim w (real.setMap s m) (proto.setMap a b)
-  unfolding real.setMap proto.setMap
+  pub on-map : (m : tables.Map) (b : Map) → b.epoch ≡ top → MapSim w m b → Sim w (real.set_map s m) (proto.set_map a b)
+  unfolding real.set_map proto.set_map
   on-map m b p h = record {
     table = h;
     nodes = λ n. subst (λ (e : ℕ). NodeSim w e n (s.nodes n) (a.nodes n)) (sym p) (k.nodes n);
@@ -320,6 +320,6 @@ module _ (w : World) (s : real.State) (a : State) (k : Sim w s a) where
     known = k.known;
   }
 
-  pub same_map : (m : tables.Map) → MapSim w m a.map → Sim w (real.setMap s m) a
-  unfolding proto.setMap
+  pub same_map : (m : tables.Map) → MapSim w m a.map → Sim w (real.set_map s m) a
+  unfolding proto.set_map
   same_map m h = on-map m a.map refl h

@@ -35,7 +35,7 @@ use Rattle.thm_run.proofs.Simulation.Rows.{cons_other, without_other, without-sa
 -- ---- the ways through apply: the map is left under an answer that applies nothing, or a remembered answer comes again, or the command
 -- is decided now
 pub ways : (P : Applied → Type 0) (m : tables.Map) (r : Request)
-    → ((v : Answer) → step.isApplied v ≡ false → P (record { answer = v; map = m }))
+    → ((v : Answer) → step.is_applied v ≡ false → P (record { answer = v; map = m }))
     → ((x : Session) → session_at m.sessions r.client ≡ some x → r.seq ≡ x.seq → P (record { answer = tables.outcome x.outcome; map = m }))
     → ((v : Answer) → decide m r.command ≡ v → P (settle m r v))
     → P (apply m r)
@@ -65,7 +65,7 @@ not_again o seq t x e q = go o e t
 
 module _ (w : World) (m : tables.Map) (b : Map) (k : MapSim w m b) (r : Request) where
   -- a rejection is remembered, and nothing else changes
-  pub not_applied_lem : (v : Answer) → step.isApplied v ≡ false → well_formed_map (settle m r v).map ≡ true → MapSim w (settle m r v).map b
+  pub not_applied_lem : (v : Answer) → step.is_applied v ≡ false → well_formed_map (settle m r v).map ≡ true → MapSim w (settle m r v).map b
   unfolding settle remembered
   not_applied_lem (tables.outcome applied) e f = not_both true refl e
   not_applied_lem (tables.outcome (rejected why)) e f = record {

@@ -73,14 +73,14 @@ module _ (w : World) (s : real.State) (a : State) (k : Sim w s a) (i : ℕ) (q :
   left = all-removed (ReplySim w a.replies) s.replies i k.replies
 
   abbrev next : held.Node → real.State
-  next y = real.setReplies (real.setNode s n y) rest
+  next y = real.set_replies (real.set_node s n y) rest
 
   abbrev After : Result AckAnswer held.Node → Type 0
   After v = FormedNode v.after → Gently w (step.acked (next v.after) q v.answer) a
 
   -- nothing happens
   quiet : (y : held.Node) → NodeSim w top n y b → Sim w (next y) a
-  quiet y h = on-replies w (real.setNode s n y) a (on-node w s a k n y h) rest left
+  quiet y h = on-replies w (real.set_node s n y) a (on-node w s a k n y h) rest left
 
   refused : (why : Refusal) (y : held.Node) → NodeSim w top n y b → After (record { answer = ack_refused why; after = y })
   unfolding step.acked
@@ -102,23 +102,23 @@ module _ (w : World) (s : real.State) (a : State) (k : Sim w s a) (i : ℕ) (q :
       last = last_offset h.replica
 
       -- the reply counts
-      counted : (role : Role) → proto.countedAs l last q.peer rs.answer ≡ role
-          → proto.step a (counting rs.place) ≡ proto.setNode a n (with_role b role)
-      unfolding proto.step proto.onCount proto.countAs proto.countRole
+      counted : (role : Role) → proto.counted_as l last q.peer rs.answer ≡ role
+          → proto.step a (counting rs.place) ≡ proto.set_node a n (with_role b role)
+      unfolding proto.step proto.on_count proto.count_as proto.count_role
       counted role e =
-          ap (proto.countAs a) rs.found ∙ ap (proto.countRole a r) (lead-at b.role l q.epoch is at-epoch)
-          ∙ ap (λ (v : ShardReplica). proto.setNode a n (with_role b (proto.countedAs l (length v.log) q.peer rs.answer))) (sym hs.replica)
-          ∙ ap (λ (v : Role). proto.setNode a n (with_role b v)) e
+          ap (proto.count_as a) rs.found ∙ ap (proto.count_role a r) (lead-at b.role l q.epoch is at-epoch)
+          ∙ ap (λ (v : ShardReplica). proto.set_node a n (with_role b (proto.counted_as l (length v.log) q.peer rs.answer))) (sym hs.replica)
+          ∙ ap (λ (v : Role). proto.set_node a n (with_role b v)) e
 
       -- the states after it counted
       counts : (h' : Held) (role : Role) → HeldSim w top n h' (with_role b role) → FormedNode (with_held x (h' ∷ []))
-          → Sim w (next (with_held x (h' ∷ []))) (proto.setNode a n (with_role b role))
-      unfolding proto.setNode
+          → Sim w (next (with_held x (h' ∷ []))) (proto.set_node a n (with_role b role))
+      unfolding proto.set_node
       counts h' role u f =
-          on-replies w (real.setNode s n (with_held x (h' ∷ []))) (proto.setNode a n (with_role b role))
+          on-replies w (real.set_node s n (with_held x (h' ∷ []))) (proto.set_node a n (with_role b role))
           (on-nodes w s a k n (with_held x (h' ∷ [])) (with_role b role) (node-with w top n x b (k.nodes n) (with_role b role) h' y f u)) rest left
 
-      takes : (h' : Held) (role : Role) → proto.countedAs l last q.peer rs.answer ≡ role → HeldSim w top n h' (with_role b role)
+      takes : (h' : Held) (role : Role) → proto.counted_as l last q.peer rs.answer ≡ role → HeldSim w top n h' (with_role b role)
           → AfterHeld (gives noted h')
       unfolding step.acked
       takes h' role e u f = gently w _ a (counting rs.place) tt (subst (Sim w _) (sym (counted role e)) (counts h' role u f))
@@ -126,7 +126,7 @@ module _ (w : World) (s : real.State) (a : State) (k : Sim w s a) (i : ℕ) (q :
       -- a record with other numbers of this peer
       with-peer : (u : ℕ) (t : Bool) (rows : List Peer) → RowsSim w n (with_peer l q.peer u t) rows
           → HeldSim w top n (with_peers h rows) (with_role b (lead (with_peer l q.peer u t)))
-      unfolding proto.withRole proto.withPeer
+      unfolding proto.with_role proto.with_peer
       with-peer u t rows v = record {
         key = hs.key;
         holders = hs.holders;
@@ -137,7 +137,7 @@ module _ (w : World) (s : real.State) (a : State) (k : Sim w s a) (i : ℕ) (q :
 
       with_ack_lem : (u : ℕ) (t : Bool) (rows : List Peer) → RowsSim w n (with_ack (with_peer l q.peer u t) (q.peer ∷ l.ack)) rows
           → HeldSim w top n (with_peers h rows) (with_role b (lead (with_ack (with_peer l q.peer u t) (q.peer ∷ l.ack))))
-      unfolding proto.withRole proto.withPeer proto.withAck
+      unfolding proto.with_role proto.with_peer proto.with_ack
       with_ack_lem u t rows v = record {
         key = hs.key;
         holders = hs.holders;
@@ -146,12 +146,12 @@ module _ (w : World) (s : real.State) (a : State) (k : Sim w s a) (i : ℕ) (q :
         role = record { role = c.role; epoch = c.epoch; end = c.end; table = c.table; upto = c.upto; rows = v };
       }
 
-      steps_down : proto.countedAs l last q.peer rs.answer ≡ backup → AfterHeld (gives noted (demoted h))
-      unfolding proto.withRole
+      steps_down : proto.counted_as l last q.peer rs.answer ≡ backup → AfterHeld (gives noted (demoted h))
+      unfolding proto.with_role
       steps_down e =
           takes (demoted h) backup e (record { key = hs.key; holders = hs.holders; replica = hs.replica; fits = hs.fits; role = refl })
 
-      loosens : proto.countedAs l last q.peer rs.answer ≡ lead (with_peer l q.peer (l.acked q.peer) false)
+      loosens : proto.counted_as l last q.peer rs.answer ≡ lead (with_peer l q.peer (l.acked q.peer) false)
           → AfterHeld (gives noted (on_row h q.peer unaligned))
       loosens e = takes (on_row h q.peer unaligned) (lead (with_peer l q.peer (l.acked q.peer) false)) e
           (with-peer (l.acked q.peer) false (update (of_node q.peer) unaligned h.peers) (loose-rows w n l h.peers c.rows q.peer))
@@ -159,7 +159,7 @@ module _ (w : World) (s : real.State) (a : State) (k : Sim w s a) (i : ℕ) (q :
       -- an ack is recorded
       module _ (p : Peer) (here : find (of_node q.peer) h.peers ≡ some p) (t : ℕ) (by : Bool) (u : ℕ) (g : Bool)
           (much : acked_through last t by p ≡ u) (so : (p.aligned or by) ≡ g)
-          (e : proto.countedAs l last q.peer rs.answer ≡ lead (with_peer l q.peer u g)) (positive : proto.isPositive rs.answer ≡ true) where
+          (e : proto.counted_as l last q.peer rs.answer ≡ lead (with_peer l q.peer u g)) (positive : proto.is_positive rs.answer ≡ true) where
         abbrev h' : Held
         h' = on_row h q.peer (ack_row last t by)
 
@@ -176,8 +176,8 @@ module _ (w : World) (s : real.State) (a : State) (k : Sim w s a) (i : ℕ) (q :
             (ack_rows w n l h.peers c.rows q.peer last t by u g p here much so j))
 
         -- the test of the joining, after the ack was recorded
-        may : joins last t by p ≡ true → proto.mayJoin l₁ (length b.replica.log) r ≡ true
-        unfolding joins proto.mayJoin proto.withPeer
+        may : joins last t by p ≡ true → proto.may_join l₁ (length b.replica.log) r ≡ true
+        unfolding joins proto.may_join proto.with_peer
         may j =
             let j₁ = and_left (caught_up last t by p) (not p.member and not p.proposing) j in
             let j₂ = and_left (not p.member) (not p.proposing) (and_right (caught_up last t by p) (not p.member and not p.proposing) j) in
@@ -185,7 +185,7 @@ module _ (w : World) (s : real.State) (a : State) (k : Sim w s a) (i : ℕ) (q :
             ap (λ (z : ℕ). leb (length b.replica.log) z) (upd_same l.acked q.peer u ∙ sym much)
             ∙ ap (λ (v : ShardReplica). leb (length v.log) (acked_through last t by p)) (sym hs.replica) ∙ j₁ in
             let out : member q.peer l.ack ≡ false = sym (c.rows.row q.peer p here).joined ∙ not_true p.member j₂ in
-            and_true (proto.isPositive rs.answer) _ positive
+            and_true (proto.is_positive rs.answer) _ positive
             (and_true (leb (length b.replica.log) (upd l.acked q.peer u q.peer)) _ up (rw out))
 
         abbrev b₁ : Node
@@ -195,7 +195,7 @@ module _ (w : World) (s : real.State) (a : State) (k : Sim w s a) (i : ℕ) (q :
         b₂ = with_role b (lead l₂)
 
         abbrev a₁ : State
-        a₁ = proto.setNode a n b₁
+        a₁ = proto.set_node a n b₁
 
         abbrev o : real.Offer
         o = record { node = n; key = q.key; peer = q.peer; epoch = q.epoch; what = ack.grow; awaited = true }
@@ -204,18 +204,18 @@ module _ (w : World) (s : real.State) (a : State) (k : Sim w s a) (i : ℕ) (q :
         ps = a.proposals ++ (proposal_of w o ∷ [])
 
         -- the joining, of the state after the ack was recorded
-        joins_to : joins last t by p ≡ true → proto.step a₁ (joining rs.place) ≡ proto.setProposals (proto.setNode a n b₂) ps
-        unfolding proto.step proto.onJoin proto.joinAs proto.joinLead proto.setNode proto.withRole proto.withPeer proto.withAck proto.setProposals
+        joins_to : joins last t by p ≡ true → proto.step a₁ (joining rs.place) ≡ proto.set_proposals (proto.set_node a n b₂) ps
+        unfolding proto.step proto.on_join proto.join_as proto.join_lead proto.set_node proto.with_role proto.with_peer proto.with_ack proto.set_proposals
         joins_to j =
             let first : a₁.nodes n ≡ b₁ = upd_same a.nodes n b₁ in
-            let after : Node → List proto.Proposal → State = λ z v. proto.setProposals (proto.setNode a₁ n (with_role z (lead l₂))) v in
+            let after : Node → List proto.Proposal → State = λ z v. proto.set_proposals (proto.set_node a₁ n (with_role z (lead l₂))) v in
             let more : ℕ → List proto.Proposal = λ d. a.proposals ++ (record { node = n; expand = true; peer = q.peer; epoch = d } ∷ []) in
-            ap (proto.joinAs a₁) rs.found
-            ∙ ap (proto.joinLead a₁ r) (lead-at (a₁.nodes n).role l₁ q.epoch (ap (λ (z : Node). z.role) first) at-epoch)
-            ∙ ap (λ (z : Node). cond (proto.mayJoin l₁ (length z.replica.log) r) (after z (more l.epoch)) a₁) first
+            ap (proto.join_as a₁) rs.found
+            ∙ ap (proto.join_lead a₁ r) (lead-at (a₁.nodes n).role l₁ q.epoch (ap (λ (z : Node). z.role) first) at-epoch)
+            ∙ ap (λ (z : Node). cond (proto.may_join l₁ (length z.replica.log) r) (after z (more l.epoch)) a₁) first
             ∙ ap (λ (z : Bool). cond z (after b₁ (more l.epoch)) a₁) (may j)
             ∙ ap (λ (d : ℕ). after b₁ (more d)) at-epoch
-            ∙ ap (λ (z : ℕ → Node). proto.setProposals (record {
+            ∙ ap (λ (z : ℕ → Node). proto.set_proposals (record {
               map = a.map;
               nodes = z;
               requests = a.requests;
@@ -227,7 +227,7 @@ module _ (w : World) (s : real.State) (a : State) (k : Sim w s a) (i : ℕ) (q :
             }) ps) (upd-twice a.nodes n b₁ b₂)
 
         joined : joins last t by p ≡ true → AfterHeld (gives expand h')
-        unfolding step.acked real.setReplies real.setNode proto.setNode
+        unfolding step.acked real.set_replies real.set_node proto.set_node
         joined j f =
             let sim = counts h' (lead l₂)
             (with_ack_lem u g (update (of_node q.peer) (ack_row last t by) h.peers)
@@ -237,7 +237,7 @@ module _ (w : World) (s : real.State) (a : State) (k : Sim w s a) (i : ℕ) (q :
               peer = w.ids q.peer (row_holder w n l h.peers c.rows q.peer p here);
               upto = subst (λ (d : ℕ). d ≤ top) at-epoch c.upto;
             } in
-            let sim₂ = on_offers w (next (with_held x (h' ∷ []))) (proto.setNode a n b₂) sim (s.offers ++ (o ∷ [])) ps
+            let sim₂ = on_offers w (next (with_held x (h' ∷ []))) (proto.set_node a n b₂) sim (s.offers ++ (o ∷ [])) ps
             (map_join (proposal_of w) s.offers (o ∷ []) ∙ ap (λ (z : List proto.Proposal). z ++ (proposal_of w o ∷ [])) k.offers)
             (all_snoc (OfferFits w top) s.offers o k.offered fits) in
             then_gently w _ a (counting rs.place) tt
@@ -255,25 +255,25 @@ module _ (w : World) (s : real.State) (a : State) (k : Sim w s a) (i : ℕ) (q :
       -- what each answer makes of the shard
       answers : (p : Peer) → find (of_node q.peer) h.peers ≡ some p → (v : Answer) → rs.answer ≡ v
           → AfterHeld (do_deed h q.peer p (deed_for w v q.epoch))
-      unfolding acked_through proto.countedAs proto.isPositive do_deed
+      unfolding acked_through proto.counted_as proto.is_positive do_deed
       answers p here (adopts t) e =
-          records p here t true (min t last) true refl (or_yes p.aligned) (ap (proto.countedAs l last q.peer) e) (ap proto.isPositive e)
+          records p here t true (min t last) true refl (or_yes p.aligned) (ap (proto.counted_as l last q.peer) e) (ap proto.is_positive e)
       answers p here (stores t) e =
           let row = c.rows.row q.peer p here in
           records p here t false (max (l.acked q.peer) t) (l.aligned q.peer) (ap (λ (z : ℕ). max z t) row.acked)
-          (or_no p.aligned ∙ row.aligned) (ap (proto.countedAs l last q.peer) e) (ap proto.isPositive e)
+          (or_no p.aligned ∙ row.aligned) (ap (proto.counted_as l last q.peer) e) (ap proto.is_positive e)
       answers p here (stale_align z) e = go (ltb q.epoch z) refl
         where
-          stale : proto.countedAs l last q.peer rs.answer ≡ cond (ltb q.epoch z) backup (lead l)
-          stale = ap (proto.countedAs l last q.peer) e ∙ ap (λ (d : ℕ). cond (ltb d z) backup (lead l)) at-epoch
+          stale : proto.counted_as l last q.peer rs.answer ≡ cond (ltb q.epoch z) backup (lead l)
+          stale = ap (proto.counted_as l last q.peer) e ∙ ap (λ (d : ℕ). cond (ltb d z) backup (lead l)) at-epoch
 
           go : (t : Bool) → ltb q.epoch z ≡ t → AfterHeld (do_deed h q.peer p (cond t step_down nothing))
           go true t = steps_down (stale ∙ ap (λ (v : Bool). cond v backup (lead l)) t)
           go false t = λ f. still (with_held x (h ∷ [])) (same f) f
       answers p here (stale_send z) e = go (ltb q.epoch z) refl
         where
-          stale : proto.countedAs l last q.peer rs.answer ≡ cond (ltb q.epoch z) backup loose
-          stale = ap (proto.countedAs l last q.peer) e ∙ ap (λ (d : ℕ). cond (ltb d z) backup loose) at-epoch
+          stale : proto.counted_as l last q.peer rs.answer ≡ cond (ltb q.epoch z) backup loose
+          stale = ap (proto.counted_as l last q.peer) e ∙ ap (λ (d : ℕ). cond (ltb d z) backup loose) at-epoch
 
           go : (t : Bool) → ltb q.epoch z ≡ t → AfterHeld (do_deed h q.peer p (cond t step_down unalign))
           go true t = steps_down (stale ∙ ap (λ (v : Bool). cond v backup loose) t)
@@ -307,8 +307,8 @@ module _ (w : World) (s : real.State) (a : State) (k : Sim w s a) (i : ℕ) (q :
   unfolding step.replies call_ack
   replied = acks (ack_with_kept x (k.nodes n).formed (well_formed_header x) q.key q.epoch q.peer q.sent q.bytes)
 
-pub on-reply : (w : World) (s : real.State) (a : State) → Sim w s a → (i : ℕ) → Gently w (step.onReply s i) a
-unfolding step.onReply step.replies
+pub on-reply : (w : World) (s : real.State) (a : State) → Sim w s a → (i : ℕ) → Gently w (step.on_reply s i) a
+unfolding step.on_reply step.replies
 on-reply w s a k i = go (nth s.replies i) refl
   where
     go : (o : Option real.Reply) → nth s.replies i ≡ o → Gently w (step.replies s i o) a

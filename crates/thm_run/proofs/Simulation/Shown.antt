@@ -102,9 +102,9 @@ module _ (w : World) (s : real.State) (a : State) (k : Sim w s a) (n : ℕ) wher
   m = s.map
 
   abbrev After : held.Node → Type 0
-  After y = FormedNode y → Reaches w (real.setNode s n y) a
+  After y = FormedNode y → Reaches w (real.set_node s n y) a
 
-  quiet : (y : held.Node) → NodeSim w top n y b → Reaches w (real.setNode s n y) a
+  quiet : (y : held.Node) → NodeSim w top n y b → Reaches w (real.set_node s n y) a
   quiet y h = stays w _ a (on-node w s a k n y h)
 
   -- the node that has taken the map, holding these
@@ -160,20 +160,20 @@ module _ (w : World) (s : real.State) (a : State) (k : Sim w s a) (n : ℕ) wher
     }
 
     -- the protocol's move, by the tests that the node makes
-    becomes : (h' : Held) (c : Node) → HeldSim w top n h' c → proto.step a (showing n) ≡ proto.setNode a n c → After (taken (h' ∷ []))
+    becomes : (h' : Held) (c : Node) → HeldSim w top n h' c → proto.step a (showing n) ≡ proto.set_node a n c → After (taken (h' ∷ []))
     becomes h' c u moved f = moves w _ a (showing n) (subst (Sim w _) (sym moved) (on-nodes w s a k n (taken (h' ∷ [])) c (node_of_lem c h' f u)))
 
     abbrev i : ShardInfo
     i = k.table.shard
 
     steps_down : eqb a.map.primary n ≡ false → After (taken (demoted (refreshed i h) ∷ []))
-    unfolding proto.step proto.onShow h
+    unfolding proto.step proto.on_show h
     steps_down p =
         becomes (demoted (refreshed i h)) (with_role b backup)
         (demoted_sim w m a.map k.table n h b hs.key hs.replica hs.fits hs.role) (rw p)
 
     promoted : eqb a.map.primary n ≡ true → promotes h i ≡ true → After (taken ((promoted_to n i w.metric h).held ∷ []))
-    unfolding proto.step proto.onShow proto.showAs h
+    unfolding proto.step proto.on_show proto.show_as h
     promoted p q =
         let not_leading : leads_at h.role a.map.epoch ≡ false =
         subst (λ (e : ℕ). leads_at h.role e ≡ false) k.table.epoch
@@ -225,8 +225,8 @@ module _ (w : World) (s : real.State) (a : State) (k : Sim w s a) (n : ℕ) wher
         (λ q. by-test P (too_many (showings x m m.shards)) (λ u f. quiet x (k.nodes n))
         (λ u. subst (λ (l : List Showing). After (taken (map held_of l))) (sym one) shown-held)))
 
-  pub on-shown : (fresh : ℕ) → Reaches w (step.onShown s n fresh) a
-  unfolding step.onShown call_shown shown_with
+  pub on-shown : (fresh : ℕ) → Reaches w (step.on_shown s n fresh) a
+  unfolding step.on_shown call_shown shown_with
   on-shown fresh =
       by-test (λ (v : Result ShownAnswer held.Node). After v.after) (not (well_formed_header x and well_formed_map m)) (λ p f. quiet x (k.nodes n))
       (λ p. go (holds n w.holders) refl)

@@ -56,7 +56,7 @@ module _ (w : World) (m : tables.Map) (am : Map) (t : MapSim w m am) (n : ℕ) (
   i = t.shard
 
   pub demoted_sim : HeldSim w am.epoch n (demoted (refreshed i h)) (with_role b backup)
-  unfolding proto.withRole
+  unfolding proto.with_role
   demoted_sim = record { key = key; holders = t.replicas; replica = same; fits = fits; role = refl }
 
   -- ---- a new record

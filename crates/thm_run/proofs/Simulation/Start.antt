@@ -197,8 +197,8 @@ module _ (m : tables.Map) (i : ShardInfo) (c : Created m i) where
       step' =
           unfold with_row in
           by-test (λ (v : List Peer). length v ≤ suc (length rows)) (eqb r.node.0 me or any (of_node r.node.0) rows)
-          {x = rows} {y = put row_below (new_row r.node (any (shown.isNode r.node.0) sync)) rows}
-          (λ t. omega arith) (λ t. put-most row_below (new_row r.node (any (shown.isNode r.node.0) sync)) rows)
+          {x = rows} {y = put row_below (new_row r.node (any (shown.is_node r.node.0) sync)) rows}
+          (λ t. omega arith) (λ t. put-most row_below (new_row r.node (any (shown.is_node r.node.0) sync)) rows)
 
   short : length i.replicas ≤ max_replicas
   short =

@@ -52,12 +52,12 @@ module _ (w : World) (s : real.State) (a : State) (k : Sim w s a) (i : ℕ) (o :
   keys = all-removed (OutcomeKey w) s.outcomes i k.told
 
   abbrev After : held.Node → Type 0
-  After y = FormedNode y → Gently w (real.setOutcomes (real.setNode s n y) rest) a
+  After y = FormedNode y → Gently w (real.set_outcomes (real.set_node s n y) rest) a
 
   -- to the protocol the outcome is lost
-  quiet : (y : held.Node) → NodeSim w top n y b → Gently w (real.setOutcomes (real.setNode s n y) rest) a
-  unfolding real.setNode
-  quiet y h = outcome-gone w (real.setNode s n y) a (on-node w s a k n y h) i o found rest refl keys
+  quiet : (y : held.Node) → NodeSim w top n y b → Gently w (real.set_outcomes (real.set_node s n y) rest) a
+  unfolding real.set_node
+  quiet y h = outcome-gone w (real.set_node s n y) a (on-node w s a k n y h) i o found rest refl keys
 
   module _ (y : holds n w.holders ≡ true) (h : Held) (hs : HeldSim w top n h b) where
     module _ (t : leads_at h.role o.epoch ≡ true) where
@@ -75,7 +75,7 @@ module _ (w : World) (s : real.State) (a : State) (k : Sim w s a) (i : ℕ) (o :
         peers = update (of_node o.peer) (settled_row left) h.peers;
       }
 
-      kept : FormedNode (with_held x (after false ∷ [])) → Gently w (real.setOutcomes (real.setNode s n (with_held x (after false ∷ []))) rest) a
+      kept : FormedNode (with_held x (after false ∷ [])) → Gently w (real.set_outcomes (real.set_node s n (with_held x (after false ∷ []))) rest) a
       kept f =
           let led : LeadSim w top n h.role h.replica (update (of_node o.peer) (settled_row false) h.peers) c.0 = record {
             role = c.2.role;
@@ -97,8 +97,8 @@ module _ (w : World) (s : real.State) (a : State) (k : Sim w s a) (i : ℕ) (o :
           }))
 
       gone : shrinks w o ≡ true → FormedNode (with_held x (after true ∷ []))
-          → Gently w (real.setOutcomes (real.setNode s n (with_held x (after true ∷ []))) rest) a
-      unfolding proto.step proto.onTell proto.tellAs proto.toldAs proto.setNode proto.setOutcomes proto.withRole proto.withAck
+          → Gently w (real.set_outcomes (real.set_node s n (with_held x (after true ∷ []))) rest) a
+      unfolding proto.step proto.on_tell proto.tell_as proto.told_as proto.set_node proto.set_outcomes proto.with_role proto.with_ack
       gone left f =
           let l : Lead = with_ack c.0 (without o.peer c.0.ack) in
           let b' : Node = with_role b (lead l) in
@@ -122,16 +122,16 @@ module _ (w : World) (s : real.State) (a : State) (k : Sim w s a) (i : ℕ) (o :
           let j : ℕ = r.0 in
           let at : nth a.outcomes j ≡ some (outcome_of w o) = ap (λ (z : List proto.Outcome). nth z j) (sym k.outcomes) ∙ r.1 in
           let m : List proto.Outcome = remove_at a.outcomes j in
-          let moved : proto.step a (proto.outcome j) ≡ proto.setNode (proto.setOutcomes a m) n b' =
-          ap (proto.tellAs a j) at
-          ∙ ap (proto.toldAs (proto.setOutcomes a m) (outcome_of w o)) (lead-at b.role c.0 o.epoch c.1 c.3) in
-          let sim = on_outcomes w (real.setNode s n (with_held x (after true ∷ []))) (proto.setNode a n b')
+          let moved : proto.step a (proto.outcome j) ≡ proto.set_node (proto.set_outcomes a m) n b' =
+          ap (proto.tell_as a j) at
+          ∙ ap (proto.told_as (proto.set_outcomes a m) (outcome_of w o)) (lead-at b.role c.0 o.epoch c.1 c.3) in
+          let sim = on_outcomes w (real.set_node s n (with_held x (after true ∷ []))) (proto.set_node a n b')
           (on-nodes w s a k n (with_held x (after true ∷ [])) b' node) rest m
           (r.2 ∙ ap (λ (z : List proto.Outcome). remove_at z j) k.outcomes) keys in
           gently w _ a (proto.outcome j) tt (subst (Sim w _) (sym moved) sim)
 
       both : (left : Bool) → shrinks w o ≡ left → FormedNode (with_held x (after left ∷ []))
-          → Gently w (real.setOutcomes (real.setNode s n (with_held x (after left ∷ []))) rest) a
+          → Gently w (real.set_outcomes (real.set_node s n (with_held x (after left ∷ []))) rest) a
       both true e f = gone e f
       both false e f = kept f
 
@@ -142,7 +142,7 @@ module _ (w : World) (s : real.State) (a : State) (k : Sim w s a) (i : ℕ) (o :
         (λ t f. quiet (with_held x (h ∷ [])) (node-with w top n x b (k.nodes n) b h y f hs))
 
   learns : After (call_outcome x o.key o.epoch o.peer o.what o.applied).after
-  unfolding call_outcome outcome_with ack.onOutcome
+  unfolding call_outcome outcome_with ack.on_outcome
   learns =
       by-test (λ (v : Result OutcomeAnswer held.Node). After v.after) (not (well_formed_header x)) (λ p f. quiet x (k.nodes n))
       (λ p. at_key w top n x b (k.nodes n) (λ v. After v.after) o.key settled
@@ -152,8 +152,8 @@ module _ (w : World) (s : real.State) (a : State) (k : Sim w s a) (i : ℕ) (o :
   unfolding step.learnt call_outcome
   learnt = learns (outcome_with_kept x (k.nodes n).formed (well_formed_header x) o.key o.epoch o.peer o.what o.applied)
 
-pub on-outcome : (w : World) (s : real.State) (a : State) → Sim w s a → (i : ℕ) → Gently w (step.onOutcome s i) a
-unfolding step.onOutcome step.learnt
+pub on-outcome : (w : World) (s : real.State) (a : State) → Sim w s a → (i : ℕ) → Gently w (step.on_outcome s i) a
+unfolding step.on_outcome step.learnt
 on-outcome w s a k i = go (nth s.outcomes i) refl
   where
     go : (o : Option real.Outcome) → nth s.outcomes i ≡ o → Gently w (step.learnt s i o) a

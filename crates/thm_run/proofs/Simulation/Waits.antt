@@ -80,26 +80,26 @@ module _ (w : World) (v : real.Write) (l : Lead) (key : WriteKey w v) (same : l.
   -- the Shrinks that a wait proposes, one suspicion each
   suspects : (ps : List DataNodeId) → All (λ (d : DataNodeId). holds d.0 w.holders ≡ true) ps → (s : real.State) (a : State) → Sim w s a
       → (a.nodes v.node).role ≡ lead l → v.epoch ≤ a.map.epoch
-      → Gently w (real.setOffers s (s.offers ++ map (step.shrinkOf v) ps)) a
-  unfolding real.setOffers proto.setProposals proto.step proto.onSuspect proto.suspectAs
+      → Gently w (real.set_offers s (s.offers ++ map (step.shrink_of v) ps)) a
+  unfolding real.set_offers proto.set_proposals proto.step proto.on_suspect proto.suspect_as
   suspects [] hs s a k role upto =
       rests w _ a
-      (subst (λ (z : List real.Offer). Sim w (real.setOffers s z) a) (sym (append-nil s.offers))
+      (subst (λ (z : List real.Offer). Sim w (real.set_offers s z) a) (sym (append-nil s.offers))
       (same_offers w s a k s.offers k.offers k.offered))
   suspects (p ∷ ps) hs s a k role upto =
-      let o : real.Offer = step.shrinkOf v p in
-      let a' : State = proto.setProposals a (a.proposals ++ (proposal_of w o ∷ [])) in
+      let o : real.Offer = step.shrink_of v p in
+      let a' : State = proto.set_proposals a (a.proposals ++ (proposal_of w o ∷ [])) in
       let moved : proto.step a (suspicion v.node p.0) ≡ a' =
-      ap (proto.suspectAs a v.node p.0) role
-      ∙ ap (λ (d : ℕ). proto.setProposals a (a.proposals ++ (record { node = v.node; expand = false; peer = p.0; epoch = d } ∷ []))) same in
-      let s' : real.State = real.setOffers s (s.offers ++ (o ∷ [])) in
+      ap (proto.suspect_as a v.node p.0) role
+      ∙ ap (λ (d : ℕ). proto.set_proposals a (a.proposals ++ (record { node = v.node; expand = false; peer = p.0; epoch = d } ∷ []))) same in
+      let s' : real.State = real.set_offers s (s.offers ++ (o ∷ [])) in
       let k' : Sim w s' a' =
       on_offers w s a k (s.offers ++ (o ∷ [])) (a.proposals ++ (proposal_of w o ∷ []))
       (map_join (proposal_of w) s.offers (o ∷ []) ∙ ap (λ (z : List proto.Proposal). z ++ (proposal_of w o ∷ [])) k.offers)
       (all_snoc (OfferFits w a.map.epoch) s.offers o k.offered
       (record { key = key; peer = w.ids p.0 hs.0; upto = upto })) in
       let r = suspects ps hs.1 s' a' k' role upto in
-      let r' = subst (λ (z : List real.Offer). Gently w (real.setOffers s z) a') (append_assoc s.offers (o ∷ []) (map (step.shrinkOf v) ps)) r in
+      let r' = subst (λ (z : List real.Offer). Gently w (real.set_offers s z) a') (append_assoc s.offers (o ∷ []) (map (step.shrink_of v) ps)) r in
       then_gently w _ a (suspicion v.node p.0) tt (subst (Gently w _) (sym moved) r')
 
 module _ (w : World) (s : real.State) (a : State) (k : Sim w s a) (i : ℕ) (v : real.Write) (found : nth s.accepted i ≡ some v)
@@ -117,7 +117,7 @@ module _ (w : World) (s : real.State) (a : State) (k : Sim w s a) (i : ℕ) (v :
   key = all-nth (WriteKey w) s.accepted i v k.written found
 
   abbrev After : Result WaitAnswer held.Node → Type 0
-  After r = FormedNode r.after → Gently w (step.waited (real.setNode s n r.after) v r.answer) a
+  After r = FormedNode r.after → Gently w (step.waited (real.set_node s n r.after) v r.answer) a
 
   refused : (r : Refusal) (y : held.Node) → NodeSim w a.map.epoch n y b → After (record { answer = wait_refused r; after = y })
   unfolding step.waited
@@ -147,7 +147,7 @@ module _ (w : World) (s : real.State) (a : State) (k : Sim w s a) (i : ℕ) (v :
         rows = wait_rows w n c.0 h.peers c.2.rows last now timeout;
       }
 
-      sim : Sim w (real.setNode s n (with_held x (h' ∷ []))) a
+      sim : Sim w (real.set_node s n (with_held x (h' ∷ []))) a
       sim =
           on-node w s a k n _
           (node-with w a.map.epoch n x b (k.nodes n) b h' y f
@@ -162,7 +162,7 @@ module _ (w : World) (s : real.State) (a : State) (k : Sim w s a) (i : ℕ) (v :
           }))
 
       abbrev s' : real.State
-      s' = real.setNode s n (with_held x (h' ∷ []))
+      s' = real.set_node s n (with_held x (h' ∷ []))
 
       peers : All (λ (d : DataNodeId). holds d.0 w.holders ≡ true) ps
       peers = holding w (to_shrink last now timeout) h.peers c.2.rows.holders
@@ -175,47 +175,47 @@ module _ (w : World) (s : real.State) (a : State) (k : Sim w s a) (i : ℕ) (v :
       more = suspects w v c.0 key c.3 ps peers s' a sim c.1 upto
 
       enough : every (has_acked v.offset) h.peers ≡ true → Gently w (step.waited s' v (done ps)) a
-      unfolding step.waited real.setWrites real.setOffers real.setNode proto.step proto.onAcknowledge proto.ackAs proto.ackLead proto.addAcknowledged
+      unfolding step.waited real.set_writes real.set_offers real.set_node proto.step proto.on_acknowledge proto.ack_as proto.ack_lead proto.add_acknowledged
       enough e =
           let at : nth a.accepted i ≡ some (accepted_of w v) =
           ap (λ (z : List proto.Accepted). nth z i) (sym k.accepted) ∙ nth-map (accepted_of w) s.accepted i v found in
-          let a' : State = proto.addAcknowledged a (acknowledged_of w v) in
+          let a' : State = proto.add_acknowledged a (acknowledged_of w v) in
           let moved : proto.step a (proto.waiting i) ≡ a' =
-          ap (proto.ackAs a) at ∙ ap (proto.ackLead a (accepted_of w v)) (lead-at b.role c.0 v.epoch c.1 c.3)
+          ap (proto.ack_as a) at ∙ ap (proto.ack_lead a (accepted_of w v)) (lead-at b.role c.0 v.epoch c.1 c.3)
           ∙ ap (λ (z : Bool). cond z a' a) (all-acked w n c.0 h.peers c.2.rows v.offset e) in
-          let r = suspects w v c.0 key c.3 ps peers (real.setWrites s' s.accepted (s.acknowledged ++ (v ∷ []))) a'
+          let r = suspects w v c.0 key c.3 ps peers (real.set_writes s' s.accepted (s.acknowledged ++ (v ∷ []))) a'
           (on_acknowledged w s' a sim v key) c.1 upto in
           then_gently w _ a (proto.waiting i) tt (subst (Gently w _) (sym moved) r)
 
     at_held : FormedNode (with_held x ((wait_held now timeout v.epoch v.offset h).after ∷ []))
-        → Gently w (step.waited (real.setNode s n (with_held x ((wait_held now timeout v.epoch v.offset h).after ∷ []))) v
+        → Gently w (step.waited (real.set_node s n (with_held x ((wait_held now timeout v.epoch v.offset h).after ∷ []))) v
         (wait_held now timeout v.epoch v.offset h).answer) a
     unfolding wait_held
     at_held =
         let P : Result WaitAnswer Held → Type 0 = λ r. FormedNode (with_held x (r.after ∷ []))
-        → Gently w (step.waited (real.setNode s n (with_held x (r.after ∷ []))) v r.answer) a in
+        → Gently w (step.waited (real.set_node s n (with_held x (r.after ∷ []))) v r.answer) a in
         by-test P (not (leads_at h.role v.epoch))
         (λ p f. refused _ (with_held x (h ∷ [])) (node-with w a.map.epoch n x b (k.nodes n) b h y f hs) f)
         (λ p f. let t = not_false (leads_at h.role v.epoch) p in
-        by-test (λ (z : WaitAnswer). Gently w (step.waited (real.setNode s n (with_held x (h' ∷ []))) v z) a) (every (has_acked v.offset) h.peers)
+        by-test (λ (z : WaitAnswer). Gently w (step.waited (real.set_node s n (with_held x (h' ∷ []))) v z) a) (every (has_acked v.offset) h.peers)
         (λ e. enough t f e) (λ e. more t f))
 
   waits : After (call_wait x now timeout v.key v.epoch v.offset)
-  unfolding call_wait wait_with client.onWait
+  unfolding call_wait wait_with client.on_wait
   waits =
       by-test After (late_time now or late_time timeout) (λ p. refused _ x (k.nodes n))
       (λ p. by-test After (not (well_formed_header x)) (λ q. refused _ x (k.nodes n))
       (λ q. at_key w a.map.epoch n x b (k.nodes n) After v.key (wait_refused unknown_shard) (wait_held now timeout v.epoch v.offset)
       (refused unknown_shard x (k.nodes n)) (λ y h e hs same. at_held y h hs)))
 
-  pub waited : Gently w (step.waitFor s now timeout (some v)) a
-  unfolding step.waitFor call_wait
+  pub waited : Gently w (step.wait_for s now timeout (some v)) a
+  unfolding step.wait_for call_wait
   waited = waits (wait_with_kept x (k.nodes n).formed (well_formed_header x) now timeout v.key v.epoch v.offset)
 
-pub on_wait_lem : (w : World) (s : real.State) (a : State) → Sim w s a → (i now timeout : ℕ) → Gently w (step.onWait s i now timeout) a
-unfolding step.onWait step.waitFor
+pub on_wait_lem : (w : World) (s : real.State) (a : State) → Sim w s a → (i now timeout : ℕ) → Gently w (step.on_wait s i now timeout) a
+unfolding step.on_wait step.wait_for
 on_wait_lem w s a k i now timeout = go (nth s.accepted i) refl
   where
-    go : (o : Option real.Write) → nth s.accepted i ≡ o → Gently w (step.waitFor s now timeout o) a
+    go : (o : Option real.Write) → nth s.accepted i ≡ o → Gently w (step.wait_for s now timeout o) a
     go none e = rests w _ a k
     go (some v) e = waited w s a k i v e now timeout

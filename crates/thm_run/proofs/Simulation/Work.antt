@@ -73,7 +73,7 @@ module _ (w : World) (s : real.State) (a : State) (k : Sim w s a) (n : ℕ) (key
   idle = rests w s a k
 
   abbrev request : List ℕ → real.Request
-  request bytes = record { sent = step.sentOf bytes; key = key; epoch = epoch; bytes = bytes }
+  request bytes = record { sent = step.sent_of bytes; key = key; epoch = epoch; bytes = bytes }
 
   module _ (h : Held) (is : x.held ≡ h ∷ []) (hs : HeldSim w top n h b) (same : key ≡ w.key) (l : Lead) (leading : b.role ≡ lead l)
       (c : LeadSim w top n h.role h.replica h.peers l) (now : l.epoch ≡ epoch) (mine : holds n w.holders ≡ true)
@@ -158,8 +158,8 @@ module _ (w : World) (s : real.State) (a : State) (k : Sim w s a) (n : ℕ) (key
 
         moved : proto.step a (proto.alignment n peer) ≡ proto.post a n peer (proto.align epoch l.end l.table)
         moved =
-            unfold proto.step in unfold proto.onAlign in unfold proto.alignAs in
-            ap (proto.alignAs a n peer) leading ∙ goes (eqb n peer) refl
+            unfold proto.step in unfold proto.on_align in unfold proto.align_as in
+            ap (proto.align_as a n peer) leading ∙ goes (eqb n peer) refl
             ∙ ap (λ (d : ℕ). proto.post a n peer (proto.align d l.end l.table)) now
 
         end : end_offset h.role ≡ l.end
@@ -191,14 +191,14 @@ module _ (w : World) (s : real.State) (a : State) (k : Sim w s a) (n : ℕ) (key
             )
 
         sim : AlignSim w peer (record {
-          sent = step.sentOf
+          sent = step.sent_of
               (encode_new_epoch aligning);
           key = key;
           epoch = epoch;
           bytes = encode_new_epoch aligning;
         }) epoch l.end l.table
         sim = record {
-          sent = unfold step.sentOf in unfold encode_new_epoch in refl;
+          sent = unfold step.sent_of in unfold encode_new_epoch in refl;
           key = same;
           epoch = refl;
           metric = metric;
@@ -226,11 +226,11 @@ module _ (w : World) (s : real.State) (a : State) (k : Sim w s a) (n : ℕ) (key
       ok = batch epoch upto es all-ready
 
       moved : (e : Entry) (r : Log) → es ≡ e ∷ r → proto.step a (proto.batch n peer first count) ≡ proto.post a n peer (proto.send epoch (e ∷ r))
-      unfolding proto.step proto.onSend proto.sendAs proto.sendBatch
+      unfolding proto.step proto.on_send proto.send_as proto.send_batch
       moved e r q =
-          ap (proto.sendAs a n peer first count) leading ∙ rw (ne, tied)
-          (ap (λ (v : ShardReplica). proto.sendBatch a n peer l.epoch (entries_from v.log first count)) (sym hs.replica)
-          ∙ ap (proto.sendBatch a n peer l.epoch) q
+          ap (proto.send_as a n peer first count) leading ∙ rw (ne, tied)
+          (ap (λ (v : ShardReplica). proto.send_batch a n peer l.epoch (entries_from v.log first count)) (sym hs.replica)
+          ∙ ap (proto.send_batch a n peer l.epoch) q
           ∙ ap (λ (d : ℕ). proto.post a n peer (proto.send d (e ∷ r))) now)
 
       abbrev copying : Log → message.Copied
@@ -238,7 +238,7 @@ module _ (w : World) (s : real.State) (a : State) (k : Sim w s a) (n : ℕ) (key
 
       -- several entries, or an older one alone
       copies-out : (e : Entry) (r : Log) → es ≡ e ∷ r → Named (written_in room (some (copy_of h.key epoch (e ∷ r))))
-      unfolding message_bytes step.sentOf encode_copy_shard
+      unfolding message_bytes step.sent_of encode_copy_shard
       copies-out e r q =
           let o : Batch epoch (e ∷ r) = subst (Batch epoch) q ok in
           let z : length (map wire_entry (e ∷ r)) ≤ max_batch =
@@ -275,7 +275,7 @@ module _ (w : World) (s : real.State) (a : State) (k : Sim w s a) (n : ℕ) (key
 
       -- one entry of the epoch itself
       goes_alone : (e : Entry) → es ≡ e ∷ [] → copies epoch e.epoch ≡ false → Named (written_in room (some (lone_of h.key epoch e)))
-      unfolding message_bytes step.sentOf encode_replicate
+      unfolding message_bytes step.sent_of encode_replicate
       goes_alone e q t =
           let o : Batch epoch (e ∷ []) = subst (Batch epoch) q ok in
           let rd : Ready epoch e = (subst (All (Ready epoch)) q all-ready).0 in
@@ -386,13 +386,13 @@ module _ (w : World) (s : real.State) (a : State) (k : Sim w s a) (n : ℕ) (key
       subst (λ (rs : List Replica). any (on_node peer) rs ≡ true) hs.holders (not_false (any (on_node peer) h.holders) u) in
       does h is hs same c.0 c.1 c.2 c.3 y z _ (steps h is hs same c.0 c.1 c.2 c.3 y z)))
 
-  pub worked : Gently w (step.onWork s n key epoch peer metric room) a
-  unfolding step.onWork call_request request_with request_of on_request on_step
+  pub worked : Gently w (step.on_work s n key epoch peer metric room) a
+  unfolding step.on_work call_request request_with request_of on_request on_step
   worked =
       by-test Goal (not (well_formed_lent x key)) (λ t. unfold step.posted in rests w s a k)
       (λ t. shard_cases w top n x b (k.nodes n) (λ o. Goal (written_in room (request_at epoch metric (step_at epoch peer o) o))) key idle
       (λ y h is hs same. at_held y h is hs same))
 
 pub on_work_lem : (w : World) (s : real.State) (a : State) → Sim w s a → (n : ℕ) (key : Key) (epoch peer : ℕ) (metric : Metric) (room : ℕ)
-    → Gently w (step.onWork s n key epoch peer metric room) a
+    → Gently w (step.on_work s n key epoch peer metric room) a
 on_work_lem w s a k n key epoch peer metric room = worked w s a k n key epoch peer metric room
