@@ -106,8 +106,12 @@ class Turner:
         laws = self.clear & mine
         modules = {it[1] for it in re.findall(r"(?m)^\s*use (Rattle\.\S+) as ([^\s;]+)", text) if it[0].rpartition(".")[2] not in ("Tie", "Reads", "Lts", "Goals", "Given")}
 
+        taken = {word for it in re.findall(r"(?m)^\s*use (?!Rattle\.(?!std\b|core\b))[^\s{]+\{([^}\n]*)\}", text) for word in re.split(r"[,\s]+", it)}
+
         def turn(m):
             word, at = m[0], m.start()
+            if word in taken:
+                return word
             if word in laws and not (at and text[at - 1] == "."):
                 return word + "_lem"
             if word not in self.new:

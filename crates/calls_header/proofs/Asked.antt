@@ -4,7 +4,7 @@ use mathlib.Core.Bool.{Bool, true, false, not}
 use mathlib.Core.Path.{◌≡◌, refl, sym, ◌∙◌}
 use mathlib.Core.List.{List}
 use lib.Dec.{ltb}
-use borrow.Author.Tests.{not_false}
+use borrow.Author.Tests.{not-false}
 use Rattle.spec.specs.Lists.{◌or◌}
 use Rattle.spec.specs.Limits.{max_name, max_time}
 use Rattle.spec.specs.Node.Calls.{late_time}
@@ -60,7 +60,7 @@ second_fails true b e = absurd (false_not_true (sym e))
 second_fails false b e = e
 
 pub name-fits : (name : List ℕ) (rest : Bool) → unread_name name rest ≡ false → text_fits max_name name ≡ true
-name-fits name rest e = not_false _ (first_fails (not (text_fits max_name name)) rest e)
+name-fits name rest e = not-false _ (first_fails (not (text_fits max_name name)) rest e)
 
 -- ---- what is not readable
 

@@ -8,7 +8,7 @@ use native.Mathlib.Omega.{arith}
 use lib.Dec.{ltb}
 use lib.ListN.{length, take, drop, get_or, length-take, length-drop}
 use lib.Seq.{sets, length-take-le, take-length, get_or-take, get_or-drop}
-use borrow.Author.Tests.{le-ltb, ltb-true, ltb-false, not_false}
+use borrow.Author.Tests.{le-ltb, ltb-true, ltb-false, not-false}
 use Rattle.spec.specs.Lists.{collect}
 use Rattle.spec.specs.Limits.{max_held, max_workers}
 use Rattle.spec.specs.Layout.Format.{number_at}
@@ -212,7 +212,7 @@ module _ (n : Node) (t : Collections) (row : ShardRow) where
     kept = get_or n.held at no_held_row
 
     key-at : at < n.count → view_key kept.key ≡ view_key row.key
-    key-at h = same_key_lem (view_key kept.key) (view_key row.key) (not_false _ (stop_at (other_key (view_key row.key)) no_held_row n.held n.count at le is h))
+    key-at h = same_key_lem (view_key kept.key) (view_key row.key) (not-false _ (stop_at (other_key (view_key row.key)) no_held_row n.held n.count at le is h))
 
     -- its slot: that of the same shard before, or none yet
     slot_held : at < n.count → (y : HeldRow) → y.slot ≡ kept.slot → view_key y.key ≡ view_key kept.key → SlotFrom n y

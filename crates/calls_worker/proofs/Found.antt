@@ -8,7 +8,7 @@ use native.Mathlib.Omega.{arith}
 use lib.Dec.{leb, ltb}
 use lib.ListN.{length, get_or, take}
 use lib.Seq.{take_all}
-use borrow.Author.Tests.{lt-leb, le-leb, lt-ltb, leb-true, leb-false, not_false}
+use borrow.Author.Tests.{lt-leb, le-leb, lt-ltb, leb-true, leb-false, not-false}
 use Rattle.spec.specs.Lists.{◌and◌}
 use Rattle.spec.specs.Keys.{Key, same_key}
 use Rattle.spec.specs.Log.{Log, epoch_ends, entries_from}
@@ -105,7 +105,7 @@ module _ (h s : List ℕ) (k : Key) (at : ℕ) (d : FoundIn h s k at) where
   own_key : view_key x.key ≡ k
   own_key =
       same_key_lem (view_key x.key) k
-      (not_false (same_key (view_key x.key) k) (stop_at (other_key k) no_held_row n.held n.count at d.found.inside d.found.is d.found.under))
+      (not-false (same_key (view_key x.key) k) (stop_at (other_key k) no_held_row n.held n.count at d.found.inside d.found.is d.found.under))
 
   -- ---- its store
 

@@ -8,7 +8,7 @@ use mathlib.Core.Option.{some}
 use native.Mathlib.Omega.{arith}
 use lib.Dec.{eqb, ltb}
 use lib.ListN.{length, get_or, length-map, get_or-map}
-use borrow.Author.Tests.{eqb-false, ltb-true, not_true}
+use borrow.Author.Tests.{eqb-false, ltb-true, not-true}
 use Rattle.spec.specs.Lists.{◌and◌, any, nth}
 use Rattle.spec.specs.Log.{Log, Vectors}
 use Rattle.spec.specs.Node.Held as held
@@ -48,9 +48,9 @@ unfolding slots_fit
 slots-one [] f i j h g e = absurd (omega arith)
 slots-one (x ∷ xs) f zero zero h g e = refl
 slots-one (x ∷ xs) f zero (suc j) h g e =
-    absurd (none-on x.slot xs j (not_true _ (and_left _ _ (and_right _ _ f))) (omega arith) (sym e))
+    absurd (none-on x.slot xs j (not-true _ (and_left _ _ (and_right _ _ f))) (omega arith) (sym e))
 slots-one (x ∷ xs) f (suc i) zero h g e =
-    absurd (none-on x.slot xs i (not_true _ (and_left _ _ (and_right _ _ f))) (omega arith) e)
+    absurd (none-on x.slot xs i (not-true _ (and_left _ _ (and_right _ _ f))) (omega arith) e)
 slots-one (x ∷ xs) f (suc i) (suc j) h g e = ap suc (slots-one xs (and_right _ _ (and_right _ _ f)) i j (omega arith) (omega arith) e)
 
 pub slot_at : (n : Node) (i : ℕ) → get_or (slots_of n) i 0 ≡ (get_or (used n) i no_held_row).slot

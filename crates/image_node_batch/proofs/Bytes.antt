@@ -4,7 +4,7 @@ use mathlib.Core.Path.{◌≡◌, refl, sym, ap, ◌∙◌}
 use mathlib.Core.Logic.{◌⊎◌}
 use mathlib.Core.List.{List, [], ◌∷◌, ◌++◌, map}
 use native.Mathlib.Omega.{arith}
-use native.Mathlib.Nat.{add_zero}
+use native.Mathlib.Nat.{add-zero}
 use lib.ListN.{length, get_or, drop, set, length-set, length-drop, drop_of_length-le}
 use lib.Seq.{sets, drop-append-le}
 use Rattle.spec.specs.Log.{Entry, Log, components}
@@ -51,7 +51,7 @@ entry_agree a b base i e j g =
 
 entries_snoc : (es : Log) (s : List ℕ) (base i : ℕ) (e : Entry) → entries_put s base i (es ++ (e ∷ [])) ≡ entry_put (entries_put s base i es) base (i + length es) e
 unfolding entries_put
-entries_snoc [] s base i e = ap (λ (k : ℕ). entry_put s base k e) (sym (add_zero i))
+entries_snoc [] s base i e = ap (λ (k : ℕ). entry_put s base k e) (sym (add-zero i))
 entries_snoc (x ∷ es) s base i e =
     let q : i + 1 + length es ≡ i + suc (length es) = omega arith in
     entries_snoc es (entry_put s base i x) base (i + 1) e ∙ ap (λ (k : ℕ). entry_put (entries_put (entry_put s base i x) base (i + 1) es) base k e) q

@@ -9,7 +9,7 @@ use borrow.Author.Tests.{lt-ltb, le-ltb, leb-true, leb-false}
 use lib.Dec.{leb, ltb}
 use native.Mathlib.Omega.{arith}
 use native.Mathlib.Numerals.{add-one}
-use native.Mathlib.Nat.{add_zero, sub-zero, add-suc, suc-add, mul-suc, mul-le-mul}
+use native.Mathlib.Nat.{add-zero, sub-zero, add-suc, suc-add, mul-suc, mul-le-mul}
 use Rattle.spec.specs.Lists.{◌and◌}
 use Rattle.spec.specs.Layout.Format.{bytes_of, number_at, concat_map}
 use Rattle.spec_laws.proofs.Wire.Tests.{and_true, and_false}
@@ -19,7 +19,7 @@ use Rattle.image_parts.specs.Shape.{byte, items, encode, in_use, rows_at, codes_
 -- ---- stores one after another
 
 pub sets-append : (l : List ℕ) (i : ℕ) (a b : List ℕ) → sets l i (a ++ b) ≡ sets (sets l i a) (i + length a) b
-sets-append l i [] b = rw add_zero
+sets-append l i [] b = rw add-zero
 sets-append l i (x ∷ a) b = sets-append (set l i x) (suc i) a b ∙ (rw (add-suc, suc-add))
 
 pub stored-then : {s t u : List ℕ} {at n m : ℕ} {a b : List ℕ} → Stored s t at a n → Stored t u (at + n) b m → Stored s u at (a ++ b) (n + m)

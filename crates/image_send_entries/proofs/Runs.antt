@@ -5,7 +5,7 @@ use mathlib.Core.Bool.{Bool, true, false, cond, not}
 use mathlib.Core.List.{List, [], ◌∷◌, ◌++◌, append_assoc}
 use native.Mathlib.Numerals.{add-one}
 use native.Mathlib.Omega.{arith}
-use borrow.Author.Tests.{eqb-true, eqb-false, eq-eqb, ne_eqb, ltb-true, ltb-false, not_true, not_false}
+use borrow.Author.Tests.{eqb-true, eqb-false, eq-eqb, ne_eqb, ltb-true, ltb-false, not-true, not-false}
 use lib.Dec.{eqb, ltb}
 use lib.ListN.{length, get_or, drop, drop_of_length-le}
 use lib.Seq.{sets, drop-cons}
@@ -100,14 +100,14 @@ module _ (s : List ℕ) (base n : ℕ) where
     unfolding entry_at
     on-place m e =
         ap epoch_ends (two-places m)
-        ∙ run_on (entry_at s base i) (entry_at s base (i + 1)) (drop (i + 1 + 1) log) (eqb-true _ _ (not_false _ e))
+        ∙ run_on (entry_at s base i) (entry_at s base (i + 1)) (drop (i + 1 + 1) log) (eqb-true _ _ (not-false _ e))
         ∙ ap epoch_ends (sym (from_place (i + 1) m))
 
     over_place : i + 1 < n → next ≡ true → pairs_from i ≡ pair (entry_at s base i) ∷ pairs_from (i + 1)
     unfolding entry_at
     over_place m e =
         ap epoch_ends (two-places m)
-        ∙ run_over (entry_at s base i) (entry_at s base (i + 1)) (drop (i + 1 + 1) log) (eqb-false _ _ (not_true _ e))
+        ∙ run_over (entry_at s base i) (entry_at s base (i + 1)) (drop (i + 1 + 1) log) (eqb-false _ _ (not-true _ e))
         ∙ ap (λ (l : Log). pair (entry_at s base i) ∷ epoch_ends l) (sym (from_place (i + 1) m))
 
     last-place : n ≤ i + 1 → pairs_from i ≡ pair (entry_at s base i) ∷ pairs_from (i + 1)

@@ -4,7 +4,7 @@ use mathlib.Core.Path.{◌≡◌, refl, sym, ap, ◌∙◌, subst}
 use mathlib.Core.Bool.{Bool, true, false, not}
 use mathlib.Core.List.{List, [], ◌∷◌, ◌++◌, map, append_assoc}
 use native.Mathlib.Omega.{arith}
-use native.Mathlib.Nat.{add_zero, mul-zero, mul-suc, mul_comm}
+use native.Mathlib.Nat.{add-zero, mul-zero, mul-suc, mul_comm}
 use borrow.Author.Tests.{eq-eqb, ne_eqb}
 use lib.Dec.{T, eqb}
 use lib.Ieee.{binary32}
@@ -59,7 +59,7 @@ patterns-back (suc n) s at b e =
 
 words-then : (n : ℕ) (s : List ℕ) (at : ℕ) → Bytes s → at + 4 * n ≤ length s → concat_map (bytes_of 4) (words 4 n s at) ++ drop (at + 4 * n) s ≡ drop at s
 unfolding words
-words-then zero s at b h = rw (mul-zero, add_zero)
+words-then zero s at b h = rw (mul-zero, add-zero)
 words-then (suc n) s at b h =
     let q : at + 4 * suc n ≡ at + 4 + 4 * n = omega (arith, mul-suc 4 n) in
     append_assoc (bytes_of 4 (number_at 4 s at)) (concat_map (bytes_of 4) (words 4 n s (at + 4))) (drop (at + 4 * suc n) s)

@@ -7,7 +7,7 @@ use mathlib.Core.Option.{Option}
 use native.Mathlib.Omega.{arith}
 use lib.Dec.{eqb}
 use lib.ListN.{length, take, get_or}
-use borrow.Author.Tests.{eq-eqb, not_true, not_false}
+use borrow.Author.Tests.{eq-eqb, not-true, not-false}
 use Rattle.spec.specs.Lists.{◌and◌, any, collect}
 use Rattle.spec.specs.Keys.{Key}
 use Rattle.spec.specs.Log.{Log, Vectors}
@@ -55,7 +55,7 @@ unfolding show.retained ◌and◌
 found-still rs p e = ap (with_member p) (go p.member (any (on_node p.node.0) rs) e)
   where
     go : (a b : Bool) → (a and not b) ≡ false → (a and b) ≡ a
-    go true b q = not_false b q
+    go true b q = not-false b q
     go false b q = refl
 
 none_first : {A : Type 0} (p : A → Bool) (x : A) (l : List A) → any p (x ∷ l) ≡ false → (p x ≡ false) × (any p l ≡ false)

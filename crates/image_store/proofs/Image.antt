@@ -6,7 +6,7 @@ use mathlib.Core.Bool.{Bool, true, cond}
 use mathlib.Core.Logic.{◌⊎◌, inl, inr, ⊎_elim}
 use mathlib.Core.List.{List, [], ◌∷◌, ◌++◌, map, append_assoc, append-nil}
 use native.Mathlib.Omega.{arith}
-use native.Mathlib.Nat.{add_zero, eq-or-lt_of_le}
+use native.Mathlib.Nat.{add-zero, eq-or-lt_of_le}
 use borrow.Author.Tests.{eq-eqb, leb-true}
 use lib.Dec.{eqb, leb}
 use lib.ListN.{length, get_or, take, drop, length-set, length-map, length-drop, take-append-drop}
@@ -70,7 +70,7 @@ log-put : (es : Log) (s : List ℕ) (base i : ℕ) → base + 174080 ≤ length 
     → ((k : ℕ) → k < i → well_formed_entry (entry_at s base k) ≡ true)
     → log_at (entries_put s base i es) base (i + length es) ≡ log_at s base i ++ es
 unfolding entries_put log_at
-log-put [] s base i room most fit well = rw add_zero (sym (append-nil (log_at s base i)))
+log-put [] s base i room most fit well = rw add-zero (sym (append-nil (log_at s base i)))
 log-put (e ∷ es) s base i room most fit well =
     let t = entry_put s base i e in
     let l = entry_length_lem s base i e in

@@ -5,7 +5,7 @@ use mathlib.Core.Bool.{Bool, true, cond}
 use mathlib.Core.List.{List, map}
 use native.Mathlib.Omega.{arith}
 use native.Mathlib.Numerals.{add-one}
-use native.Mathlib.Nat.{add_zero, mul-zero, mul-suc}
+use native.Mathlib.Nat.{add-zero, mul-zero, mul-suc}
 use lib.ListN.{length, get_or, take, set, length-map}
 use lib.Seq.{take-suc, take-suc-set, take_all}
 use Rattle.spec.specs.Layout.Format.{number_at}
@@ -22,7 +22,7 @@ words-length k (suc n) s at = ap suc (words-length k n s (at + k))
 pub words-at : (k n : ℕ) (s : List ℕ) (at i : ℕ) → i < n → get_or (words k n s at) i 0 ≡ number_at k s (at + k * i)
 unfolding words
 words-at k zero s at i h = absurd (omega arith)
-words-at k (suc n) s at zero h = rw (mul-zero, add_zero)
+words-at k (suc n) s at zero h = rw (mul-zero, add-zero)
 words-at k (suc n) s at (suc i) h =
     let q : at + k + k * i ≡ at + k * suc i = omega (arith, mul-suc k i) in
     words-at k n s (at + k) i (omega arith) ∙ ap (number_at k s) q

@@ -4,7 +4,7 @@ use mathlib.Core.Path.{◌≡◌, refl, sym, ap, ◌∙◌, subst}
 use mathlib.Core.List.{List, [], ◌∷◌, ◌++◌, append_assoc}
 use native.Mathlib.Omega.{arith}
 use native.Mathlib.Numerals.{add-one}
-use native.Mathlib.Nat.{add_zero}
+use native.Mathlib.Nat.{add-zero}
 use lib.ListN.{length, get_or, take, drop, set, length-append, length-drop, drop_of_length-le, take-append-drop}
 use lib.Seq.{sets, set_comm, set-get_or, drop-cons, take-suc, take_all, get_or-drop, set_split, split_at, length-take-le, length-sets}
 use Rattle.spec.specs.Layout.Format.{Bytes, bytes_of, number_at, concat_map}
@@ -18,7 +18,7 @@ use Rattle.image_store_append.specs.Put.{words_put}
 
 module _ {ℓ} {A : Type ℓ} where
   pub sets_join : (a b s : List A) (at : ℕ) → sets (sets s at a) (at + length a) b ≡ sets s at (a ++ b)
-  sets_join [] b s at = ap (λ (k : ℕ). sets s k b) (add_zero at)
+  sets_join [] b s at = ap (λ (k : ℕ). sets s k b) (add-zero at)
   sets_join (v ∷ a) b s at =
       let q : at + suc (length a) ≡ suc at + length a = omega arith in
       ap (λ (k : ℕ). sets (sets (set s at v) (suc at) a) k b) q ∙ sets_join a b (set s at v) (suc at)
@@ -31,7 +31,7 @@ module _ {ℓ} {A : Type ℓ} where
 
   -- in front of what is stored already
   pub sets-before : (a b s : List A) (at : ℕ) → sets (sets s (at + length a) b) at a ≡ sets s at (a ++ b)
-  sets-before [] b s at = ap (λ (k : ℕ). sets s k b) (add_zero at)
+  sets-before [] b s at = ap (λ (k : ℕ). sets s k b) (add-zero at)
   sets-before (v ∷ a) b s at =
       let q : at + suc (length a) ≡ suc at + length a = omega arith in
       ap (λ (l : List A). sets l (suc at) a)

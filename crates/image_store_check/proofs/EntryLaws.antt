@@ -4,7 +4,7 @@ use mathlib.Core.Path.{◌≡◌, refl, sym, ap, ◌∙◌, subst}
 use mathlib.Core.Bool.{Bool, true, false, cond}
 use mathlib.Core.List.{List, [], ◌∷◌}
 use native.Mathlib.Omega.{arith}
-use native.Mathlib.Nat.{mul_comm, mul-suc, mul-zero, add_zero}
+use native.Mathlib.Nat.{mul_comm, mul-suc, mul-zero, add-zero}
 use borrow.Author.Tests.{eqb-true, eqb-false, eq-eqb, ne_eqb, leb-true, le-leb}
 use lib.Dec.{eqb, leb}
 use lib.ListN.{length, get_or, take, drop}
@@ -37,7 +37,7 @@ module _ (p : ℕ → Bool) (k : ℕ) (s : List ℕ) where
 
   words-part : (n a m at : ℕ) → a + m ≤ n → every p (words k n s at) ≡ true → every p (words k m s (at + k * a)) ≡ true
   unfolding words
-  words-part n zero m at h e = rw (mul-zero, add_zero) (words-front n m at (omega arith) e)
+  words-part n zero m at h e = rw (mul-zero, add-zero) (words-front n m at (omega arith) e)
   words-part zero (suc a) m at h e = absurd (omega arith)
   words-part (suc n) (suc a) m at h e =
       let q : at + k + k * a ≡ at + k * suc a = omega (arith, mul-suc k a) in

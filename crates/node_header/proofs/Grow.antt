@@ -8,7 +8,7 @@ use native.Mathlib.Omega.{arith}
 use lib.Dec.{eqb, ltb}
 use lib.ListN.{length, take, get_or, length-map}
 use lib.Seq.{length-take-le, get_or-take}
-use borrow.Author.Tests.{eqb-true, eqb-false, ne_eqb, lt-ltb, ltb-true, ltb-false, not_true}
+use borrow.Author.Tests.{eqb-true, eqb-false, ne_eqb, lt-ltb, ltb-true, ltb-false, not-true}
 use Rattle.spec.specs.Lists.{◌and◌, any, find, lead, put}
 use Rattle.spec.specs.Limits.{max_held}
 use Rattle.spec.specs.Keys.{Key, key_below, same_key}
@@ -204,7 +204,7 @@ slots_in (y ∷ ys) (suc i) x a b e =
     let r = and_right (ltb y.slot max_held) (not (any (on_slot y.slot) ys) and slots_fit ys) f in
     slots_cons y (insert_at ys i x) (and_left (ltb y.slot max_held) (not (any (on_slot y.slot) ys) and slots_fit ys) f)
     (none_in (on_slot y.slot) ys i x (ne_eqb x.slot y.slot (λ z. eqb-false y.slot x.slot t.0 (sym z)))
-    (not_true _ (and_left (not (any (on_slot y.slot) ys)) (slots_fit ys) r)))
+    (not-true _ (and_left (not (any (on_slot y.slot) ys)) (slots_fit ys) r)))
     (slots_in ys i x a t.1 (and_right (not (any (on_slot y.slot) ys)) (slots_fit ys) r))
 
 -- ---- put in by its key

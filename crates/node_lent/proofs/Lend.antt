@@ -7,7 +7,7 @@ use native.Mathlib.Omega.{arith}
 use lib.Dec.{eqb, leb}
 use lib.ListN.{length, get_or, take, set}
 use lib.Seq.{take-set-lt, length-take-le, get_or-take}
-use borrow.Author.Tests.{eqb-true, eqb-false, eq-eqb, lt-ltb, le-ltb, le-leb, not_true}
+use borrow.Author.Tests.{eqb-true, eqb-false, eq-eqb, lt-ltb, le-ltb, le-leb, not-true}
 use Rattle.spec.specs.Lists.{◌and◌, any, lead}
 use Rattle.spec.specs.Keys.{Key}
 use Rattle.spec.specs.Log.{Log, Vectors}
@@ -146,11 +146,11 @@ module _ (s t : Stores) (slot : ℕ) (a b : LentStore) (c : Changes s t slot a b
   unfolding slots_fit
   apart-view [] at z h f e = absurd (omega arith)
   apart-view (x ∷ xs) zero z h f e =
-      let r = not_true _ (and_left _ _ (and_right _ _ f)) in
+      let r = not-true _ (and_left _ _ (and_right _ _ f)) in
       ap (λ (l : List held.Held). z ∷ l) (others-view xs (subst (λ (q : ℕ). any (on_slot q) xs ≡ false) e r))
   apart-view (x ∷ xs) (suc i) z h f e =
       let g = and_right _ _ f in
-      let r : any (on_slot x.slot) xs ≡ false = not_true _ (and_left _ _ g) in
+      let r : any (on_slot x.slot) xs ≡ false = not-true _ (and_left _ _ g) in
       let o : eqb x.slot slot ≡ false = not_eqb slot x.slot (subst (λ (q : ℕ). eqb q x.slot ≡ false) e (none-at x.slot xs i r (omega arith))) in
       ap (λ (y : held.Held). y ∷ set (map (view_held_row t) xs) i z) (other-view x o)
       ∙ ap (λ (l : List held.Held). view_held_row s x ∷ l) (apart-view xs i z (omega arith) (and_right _ _ g) e)

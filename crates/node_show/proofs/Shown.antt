@@ -7,7 +7,7 @@ use native.Mathlib.Omega.{arith}
 use lib.Dec.{eqb, ltb}
 use lib.ListN.{length, take, get_or, length-map, length-take, get_or-map, get_or-eq_default}
 use lib.Seq.{length-take-le, get_or-take}
-use borrow.Author.Tests.{eq-eqb, ne_eqb, lt-ltb, le-ltb, ltb-true, not_true}
+use borrow.Author.Tests.{eq-eqb, ne_eqb, lt-ltb, le-ltb, ltb-true, not-true}
 use Rattle.spec.specs.Lists.{◌and◌, ◌or◌, any, every, lead, rising}
 use Rattle.spec.specs.Limits.{max_held}
 use Rattle.spec.specs.Keys.{Key, key_below, same_key}
@@ -49,7 +49,7 @@ unfolding slots_fit
 slots-parts x xs e =
     let r = and_right (slot_in x) (not (any (on_slot x.slot) xs) and slots_fit xs) e in (
       and_left (slot_in x) (not (any (on_slot x.slot) xs) and slots_fit xs) e,
-      not_true _ (and_left (not (any (on_slot x.slot) xs)) (slots_fit xs) r),
+      not-true _ (and_left (not (any (on_slot x.slot) xs)) (slots_fit xs) r),
       and_right (not (any (on_slot x.slot) xs)) (slots_fit xs) r,
     )
 

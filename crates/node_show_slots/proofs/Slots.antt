@@ -7,7 +7,7 @@ use native.Mathlib.Omega.{arith}
 use lib.Dec.{eqb, leb, ltb}
 use lib.ListN.{length, take, drop, get_or, set, length-map, length-take, get_or-map}
 use lib.Seq.{length-take-le, get_or-take, take-set-lt}
-use borrow.Author.Tests.{eqb-true, eqb-false, ne_eqb, eq-eqb, lt-ltb, le-ltb, lt-leb, ltb-true, leb-false, not_true}
+use borrow.Author.Tests.{eqb-true, eqb-false, ne_eqb, eq-eqb, lt-ltb, le-ltb, lt-leb, ltb-true, leb-false, not-true}
 use Rattle.spec.specs.Lists.{◌and◌, ◌or◌, any, every}
 use Rattle.spec.specs.Limits.{max_held}
 use Rattle.spec_laws.proofs.Lists.{not_both, and_true, and_left, and_right}
@@ -85,7 +85,7 @@ open_cons x l f e =
 open_tail : (x : HeldRow) (l : List HeldRow) → slots_open (x ∷ l) ≡ true → (slot_in x ≡ true → any (on_slot x.slot) l ≡ false) × (slots_open l ≡ true)
 unfolding slots_open
 open_tail x l e = (
-  λ q. not_true _ (or_rest (leb max_held x.slot) (not (any (on_slot x.slot) l))
+  λ q. not-true _ (or_rest (leb max_held x.slot) (not (any (on_slot x.slot) l))
       (and_left (leb max_held x.slot or not (any (on_slot x.slot) l)) (slots_open l) e)
       (lt-leb max_held x.slot (ltb-true x.slot max_held q))),
   and_right (leb max_held x.slot or not (any (on_slot x.slot) l)) (slots_open l) e,

@@ -8,7 +8,7 @@ use mathlib.Core.Logic.{◌⊎◌, inl, inr}
 use mathlib.Core.List.{List, [], ◌∷◌}
 use mathlib.Core.Option.{Option, none, some}
 use lib.Dec.{ltb}
-use borrow.Author.Tests.{not_true, lt-ltb}
+use borrow.Author.Tests.{not-true, lt-ltb}
 use Rattle.spec.specs.Lists.{◌and◌, any, find, collect, rising}
 use Rattle.spec.specs.Keys.{Name}
 use Rattle.spec.specs.Map.Tables.{NodeInfo, Spec, Collection, Map}
@@ -70,7 +70,7 @@ module _ (m : Map) (spec : Spec) (i : NodeInfo) where
 
   matters_changes : matters m spec i ≡ true → then ≡ place m spec → ⊥
   unfolding matters loss_of
-  matters_changes e = placed-apart then (place m spec) (not_true _ (and_right i.alive _ e))
+  matters_changes e = placed-apart then (place m spec) (not-true _ (and_right i.alive _ e))
 
   changes_matters : i.alive ≡ true → (then ≡ place m spec → ⊥) → matters m spec i ≡ true
   unfolding matters loss_of

@@ -3,7 +3,7 @@ use Prim.Native.Nat.{ℕ, ◌*◌, ◌≤◌}
 use mathlib.Core.Path.{◌≡◌, refl, sym, ap}
 use mathlib.Core.Bool.{Bool, true, false, cond, not}
 use native.Mathlib.Omega.{arith}
-use borrow.Author.Tests.{leb-true, le-leb, eqb-true, eqb-false, eq-eqb, ne_eqb, not_true}
+use borrow.Author.Tests.{leb-true, le-leb, eqb-true, eqb-false, eq-eqb, ne_eqb, not-true}
 use lib.Dec.{leb, eqb}
 use Rattle.spec.specs.Lists.{◌and◌}
 use Rattle.spec_laws.proofs.Lists.{and_true, and_left, and_right}
@@ -36,7 +36,7 @@ sign_facts m s = go (eqb m 0) refl
     go true p e = let z = eqb-true m 0 p in (omega arith, omega arith)
     go false p e =
         let z = eqb-true m 1 (and_left _ _ e) in
-        let y = eqb-false s 0 (not_true _ (and_right (eqb m 1) _ e)) in
+        let y = eqb-false s 0 (not-true _ (and_right (eqb m 1) _ e)) in
         (omega arith, omega arith)
 
 facts_sign : (m s : ℕ) → m ≤ 1 → m ≤ s → sign_of m s ≡ true

@@ -5,7 +5,7 @@ use mathlib.Core.Path.{◌≡◌, refl}
 use mathlib.Core.Bool.{Bool, true, false, cond, not}
 use mathlib.Core.List.{List, [], ◌∷◌}
 use lib.Dec.{eqb}
-use borrow.Author.Tests.{eqb-true, eq-eqb, not_true}
+use borrow.Author.Tests.{eqb-true, eq-eqb, not-true}
 use Rattle.spec.specs.Lists.{any}
 use Rattle.spec.specs.Map.Change.{holds}
 use Rattle.spec.specs.declared.Replica.{Replica}
@@ -42,7 +42,7 @@ module _ (rs : List Replica) (n id : ℕ) where
 
   pub other-id : holds n rs ≡ false → proper_id rs n id ≡ true → holds id rs ≡ false
   unfolding proper_id
-  other-id h p = not_true (holds id rs) (rw h at p)
+  other-id h p = not-true (holds id rs) (rw h at p)
 
   -- an id that is no holder's serves any node but a holder
   pub apart : holds n rs ≡ false → holds id rs ≡ false → proper_id rs n id ≡ true

@@ -8,7 +8,7 @@ use mathlib.Core.List.{List, [], ◌∷◌, map}
 use mathlib.Core.Option.{Option, none, some}
 use native.Mathlib.Omega.{arith}
 use lib.Dec.{eqb, leb, ltb}
-use borrow.Author.Tests.{eqb-true, eq-eqb, le-leb, leb-true, leb-false, not_true}
+use borrow.Author.Tests.{eqb-true, eq-eqb, le-leb, leb-true, leb-false, not-true}
 use Rattle.spec.specs.Lists.{◌and◌, ◌or◌, any, find, filter, collect, put}
 use Rattle.spec.specs.Log.{Op, Entry, End, append, last_offset, store, store_all, adopted}
 use Rattle.spec.specs.Layout.Format.{All}
@@ -227,7 +227,7 @@ not_started k epoch metric old (q ∷ qs) e p i h = go (is_new old q) refl (not_
         other false u = unfold ◌and◌ in more
         other true u =
             not_both (any (of_node p) old) h
-            (subst (λ (z : ℕ). any (of_node z) old ≡ false) (eqb-true q.node.0 p u) (not_true (any (of_node q.node.0) old) n))
+            (subst (λ (z : ℕ). any (of_node z) old ≡ false) (eqb-true q.node.0 p u) (not-true (any (of_node q.node.0) old) n))
 
 module _ (f : Heard) (me : ℕ) (i : ShardInfo) where
   -- what is heard after workers were started

@@ -9,7 +9,7 @@ use mathlib.Core.Option.{Option, none, some}
 use native.Mathlib.Omega.{arith}
 use lib.Dec.{ltb}
 use lib.ListN.{length, length-map}
-use borrow.Author.Tests.{le-leb, not_false}
+use borrow.Author.Tests.{le-leb, not-false}
 use Rattle.spec.specs.Lists.{any, every, find}
 use Rattle.spec.specs.Keys.{Key}
 use Rattle.spec.specs.Layout.Format.{All}
@@ -108,7 +108,7 @@ module _ (v : Node) where
       → FormedNode (shown_with lent v fresh m).after
   unfolding shown_with
   shown-formed lent fresh m w x =
-      by-test (λ (r : Result ShownAnswer Node). FormedNode r.after) (not lent) (λ p. x) (λ p. map-kept v fresh m (w (not_false lent p)) x)
+      by-test (λ (r : Result ShownAnswer Node). FormedNode r.after) (not lent) (λ p. x) (λ p. map-kept v fresh m (w (not-false lent p)) x)
 
 -- ---- the tables
 

@@ -8,7 +8,7 @@ use mathlib.Core.Option.{some}
 use native.Mathlib.Omega.{arith}
 use lib.Dec.{eqb, leb, ltb}
 use lib.ListN.{length, get_or, length-map}
-use borrow.Author.Tests.{leb-true, eqb-false, not_true}
+use borrow.Author.Tests.{leb-true, eqb-false, not-true}
 use Rattle.spec.specs.Lists.{◌and◌, any, every, find, lead, put}
 use Rattle.spec.specs.Limits.{max_held}
 use Rattle.spec.specs.Keys.{Key, key_below, same_key}
@@ -112,7 +112,7 @@ module _ (st : Stores) (P Q : ℕ → Held → Type 0) where
   pairs-at k f [] fit h = absurd (omega arith)
   pairs-at k f (x ∷ xs) fit h =
       let t = and_right (ltb x.slot max_held) _ fit in
-      go (same_key (view_key x.key) k) h (not_true _ (and_left (not (any (on_slot x.slot) xs)) _ t))
+      go (same_key (view_key x.key) k) h (not-true _ (and_left (not (any (on_slot x.slot) xs)) _ t))
       (pairs-at k f xs (and_right (not (any (on_slot x.slot) xs)) _ t))
     where
       go : (b : Bool) → cond (not b) (suc (lead (other_key k) xs)) zero < suc (length xs) → any (on_slot x.slot) xs ≡ false

@@ -8,7 +8,7 @@ use lib.Seq.{sets, drop-cons, drop-length}
 use lib.Dec.{leb}
 use native.Mathlib.Omega.{arith}
 use native.Mathlib.Numerals.{add-one}
-use native.Mathlib.Nat.{add_zero, add-suc, suc-add, mul-zero, mul-suc}
+use native.Mathlib.Nat.{add-zero, add-suc, suc-add, mul-zero, mul-suc}
 use borrow.Author.Tests.{leb-true}
 use Rattle.spec.specs.Lists.{◌and◌}
 use Rattle.spec.specs.Layout.Format.{Format, Value, code, text, ◌▸◌, bytes_of, concat_map, encode, in_range}
@@ -20,7 +20,7 @@ use Rattle.wire_put.specs.Fields.{text_fits, count_fits, op_fits, op_size, op_by
 -- ---- stores one after another
 
 pub sets-append : (l : List ℕ) (i : ℕ) (a b : List ℕ) → sets l i (a ++ b) ≡ sets (sets l i a) (i + length a) b
-sets-append l i [] b = rw add_zero
+sets-append l i [] b = rw add-zero
 sets-append l i (x ∷ a) b = sets-append (set l i x) (suc i) a b ∙ (rw (add-suc, suc-add))
 
 pub sets_then : (l : List ℕ) (i j : ℕ) (a b : List ℕ) → j ≡ i + length a → sets (sets l i a) j b ≡ sets l i (a ++ b)
@@ -56,7 +56,7 @@ module _ (k : ℕ) (out₀ : List ℕ) (at : ℕ) (v : List ℕ) (out : List ℕ
       sym (ap (λ (j : ℕ). sets out (at + k * i) (concat_map (bytes_of k) (drop j v))) z ∙ (rw drop-length)) ∙ w.2
 
 pub words-none : (k : ℕ) (out : List ℕ) (at : ℕ) (v : List ℕ) → WordsTo k out at v out 0
-words-none k out at v = (zero-le, refl, rw (mul-zero, add_zero))
+words-none k out at v = (zero-le, refl, rw (mul-zero, add-zero))
 
 pub words_more : (k : ℕ) (out₀ : List ℕ) (at : ℕ) (v out new : List ℕ) (i : ℕ) → i < length v → length new ≡ length out
     → new ≡ sets out (at + k * i) (bytes_of k (get_or v i 0)) → WordsTo k out₀ at v out i → WordsTo k out₀ at v new (i + 1)

@@ -5,7 +5,7 @@ use mathlib.Core.Path.{◌≡◌, refl, sym, ◌∙◌, ap}
 use mathlib.Core.List.{List, [], ◌∷◌, ◌++◌}
 use Prim.Native.Nat.{ℕ, ◌+◌, ◌-◌, ◌*◌, ◌≤◌, ◌<◌}
 use lib.ListN.{length, get_or, take, drop, set}
-use borrow.Author.Tests.{not_true, not_false}
+use borrow.Author.Tests.{not-true, not-false}
 use types.Run.{miss}
 use Rattle.wire_read.proofs.Decoded.{request_decoded}
 use Rattle.map_request.proofs.Loads.{decoded_shows, missed_all, some_all}
@@ -30,22 +30,22 @@ same_length : tie.Need-same-length
 same_length c = search rules
 
 returns-2 : tie.Need-returns-2
-returns-2 c = let d = request_decoded c.before.before.before.before.before.before.before.before.before.before.before.args.request.now _ (sym c.before.before.before.before.before.before.decode.ensures ∙ c.before.before.before.before.message.given.1) in lent_not c.before.before.before.before.before.before.before.before.before.before.before.args.map.now c.before.before.before.before.before.before.before.before.before.before.before.args.request.now c.before.before.before.before.before.before.before.before.before.before.before.args.text.now c.before.before.before.before.before.before.before.before.before.before.before.args.answer.now d.read d.decoded (sym c.before.is-lent.ensures ∙ not_true _ c.if1.true)
+returns-2 c = let d = request_decoded c.before.before.before.before.before.before.before.before.before.before.before.args.request.now _ (sym c.before.before.before.before.before.before.decode.ensures ∙ c.before.before.before.before.message.given.1) in lent_not c.before.before.before.before.before.before.before.before.before.before.before.args.map.now c.before.before.before.before.before.before.before.before.before.before.before.args.request.now c.before.before.before.before.before.before.before.before.before.before.before.args.text.now c.before.before.before.before.before.before.before.before.before.before.before.args.answer.now d.read d.decoded (sym c.before.is-lent.ensures ∙ not-true _ c.if1.true)
 
 is-formed-requires : tie.Need-is-formed-requires
-is-formed-requires c κs = room c.before.before.before.before.before.before.before.before.before.before.before.before.args.map.now (sym c.before.before.is-lent.ensures ∙ not_false _ c.before.if1.false)
+is-formed-requires c κs = room c.before.before.before.before.before.before.before.before.before.before.before.before.args.map.now (sym c.before.before.is-lent.ensures ∙ not-false _ c.before.if1.false)
 
 same-length-2 : tie.Need-same-length-2
 same-length-2 c = search rules
 
 returns-3 : tie.Need-returns-3
-returns-3 c = let d = request_decoded c.before.before.before.before.before.before.before.before.before.before.before.before.before.before.args.request.now _ (sym c.before.before.before.before.before.before.before.before.before.decode.ensures ∙ c.before.before.before.before.before.before.before.message.given.1) in malformed_way c.before.before.before.before.before.before.before.before.before.before.before.before.before.before.args.map.now c.before.before.before.before.before.before.before.before.before.before.before.before.before.before.args.request.now c.before.before.before.before.before.before.before.before.before.before.before.before.before.before.args.text.now c.before.before.before.before.before.before.before.before.before.before.before.before.before.before.args.answer.now d.read d.decoded (sym c.before.before.before.before.is-lent.ensures ∙ not_false _ c.before.before.before.if1.false) (sym c.before.is-formed.ensures ∙ not_true _ c.if2.true)
+returns-3 c = let d = request_decoded c.before.before.before.before.before.before.before.before.before.before.before.before.before.before.args.request.now _ (sym c.before.before.before.before.before.before.before.before.before.decode.ensures ∙ c.before.before.before.before.before.before.before.message.given.1) in malformed_way c.before.before.before.before.before.before.before.before.before.before.before.before.before.before.args.map.now c.before.before.before.before.before.before.before.before.before.before.before.before.before.before.args.request.now c.before.before.before.before.before.before.before.before.before.before.before.before.before.before.args.text.now c.before.before.before.before.before.before.before.before.before.before.before.before.before.before.args.answer.now d.read d.decoded (sym c.before.before.before.before.is-lent.ensures ∙ not-false _ c.before.before.before.if1.false) (sym c.before.is-formed.ensures ∙ not-true _ c.if2.true)
 
 load-requires : tie.Need-load-requires
 load-requires c κs = (decoded_shows c.before.before.before.before.before.before.before.before.before.before.before.before.before.before.args.request.now _ (request_decoded c.before.before.before.before.before.before.before.before.before.before.before.before.before.before.args.request.now _ (sym c.before.before.before.before.before.before.before.before.before.decode.ensures ∙ c.before.before.before.before.before.before.before.message.given.1))).held
 
 settle-in-words-requires : tie.Need-settle-in-words-requires
-settle-in-words-requires c κs = ready_for c.before.before.before.before.before.before.before.before.before.before.before.before.before.before.before.before.before.before.args.map.now c.before.before.before.before.before.before.before.before.before.before.before.before.before.before.before.before.before.before.args.request.now c.before.before.before.load.result (record { given = sym c.before.before.before.before.before.before.before.before.is-lent.ensures ∙ not_false _ c.before.before.before.before.before.before.before.if1.false; formed = sym c.before.before.before.before.before.is-formed.ensures ∙ not_false _ c.before.before.before.before.if2.false; loaded = some_all c.before.before.before.before.before.before.before.before.before.before.before.before.before.before.before.before.before.before.args.request.now _ (sym c.before.before.before.before.before.before.before.before.before.before.before.before.before.decode.ensures ∙ c.before.before.before.before.before.before.before.before.before.before.before.message.given.1) c.before.before.before.load.result c.before.before.before.load.ensures })
+settle-in-words-requires c κs = ready_for c.before.before.before.before.before.before.before.before.before.before.before.before.before.before.before.before.before.before.args.map.now c.before.before.before.before.before.before.before.before.before.before.before.before.before.before.before.before.before.before.args.request.now c.before.before.before.load.result (record { given = sym c.before.before.before.before.before.before.before.before.is-lent.ensures ∙ not-false _ c.before.before.before.before.before.before.before.if1.false; formed = sym c.before.before.before.before.before.is-formed.ensures ∙ not-false _ c.before.before.before.before.if2.false; loaded = some_all c.before.before.before.before.before.before.before.before.before.before.before.before.before.before.before.before.before.before.args.request.now _ (sym c.before.before.before.before.before.before.before.before.before.before.before.before.before.decode.ensures ∙ c.before.before.before.before.before.before.before.before.before.before.before.message.given.1) c.before.before.before.load.result c.before.before.before.load.ensures })
 
 same-length-3 : tie.Need-same-length-3
 same-length-3 c = search rules
@@ -57,7 +57,7 @@ same-length-5 : tie.Need-same-length-5
 same-length-5 c = search rules
 
 returns-4 : tie.Need-returns-4
-returns-4 c = settled_in_words c.before.before.before.before.before.before.before.before.before.before.before.before.before.before.before.before.before.before.before.before.before.before.before.before.before.args.map.now c.before.before.before.before.before.before.before.before.before.before.before.before.before.before.before.before.before.before.before.before.before.before.before.before.before.args.request.now c.before.before.before.before.before.before.before.before.before.before.before.before.before.before.before.before.before.before.before.before.before.before.before.before.before.args.text.now c.before.before.before.before.before.before.before.before.before.before.before.before.before.before.before.before.before.before.before.before.before.before.before.before.before.args.answer.now c.before.before.before.before.before.before.before.before.before.before.load.result (record { given = sym c.before.before.before.before.before.before.before.before.before.before.before.before.before.before.before.is-lent.ensures ∙ not_false _ c.before.before.before.before.before.before.before.before.before.before.before.before.before.before.if1.false; formed = sym c.before.before.before.before.before.before.before.before.before.before.before.before.is-formed.ensures ∙ not_false _ c.before.before.before.before.before.before.before.before.before.before.before.if2.false; loaded = some_all c.before.before.before.before.before.before.before.before.before.before.before.before.before.before.before.before.before.before.before.before.before.before.before.before.before.args.request.now _ (sym c.before.before.before.before.before.before.before.before.before.before.before.before.before.before.before.before.before.before.before.before.decode.ensures ∙ c.before.before.before.before.before.before.before.before.before.before.before.before.before.before.before.before.before.before.message.given.1) c.before.before.before.before.before.before.before.before.before.before.load.result c.before.before.before.before.before.before.before.before.before.before.load.ensures }) _ _ _ _ c.before.before.before.before.before.before.settle-in-words.ensures
+returns-4 c = settled_in_words c.before.before.before.before.before.before.before.before.before.before.before.before.before.before.before.before.before.before.before.before.before.before.before.before.before.args.map.now c.before.before.before.before.before.before.before.before.before.before.before.before.before.before.before.before.before.before.before.before.before.before.before.before.before.args.request.now c.before.before.before.before.before.before.before.before.before.before.before.before.before.before.before.before.before.before.before.before.before.before.before.before.before.args.text.now c.before.before.before.before.before.before.before.before.before.before.before.before.before.before.before.before.before.before.before.before.before.before.before.before.before.args.answer.now c.before.before.before.before.before.before.before.before.before.before.load.result (record { given = sym c.before.before.before.before.before.before.before.before.before.before.before.before.before.before.before.is-lent.ensures ∙ not-false _ c.before.before.before.before.before.before.before.before.before.before.before.before.before.before.if1.false; formed = sym c.before.before.before.before.before.before.before.before.before.before.before.before.is-formed.ensures ∙ not-false _ c.before.before.before.before.before.before.before.before.before.before.before.if2.false; loaded = some_all c.before.before.before.before.before.before.before.before.before.before.before.before.before.before.before.before.before.before.before.before.before.before.before.before.before.args.request.now _ (sym c.before.before.before.before.before.before.before.before.before.before.before.before.before.before.before.before.before.before.before.before.decode.ensures ∙ c.before.before.before.before.before.before.before.before.before.before.before.before.before.before.before.before.before.before.message.given.1) c.before.before.before.before.before.before.before.before.before.before.load.result c.before.before.before.before.before.before.before.before.before.before.load.ensures }) _ _ _ _ c.before.before.before.before.before.before.settle-in-words.ensures
 
 pub apply-words-spec : {M : Type 1} → statement M
 apply-words-spec = tie.close (tie.spec decode-requires enum-known-message returns is-lent-requires same_length returns-2 is-formed-requires same-length-2 returns-3 load-requires settle-in-words-requires same-length-3 same-length-4 same-length-5 returns-4)

@@ -4,7 +4,7 @@ use native.Mathlib.Omega.{arith}
 use mathlib.Core.Path.{◌≡◌, refl, sym, ◌∙◌}
 use Prim.Native.Nat.{◌-◌}
 use mathlib.Core.Bool.{true}
-use borrow.Author.Tests.{not_true, not_false, ltb-false}
+use borrow.Author.Tests.{not-true, not-false, ltb-false}
 use Rattle.spec.specs.Limits.{max_time}
 use Rattle.spec.specs.Layout.Format.{number_at}
 use Rattle.spec.specs.Node.Calls as calls
@@ -31,10 +31,10 @@ same_length : tie.Need-same-length
 same_length c = search rules
 
 returns-2 : tie.Need-returns-2
-returns-2 c = asked_malformed (sym c.before.before.before.before.late.ensures ∙ c.before.before.before.if1.false) (sym c.before.is-lent.ensures ∙ not_true _ c.if2.true) refl refl
+returns-2 c = asked_malformed (sym c.before.before.before.before.late.ensures ∙ c.before.before.before.if1.false) (sym c.before.is-lent.ensures ∙ not-true _ c.if2.true) refl refl
 
 is-formed-requires : tie.Need-is-formed-requires
-is-formed-requires c κs = lent_long c.before.before.before.before.before.before.before.args.header.now (sym c.before.before.is-lent.ensures ∙ not_false _ c.before.if2.false)
+is-formed-requires c κs = lent_long c.before.before.before.before.before.before.before.args.header.now (sym c.before.before.is-lent.ensures ∙ not-false _ c.before.if2.false)
 
 same-length-2 : tie.Need-same-length-2
 same-length-2 c = search rules
@@ -44,20 +44,20 @@ returns-3 c =
     let a = c.before.before.before.before.before.before.before.before.before.args in
     let s = a.header.now in
     let u = sym c.before.before.before.before.before.before.before.late.ensures ∙ c.before.before.before.before.before.before.if1.false in
-    let lent : header_lent s ≡ true = sym c.before.before.before.before.is-lent.ensures ∙ not_false _ c.before.before.before.if2.false in
-    asked-called u lent (granted_not s lent a.incarnation a.sent a.lease (first_fails (calls.late_time a.sent) (calls.late_time a.lease) u) (second_fails (calls.late_time a.sent) (calls.late_time a.lease) u) (sym c.before.is-formed.ensures ∙ not_true _ c.if3.true))
+    let lent : header_lent s ≡ true = sym c.before.before.before.before.is-lent.ensures ∙ not-false _ c.before.before.before.if2.false in
+    asked-called u lent (granted_not s lent a.incarnation a.sent a.lease (first_fails (calls.late_time a.sent) (calls.late_time a.lease) u) (second_fails (calls.late_time a.sent) (calls.late_time a.lease) u) (sym c.before.is-formed.ensures ∙ not-true _ c.if3.true))
 
 get8-requires : tie.Need-get8-requires
-get8-requires c κs = let l = lent_long c.before.before.before.before.before.before.before.before.before.before.args.header.now (sym c.before.before.before.before.before.is-lent.ensures ∙ not_false _ c.before.before.before.before.if2.false) in omega arith
+get8-requires c κs = let l = lent_long c.before.before.before.before.before.before.before.before.before.before.args.header.now (sym c.before.before.before.before.before.is-lent.ensures ∙ not-false _ c.before.before.before.before.if2.false) in omega arith
 
 get8-requires-2 : tie.Need-get8-requires-2
-get8-requires-2 c κs = let l = lent_long c.before.before.before.before.before.before.before.before.before.before.before.before.args.header.now (sym c.before.before.before.before.before.before.before.is-lent.ensures ∙ not_false _ c.before.before.before.before.before.before.if2.false) in omega arith
+get8-requires-2 c κs = let l = lent_long c.before.before.before.before.before.before.before.before.before.before.before.before.args.header.now (sym c.before.before.before.before.before.before.before.is-lent.ensures ∙ not-false _ c.before.before.before.before.before.before.if2.false) in omega arith
 
 get4-requires : tie.Need-get4-requires
-get4-requires c κs = let l = lent_long c.before.before.before.before.before.before.before.before.before.before.before.before.before.before.args.header.now (sym c.before.before.before.before.before.before.before.before.before.is-lent.ensures ∙ not_false _ c.before.before.before.before.before.before.before.before.if2.false) in omega arith
+get4-requires c κs = let l = lent_long c.before.before.before.before.before.before.before.before.before.before.before.before.before.before.args.header.now (sym c.before.before.before.before.before.before.before.before.before.is-lent.ensures ∙ not-false _ c.before.before.before.before.before.before.before.before.if2.false) in omega arith
 
 get8-requires-3 : tie.Need-get8-requires-3
-get8-requires-3 c κs = let l = lent_long c.before.before.before.before.before.before.before.before.before.before.before.before.before.before.before.before.args.header.now (sym c.before.before.before.before.before.before.before.before.before.before.before.is-lent.ensures ∙ not_false _ c.before.before.before.before.before.before.before.before.before.before.if2.false) in omega arith
+get8-requires-3 c κs = let l = lent_long c.before.before.before.before.before.before.before.before.before.before.before.before.before.before.before.before.args.header.now (sym c.before.before.before.before.before.before.before.before.before.before.before.is-lent.ensures ∙ not-false _ c.before.before.before.before.before.before.before.before.before.before.if2.false) in omega arith
 
 expiry-of-requires : tie.Need-expiry-of-requires
 expiry-of-requires c κs = search rules
@@ -79,8 +79,8 @@ put-end-requires : tie.Need-put-end-requires
 put-end-requires c κs =
     let the-expiry-code = c.before.before.expiry-code in
     let s = c.before.before.before.before.before.before.before.before.before.before.before.before.before.before.before.before.before.before.before.before.before.before.args.header.now in
-    let l = lent_long s (sym c.before.before.before.before.before.before.before.before.before.before.before.before.before.before.before.before.before.is-lent.ensures ∙ not_false _ c.before.before.before.before.before.before.before.before.before.before.before.before.before.before.before.before.if2.false) in
-    let few = header-few (node_at s) (sym c.before.before.before.before.before.before.before.before.before.before.before.before.before.before.is-formed.ensures ∙ not_false _ c.before.before.before.before.before.before.before.before.before.before.before.before.before.if3.false) in
+    let l = lent_long s (sym c.before.before.before.before.before.before.before.before.before.before.before.before.before.before.before.before.before.is-lent.ensures ∙ not-false _ c.before.before.before.before.before.before.before.before.before.before.before.before.before.before.before.before.if2.false) in
+    let few = header-few (node_at s) (sym c.before.before.before.before.before.before.before.before.before.before.before.before.before.before.is-formed.ensures ∙ not-false _ c.before.before.before.before.before.before.before.before.before.before.before.before.before.if3.false) in
     let k = counted s in
     let e = c.before.before.before.before.before.before.before.before.before.before.before.get8.ensures in
     ((l, omega arith, sym e), end_of c.before.before.before.grant.result the-expiry-code.result c.before.expiry-time.result the-expiry-code.ensures c.before.expiry-time.ensures)
@@ -98,9 +98,9 @@ returns-4 c =
     let the-expiry-time = c.before.before.before.before.expiry-time in
     let s = a.header.now in
     let u = sym c.before.before.before.before.before.before.before.before.before.before.before.before.before.before.before.before.before.before.before.before.before.before.before.late.ensures ∙ c.before.before.before.before.before.before.before.before.before.before.before.before.before.before.before.before.before.before.before.before.before.before.if1.false in
-    let lent : header_lent s ≡ true = sym c.before.before.before.before.before.before.before.before.before.before.before.before.before.before.before.before.before.before.before.before.is-lent.ensures ∙ not_false _ c.before.before.before.before.before.before.before.before.before.before.before.before.before.before.before.before.before.before.before.if2.false in
+    let lent : header_lent s ≡ true = sym c.before.before.before.before.before.before.before.before.before.before.before.before.before.before.before.before.before.before.before.before.is-lent.ensures ∙ not-false _ c.before.before.before.before.before.before.before.before.before.before.before.before.before.before.before.before.before.before.before.if2.false in
     let last : the-expiry-of.result ≡ expiry_of (number_at 4 s 36) (number_at 8 s 40) = the-expiry-of.ensures ∙ (rw (c.before.before.before.before.before.before.before.before.before.before.get4.ensures, c.before.before.before.before.before.before.before.before.get83.ensures)) in
-    asked-called u lent (granted_so s lent a.incarnation a.sent a.lease (first_fails (calls.late_time a.sent) (calls.late_time a.lease) u) (second_fails (calls.late_time a.sent) (calls.late_time a.lease) u) (sym c.before.before.before.before.before.before.before.before.before.before.before.before.before.before.before.before.before.is-formed.ensures ∙ not_false _ c.before.before.before.before.before.before.before.before.before.before.before.before.before.before.before.before.if3.false) the-get82.result the-expiry-of.result the-grant.result the-get82.ensures last the-grant.ensures the-expiry-code.result the-expiry-time.result the-expiry-code.ensures the-expiry-time.ensures _ c.before.before.put-end.ensures)
+    asked-called u lent (granted_so s lent a.incarnation a.sent a.lease (first_fails (calls.late_time a.sent) (calls.late_time a.lease) u) (second_fails (calls.late_time a.sent) (calls.late_time a.lease) u) (sym c.before.before.before.before.before.before.before.before.before.before.before.before.before.before.before.before.before.is-formed.ensures ∙ not-false _ c.before.before.before.before.before.before.before.before.before.before.before.before.before.before.before.before.if3.false) the-get82.result the-expiry-of.result the-grant.result the-get82.ensures last the-grant.ensures the-expiry-code.result the-expiry-time.result the-expiry-code.ensures the-expiry-time.ensures _ c.before.before.put-end.ensures)
 
 pub grant-spec : {M : Type 1} → statement M
 grant-spec = tie.close (tie.spec late-requires returns is-lent-requires same_length returns-2 is-formed-requires same-length-2 returns-3 get8-requires get8-requires-2 get4-requires get8-requires-3 expiry-of-requires grant-requires expiry-code-requires expiry-time-requires put-end-requires same-length-3 returns-4)

@@ -5,7 +5,7 @@ use mathlib.Core.Path.{◌≡◌, refl, sym, ◌∙◌, ap}
 use mathlib.Core.List.{List, [], ◌∷◌, ◌++◌}
 use Prim.Native.Nat.{ℕ, ◌+◌, ◌-◌, ◌*◌, ◌≤◌, ◌<◌}
 use lib.ListN.{length, get_or, take, drop, set}
-use borrow.Author.Tests.{not_true, not_false, lt-ltb, le-ltb}
+use borrow.Author.Tests.{not-true, not-false, lt-ltb, le-ltb}
 use types.Run.{miss}
 use lib.Seq.{length-take-le}
 use Rattle.log_arrive.proofs.Messages.{search_there}
@@ -39,10 +39,10 @@ read-query-requires : tie.Need-read-query-requires
 read-query-requires c κs = let a = c.before.before.before.before.before.before.before.before.before.before.before.before.before.args in let i = sym c.before.before.before.before.before.decode.ensures ∙ c.before.before.before.p.given.1 in (search_there a.message.now _ i, refl)
 
 returns-3 : tie.Need-returns-3
-returns-3 c = let a = c.before.before.before.before.before.before.before.before.before.before.before.before.before.before.before.before.args in let i = sym c.before.before.before.before.before.before.before.before.decode.ensures ∙ c.before.before.before.before.before.before.p.given.1 in bytes_outside a.header.now a.stores.now a.refused.now a.clock a.message.now a.hits.now a.answer.now (le-ltb 4611686018427387904 a.clock (omega (arith, c.before.before.before.before.before.before.before.before.before.if1.false))) _ i c.before.before.read-query.result c.before.before.read-query.ensures.tested (not_true _ c.if2.true)
+returns-3 c = let a = c.before.before.before.before.before.before.before.before.before.before.before.before.before.before.before.before.args in let i = sym c.before.before.before.before.before.before.before.before.decode.ensures ∙ c.before.before.before.before.before.before.p.given.1 in bytes_outside a.header.now a.stores.now a.refused.now a.clock a.message.now a.hits.now a.answer.now (le-ltb 4611686018427387904 a.clock (omega (arith, c.before.before.before.before.before.before.before.before.before.if1.false))) _ i c.before.before.read-query.result c.before.before.read-query.ensures.tested (not-true _ c.if2.true)
 
 returns-4 : tie.Need-returns-4
-returns-4 c = let a = c.before.before.before.before.before.before.before.before.before.before.before.before.before.before.before.before.before.args in let i = sym c.before.before.before.before.before.before.before.before.before.decode.ensures ∙ c.before.before.before.before.before.before.before.p.given.1 in bytes_uncounted a.header.now a.stores.now a.refused.now a.clock a.message.now a.hits.now a.answer.now (le-ltb 4611686018427387904 a.clock (omega (arith, c.before.before.before.before.before.before.before.before.before.before.if1.false))) _ i c.before.before.before.read-query.result c.before.before.before.read-query.ensures.tested (not_false _ c.before.if2.false) c.if3.true
+returns-4 c = let a = c.before.before.before.before.before.before.before.before.before.before.before.before.before.before.before.before.before.args in let i = sym c.before.before.before.before.before.before.before.before.before.decode.ensures ∙ c.before.before.before.before.before.before.before.p.given.1 in bytes_uncounted a.header.now a.stores.now a.refused.now a.clock a.message.now a.hits.now a.answer.now (le-ltb 4611686018427387904 a.clock (omega (arith, c.before.before.before.before.before.before.before.before.before.before.if1.false))) _ i c.before.before.before.read-query.result c.before.before.before.read-query.ensures.tested (not-false _ c.before.if2.false) c.if3.true
 
 key-of-requires : tie.Need-key-of-requires
 key-of-requires c κs = let a = c.before.before.before.before.before.before.before.before.before.before.before.before.before.before.before.before.before.before.args in let i = sym c.before.before.before.before.before.before.before.before.before.before.decode.ensures ∙ c.before.before.before.before.before.before.before.before.p.given.1 in search_key_there a.message.now _ i
@@ -55,7 +55,7 @@ slice-aggregate-search-named c = let a = c.before.before.before.before.before.be
 
 search-named-requires : tie.Need-search-named-requires
 search-named-requires c κs = let a = c.before.before.before.before.before.before.before.before.before.before.before.before.before.before.before.before.before.before.before.before.before.before.before.args in let i = sym c.before.before.before.before.before.before.before.before.before.before.before.before.before.before.before.decode.ensures ∙ c.before.before.before.before.before.before.before.before.before.before.before.before.before.p.given.1 in
-    message-query (node_at a.header.now) no_lent_store a.message.now a.clock (fresh_hits 0) c.before.before.before.before.before.before.before.before.before.before.before.before.before.before.before.before.if1.false _ i c.before.before.before.before.before.before.before.before.before.read-query.result _ c.before.before.before.before.before.before.before.before.before.read-query.ensures (not_false _ c.before.before.before.before.before.before.before.if2.false)
+    message-query (node_at a.header.now) no_lent_store a.message.now a.clock (fresh_hits 0) c.before.before.before.before.before.before.before.before.before.before.before.before.before.before.before.before.if1.false _ i c.before.before.before.before.before.before.before.before.before.read-query.result _ c.before.before.before.before.before.before.before.before.before.read-query.ensures (not-false _ c.before.before.before.before.before.before.before.if2.false)
 
 same_length : tie.Need-same-length
 same_length c = search rules
@@ -65,8 +65,8 @@ same-length-2 c = search rules
 
 returns-5 : tie.Need-returns-5
 returns-5 c = let a = c.before.before.before.before.before.before.before.before.before.before.before.before.before.before.before.before.before.before.before.before.before.before.before.before.before.before.before.before.args in let i = sym c.before.before.before.before.before.before.before.before.before.before.before.before.before.before.before.before.before.before.before.before.decode.ensures ∙ c.before.before.before.before.before.before.before.before.before.before.before.before.before.before.before.before.before.before.p.given.1 in
-    bytes-named a.header.now a.stores.now a.refused.now a.clock a.message.now a.hits.now a.answer.now (le-ltb 4611686018427387904 a.clock (omega (arith, c.before.before.before.before.before.before.before.before.before.before.before.before.before.before.before.before.before.before.before.before.before.if1.false))) _ i c.before.before.before.before.before.before.before.before.before.before.before.before.before.before.read-query.result c.before.before.before.before.before.before.before.before.before.before.before.before.before.before.read-query.ensures.tested (not_false _ c.before.before.before.before.before.before.before.before.before.before.before.before.if2.false) c.before.before.before.before.before.before.before.before.before.before.before.if3.false _ c.before.before.before.before.before.before.before.before.before.key_of.ensures _
-    (message_served a.header.now a.stores.now a.clock a.message.now a.hits.now a.answer.now c.before.before.before.before.before.before.before.before.before.before.before.before.before.before.before.before.before.before.before.before.before.if1.false _ i c.before.before.before.before.before.before.before.before.before.before.before.before.before.before.read-query.result _ c.before.before.before.before.before.before.before.before.before.before.before.before.before.before.read-query.ensures (not_false _ c.before.before.before.before.before.before.before.before.before.before.before.before.if2.false) _ c.before.before.before.before.before.before.before.before.before.key_of.ensures _ c.before.before.before.before.search-named.ensures)
+    bytes-named a.header.now a.stores.now a.refused.now a.clock a.message.now a.hits.now a.answer.now (le-ltb 4611686018427387904 a.clock (omega (arith, c.before.before.before.before.before.before.before.before.before.before.before.before.before.before.before.before.before.before.before.before.before.if1.false))) _ i c.before.before.before.before.before.before.before.before.before.before.before.before.before.before.read-query.result c.before.before.before.before.before.before.before.before.before.before.before.before.before.before.read-query.ensures.tested (not-false _ c.before.before.before.before.before.before.before.before.before.before.before.before.if2.false) c.before.before.before.before.before.before.before.before.before.before.before.if3.false _ c.before.before.before.before.before.before.before.before.before.key_of.ensures _
+    (message_served a.header.now a.stores.now a.clock a.message.now a.hits.now a.answer.now c.before.before.before.before.before.before.before.before.before.before.before.before.before.before.before.before.before.before.before.before.before.if1.false _ i c.before.before.before.before.before.before.before.before.before.before.before.before.before.before.read-query.result _ c.before.before.before.before.before.before.before.before.before.before.before.before.before.before.read-query.ensures (not-false _ c.before.before.before.before.before.before.before.before.before.before.before.before.if2.false) _ c.before.before.before.before.before.before.before.before.before.key_of.ensures _ c.before.before.before.before.search-named.ensures)
 
 pub search-message-spec : {M : Type 1} → statement M
 search-message-spec = tie.close (tie.spec returns decode-requires enum-known-p returns-2 slice-aggregate-read-query read-query-requires returns-3 returns-4 key-of-requires array-share-prefix-query slice-aggregate-search-named search-named-requires same_length same-length-2 returns-5)

@@ -4,7 +4,7 @@ use native.Mathlib.Omega.{arith}
 use mathlib.Core.Path.{◌≡◌, refl, sym, ◌∙◌, ap}
 use Prim.Native.Nat.{ℕ, ◌+◌, ◌-◌, ◌*◌, ◌≤◌, ◌<◌}
 use native.Mathlib.Nat.{sub-zero}
-use borrow.Author.Tests.{not_true, not_false}
+use borrow.Author.Tests.{not-true, not-false}
 use Rattle.image_parts.specs.Shape.{codes_below}
 use Rattle.image_header.specs.Image.{flags_listed}
 use Rattle.image_header.proofs.Flags.{flags_on, flags_stop, flags_end}
@@ -44,7 +44,7 @@ returns c =
     let a = c.before.before.before.before.before.before.args in
     let at = 48 + 1280 * l.i in
     let h : l.i < a.n = omega arith in
-    let k = ap (λ (m : ℕ). codes_below 16 32 a.s.now m (at + 280)) (sym c.before.before.count_at.ensures.0) ∙ sym c.before.codes-below.ensures ∙ not_true _ c.if1.true in
+    let k = ap (λ (m : ℕ). codes_below 16 32 a.s.now m (at + 280)) (sym c.before.before.count_at.ensures.0) ∙ sym c.before.codes-below.ensures ∙ not-true _ c.if1.true in
     sym (flags_stop a.s.now a.n l.i h k) ∙ l.invariant.1
 
 add-i : tie.Need-overflow-add-i invariant-loop decreases-loop
@@ -59,7 +59,7 @@ loop-again c =
     let a = c.before.before.before.before.before.before.args in
     let at = 48 + 1280 * l.i in
     let h : l.i < a.n = omega arith in
-    let k = ap (λ (m : ℕ). codes_below 16 32 a.s.now m (at + 280)) (sym c.before.before.count_at.ensures.0) ∙ sym c.before.codes-below.ensures ∙ not_false _ c.if1.false in
+    let k = ap (λ (m : ℕ). codes_below 16 32 a.s.now m (at + 280)) (sym c.before.before.count_at.ensures.0) ∙ sym c.before.codes-below.ensures ∙ not-false _ c.if1.false in
     (omega arith, flags_on a.s.now a.n l.i h k ∙ l.invariant.1)
 
 returns-2 : tie.Need-returns-2 invariant-loop decreases-loop

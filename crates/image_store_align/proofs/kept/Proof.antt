@@ -5,7 +5,7 @@ use mathlib.Core.Path.{◌≡◌, refl, sym, ◌∙◌, ap}
 use mathlib.Core.List.{List, [], ◌∷◌, ◌++◌}
 use Prim.Native.Nat.{ℕ, ◌+◌, ◌-◌, ◌*◌, ◌≤◌, ◌<◌}
 use lib.ListN.{length, get_or, take, drop, set}
-use borrow.Author.Tests.{not_true, not_false}
+use borrow.Author.Tests.{not-true, not-false}
 use mathlib.Core.Path.{subst}
 use Rattle.log_store.specs.Align.{AgreesAt}
 use Rattle.log_store.proofs.Aligning.{KeptFrom, kept_zero, kept_on, kept_stop, kept-end}
@@ -53,7 +53,7 @@ agrees-requires c κs = c.before.before.before.before.before.before.requires.2
 returns : tie.Need-returns invariant-loop decreases-loop
 returns c = let a = c.before.before.before.before.before.before.before.before.args in let l = c.before.before.before.before.before.loop in let lt = c.before.before.before.before.loop-test.true in let p = c.before.before.before.before.before.before.before.before.requires.0 in
     let g = agrees_at a.stores.now a.base _ l.i l.invariant.0 (omega arith) a.end (table_in a.message.now a.table) _ _ c.before.before.before.get8.ensures c.before.before.get82.ensures _ c.before.agrees.ensures in
-    kept_stop _ _ _ _ _ _ l.invariant.2 _ g (not_true _ c.if1.true) lt
+    kept_stop _ _ _ _ _ _ l.invariant.2 _ g (not-true _ c.if1.true) lt
 
 add-i : tie.Need-overflow-add-i invariant-loop decreases-loop
 add-i c = search rules
@@ -64,7 +64,7 @@ loop-less c = search rules
 loop-again : tie.Need-loop-preserved invariant-loop decreases-loop
 loop-again c = let a = c.before.before.before.before.before.before.before.before.args in let l = c.before.before.before.before.before.loop in let lt = c.before.before.before.before.loop-test.true in let p = c.before.before.before.before.before.before.before.before.requires.0 in
     let g = agrees_at a.stores.now a.base _ l.i l.invariant.0 (omega arith) a.end (table_in a.message.now a.table) _ _ c.before.before.before.get8.ensures c.before.before.get82.ensures _ c.before.agrees.ensures in
-    (l.invariant.0, omega arith, kept_on _ _ _ _ _ _ l.invariant.2 _ g (not_false _ c.if1.false) lt)
+    (l.invariant.0, omega arith, kept_on _ _ _ _ _ _ l.invariant.2 _ g (not-false _ c.if1.false) lt)
 
 returns-2 : tie.Need-returns-2 invariant-loop decreases-loop
 returns-2 c = let z = c.loop-test.false in let h = c.before.loop.invariant.1 in kept-end _ _ _ _ _ _ c.before.loop.invariant.2 (omega arith)

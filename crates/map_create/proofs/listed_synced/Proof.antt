@@ -8,7 +8,7 @@ use Rattle.spec.specs.Map.Create.{is_node, node_at, incarnation_of, replica_of, 
 use Rattle.spec.specs.Map.Change.{id_below}
 use Rattle.spec.specs.declared.DataNodeId.{DataNodeId}
 use mathlib.Core.Bool.{true, false}
-use borrow.Author.Tests.{not_true, not_false, le-leb, lt-leb, leb-false, leb-true}
+use borrow.Author.Tests.{not-true, not-false, le-leb, lt-leb, leb-false, leb-true}
 use mathlib.Core.Logic.{⊎_elim}
 use mathlib.Core.List.{map}
 use Rattle.map_tables.proofs.Defaults.{no_node, no_id, no_list}

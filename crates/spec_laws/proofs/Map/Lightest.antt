@@ -31,6 +31,7 @@ module _ {A : Type 0} where
   has-filter p x (y ∷ ys) e (inl q) = rw (← q, e) (inl refl)
   has-filter p x (y ∷ ys) e (inr h) =
       by-test (Has x) (p y) (λ t. inr (has-filter p x ys e h)) (λ t. has-filter p x ys e h)
+  has-filter p x [] e x3 = elim x3 [ ]
 
   pub filter-has : (p : A → Bool) (x : A) (l : List A) → Has x (filter p l) → Has x l × (p x ≡ true)
   unfolding filter
@@ -102,6 +103,7 @@ from_least x [] v = λ h. alone h
   where
     alone : Has v (x ∷ []) → AtMost x v
     alone (inl q) = subst (λ (u : Load). AtMost x u) (sym q) (inr (refl, omega arith))
+    alone (inr x3) = elim x3 [ ]
 from_least x (y ∷ ys) v =
     by-test (λ (w : Load). Has v (x ∷ y ∷ ys) → AtMost (lightest_from w ys) v) (lighter y x)
     (λ e h. taken e (from_least y ys) h)
@@ -133,6 +135,7 @@ lightest_some (y ∷ ys) x e =
 pub lightest-none : (l : List Load) → lightest l ≡ none → (v : Load) → Has v l → ⊥
 unfolding lightest
 lightest-none (y ∷ ys) e v h = none_some (sym e)
+lightest-none [] e v h = elim h [ ]
 
 -- ---- the live nodes of a map
 
@@ -144,6 +147,7 @@ above i (k ∷ ks) h j (inr t) =
       ltb-true i.node k.node (rising-head node_below nodes_by_id i (k ∷ ks) h),
       above k ks (rising_tail node_below nodes_by_id i (k ∷ ks) h) j t,
     )
+above i [] h j x'' = elim x'' [ ]
 
 find-own : (ns : List NodeInfo) → rising node_below ns ≡ true → (i : NodeInfo) → Has i ns → find (is_node i.node) ns ≡ some i
 unfolding find
@@ -151,6 +155,7 @@ find-own (j ∷ js) h i (inl q) =
     subst (λ (u : NodeInfo). find (is_node u.node) (j ∷ js) ≡ some u) (sym q) (rw (eq-eqb j.node j.node refl))
 find-own (j ∷ js) h i (inr t) =
     rw (ne_eqb j.node i.node (λ q. omega (arith, above j js h i t, q))) (find-own js (rising_tail node_below nodes_by_id j js h) i t)
+find-own [] h i x'' = elim x'' [ ]
 
 module _ (m : Map) (formed : rising node_below m.nodes ≡ true) where
   pub has-live : (i : NodeInfo) → Has i m.nodes → i.alive ≡ true → is_live m i.node ≡ true
@@ -179,6 +184,7 @@ unfolding collect
 on-has p f (j ∷ js) i (inl q) a = rw (← q, a) (inl refl)
 on-has p f (j ∷ js) i (inr h) a =
     by-test (Has (loaded f i)) (p j) (λ t. inr (on-has p f js i h a)) (λ t. on-has p f js i h a)
+on-has p f [] i x'' a = elim x'' [ ]
 
 -- a load that one of the nodes has, which passes
 abbrev pub OfNode : (NodeInfo → Bool) → (ℕ → ℕ) → List NodeInfo → Load → Type 0

@@ -10,7 +10,7 @@ use mathlib.Core.List.{List, [], ◌∷◌, ◌++◌, append_assoc, append-nil}
 use mathlib.Core.Option.{Option, none, some}
 use lib.ListN.{length, length-append}
 use lib.Dec.{eqb, ltb}
-use borrow.Author.Tests.{lt-ltb, ltb-true, ltb-false, eqb-true, eq-eqb, ne_eqb, not_true}
+use borrow.Author.Tests.{lt-ltb, ltb-true, ltb-false, eqb-true, eq-eqb, ne_eqb, not-true}
 use Rattle.spec.specs.Lists.{◌or◌, any, filter, rising, nth}
 use Rattle.spec.specs.Limits.{max_lists, max_listed}
 use Rattle.spec.specs.Refusals.{no_room}
@@ -239,7 +239,7 @@ module _ (m : Map) (chosen : List ℕ) where
   unfolding nth
   later list [] c i n e h = none_some e
   later list (k ∷ ks) c zero n e h =
-      not_both (any (eqb k) list) (rw (some_same e) h) (not_true (any (eqb k) list) c.0.free)
+      not_both (any (eqb k) list) (rw (some_same e) h) (not-true (any (eqb k) list) c.0.free)
   later list (k ∷ ks) c (suc i) n e h = later (list ++ (k ∷ [])) ks c.1 i n e (any_append (eqb n) list (k ∷ []) h)
 
   -- so none stands in it twice

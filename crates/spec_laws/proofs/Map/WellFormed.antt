@@ -8,7 +8,7 @@ use Prim.Native.Nat.{ℕ, zero, suc, ◌+◌, ◌≤◌, ◌<◌}
 use native.Mathlib.Omega.{arith}
 use lib.ListN.{length, length-map, length-append}
 use lib.Dec.{eqb, ltb, leb}
-use borrow.Author.Tests.{ltb-true, ltb-false, leb-true, leb-false, le-leb, lt-ltb, le-ltb, eqb-true, eqb-false, eq-eqb, ne_eqb, not_true}
+use borrow.Author.Tests.{ltb-true, ltb-false, leb-true, leb-false, le-leb, lt-ltb, le-ltb, eqb-true, eqb-false, eq-eqb, ne_eqb, not-true}
 use Rattle.spec.specs.Lists.{◌and◌, every, any, find, filter, rising, put}
 use Rattle.spec.specs.Limits.{max_nodes, max_collections, max_shards, max_replicas, max_clients, max_name, max_listed, max_u64}
 use Rattle.spec.specs.Keys.{Name, Key, key_below, name_below, same_key, same_name}
@@ -106,7 +106,7 @@ holders-without n rs ds h =
     keeps : (d : DataNodeId) → not (is_id n d) ≡ true → any (is_on d.0) rs ≡ true → any (is_on d.0) (filter (λ r. not (is_on n r)) rs) ≡ true
     keeps d e q =
         any-filter (λ r. not (is_on n r)) (is_on d.0) rs
-        (λ r f. rw (ne_eqb r.node.0 n (λ g. eqb-false d.0 n (not_true (is_id n d) e) (sym (eqb-true r.node.0 d.0 f) ∙ g))))
+        (λ r f. rw (ne_eqb r.node.0 n (λ g. eqb-false d.0 n (not-true (is_id n d) e) (sym (eqb-true r.node.0 d.0 f) ∙ g))))
         ∙ q
 
 deposed-rises : (n : ℕ) (o : Option ℕ) (ds : List DataNodeId) → rising id_below ds ≡ true → rising id_below (deposed n o ds) ≡ true
@@ -193,7 +193,7 @@ with-rises : (ss : List ShardInfo) (ns : List NodeInfo) (name : Name) (i : ℕ) 
     → rising shard_below (with_shards ss ns name i p) ≡ true
 unfolding with_shards
 with-rises ss ns name i [] h = h
-with-rises ss ns name i (l ∷ ls) h = with-rises _ ns name (suc i) ls (put-rising shard_below shards_by_key (new_shard ns name i l) ss h)
+with-rises ss ns name i (l ∷ ls) h = with-rises (put shard_below (new_shard ns name i l) ss) ns name (suc i) ls (put-rising shard_below shards_by_key (new_shard ns name i l) ss h)
 
 with-fits : (ss : List ShardInfo) (ns : List NodeInfo) (name : Name) (i : ℕ) (p : Placement) → name_fits name ≡ true
     → every (λ l. leb (length l) max_listed) p ≡ true → every shard_fits ss ≡ true → every shard_fits (with_shards ss ns name i p) ≡ true
@@ -201,7 +201,7 @@ unfolding with_shards
 with-fits ss ns name i [] n e h = h
 with-fits ss ns name i (l ∷ ls) n e h =
     let t = every_tail (λ l. leb (length l) max_listed) l ls e in
-    with-fits _ ns name (suc i) ls n t.1 (every-put shard_fits shard_below (new_shard ns name i l) ss (new-fits ns name i l n t.0) h)
+    with-fits (put shard_below (new_shard ns name i l) ss) ns name (suc i) ls n t.1 (every-put shard_fits shard_below (new_shard ns name i l) ss (new-fits ns name i l n t.0) h)
 
 pub create_room_lem : (m : Map) (name : Name) (spec : Spec) (p : Placement) → create_answer m name spec p ≡ accepts
     → (length m.collections < max_collections) × (length (created_shards m name p) ≤ max_shards)

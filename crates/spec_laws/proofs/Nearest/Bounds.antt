@@ -75,6 +75,10 @@ under (fin s m e) (fin false n d) B v t =
     let b : n * up d ≡ B * down d = sym (mul-one (n * up d)) ∙ v.1 in
     le_of_mul-le-mul_right (le_trans a (le_of_eq (ap (λ (z : ℕ). z * down e) b ∙ mul_right_comm B (down d) (down e))))
     (down_pos d)
+under (inf s) nan B v t = elim v [ ]
+under (inf s) (inf _) B v t = elim v [ ]
+under (fin s m e) nan B v t = elim v [ ]
+under (fin s m e) (inf _) B v t = elim v [ ]
 
 -- B is a value of the format
 abbrev pub Whole : ℕ → Type 0
@@ -90,6 +94,8 @@ round_from0 a c B C h w =
 any_sign : (s : Bool) (x : Float) (B : ℕ) → From0 B x → Within B (with_sign s x)
 any_sign s (fin true m e) B h = absurd h
 any_sign s (fin false m e) B h = h
+any_sign s nan B h = elim h [ ]
+any_sign s (inf _) B h = elim h [ ]
 
 pub round-within : (s : Bool) (a c B : ℕ) → 0 < c → a ≤ B * c → Whole B → Within B (round binary32 s a c)
 round-within s a c B C h w = subst (λ (x : Float). Within B x) (sym (round-sign binary32 s a c))
@@ -99,6 +105,8 @@ round-within s a c B C h w = subst (λ (x : Float). Within B x) (sym (round-sign
 pub from0_within : (x : Float) (B : ℕ) → From0 B x → Within B x
 from0_within (fin true m e) B h = absurd h
 from0_within (fin false m e) B h = h
+from0_within nan B h = elim h [ ]
+from0_within (inf _) B h = elim h [ ]
 
 sum-within : (s t : Bool) (a b c A B : ℕ) → 0 < c → a ≤ A * c → b ≤ B * c → Whole (A + B)
     → Within (A + B) (sum binary32 s a t b c)
@@ -127,10 +135,16 @@ unfolding add
 add_within (fin s m e) (fin t n d) A B h k w =
     sum-within s t (m * up e * down d) (n * up d * down e) (down e * down d) A B (mul-pos (down_pos e) (down_pos d))
     (over_left (m * up e) A (down e) (down d) h) (over_right (n * up d) B (down d) (down e) k) w
+add_within nan y A B h k w = elim h [ ]
+add_within (inf _) y A B h k w = elim h [ ]
+add_within (fin s m e) nan A B h k w = elim k [ ]
+add_within (fin s m e) (inf _) A B h k w = elim k [ ]
 
 neg_within : (y : Float) (B : ℕ) → Within B y → Within B (neg y)
 unfolding neg
 neg_within (fin t n d) B k = k
+neg_within nan B k = elim k [ ]
+neg_within (inf _) B k = elim k [ ]
 
 pub sub_within : (x y : Float) (A B : ℕ) → Within A x → Within B y → Whole (A + B) → Within (A + B) (sub binary32 x y)
 unfolding sub
@@ -144,6 +158,10 @@ unfolding mul
 mul_within (fin s m e) (fin t n d) A B h k w =
     round-within (unlike s t) (m * up e * (n * up d)) (down e * down d) (A * B) (mul-pos (down_pos e) (down_pos d))
     (product (m * up e) A (down e) (n * up d) B (down d) h k) w
+mul_within nan y A B h k w = elim h [ ]
+mul_within (inf _) y A B h k w = elim h [ ]
+mul_within (fin s m e) nan A B h k w = elim k [ ]
+mul_within (fin s m e) (inf _) A B h k w = elim k [ ]
 
 -- a square is not below zero, and neither is a sum of what is not
 pub self_from0 : (x : Float) (A : ℕ) → Within A x → Whole (A * A) → From0 (A * A) (mul binary32 x x)
@@ -152,6 +170,8 @@ self_from0 (fin true m e) A h w = round_from0 (m * up e * (m * up e)) (down e * 
     (mul-pos (down_pos e) (down_pos e)) (product (m * up e) A (down e) (m * up e) A (down e) h h) w
 self_from0 (fin false m e) A h w = round_from0 (m * up e * (m * up e)) (down e * down e) (A * A)
     (mul-pos (down_pos e) (down_pos e)) (product (m * up e) A (down e) (m * up e) A (down e) h h) w
+self_from0 nan A h w = elim h [ ]
+self_from0 (inf _) A h w = elim h [ ]
 
 pub add_from0 : (x y : Float) (A B : ℕ) → From0 A x → From0 B y → Whole (A + B) → From0 (A + B) (add binary32 x y)
 unfolding add sum
@@ -161,6 +181,10 @@ add_from0 (fin false m e) (fin false n d) A B h k w =
     round_from0 (m * up e * down d + n * up d * down e) (down e * down d) (A + B) (mul-pos (down_pos e) (down_pos d))
     (le_trans (add-le-add (over_left (m * up e) A (down e) (down d) h) (over_right (n * up d) B (down d) (down e) k))
     (le_of_eq (sym (add-mul A B (down e * down d))))) w
+add_from0 nan y A B h k w = elim h [ ]
+add_from0 (inf _) y A B h k w = elim h [ ]
+add_from0 (fin false m e) nan A B h k w = elim k [ ]
+add_from0 (fin false m e) (inf _) A B h k w = elim k [ ]
 
 -- ---- which whole numbers are values: q * 2 ^ j with q of 24 digits at most, below 2 ^ 128
 pub whole_is : (q j : ℕ) → q < 2 ^ 24 → q * 2 ^ (j + 149) < 2 ^ (149 + 128) → Whole (q * 2 ^ j)

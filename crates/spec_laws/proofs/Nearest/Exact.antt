@@ -222,6 +222,8 @@ of_float (fin s m e) v f u =
     in
     let w : Val (fin s m e) (b % 2 ^ 31) = subst (λ (z : Float). Val z (b % 2 ^ 31)) p (reads b d).0 in
     (b % 2 ^ 31, w.0, eq_of_mul-eq-mul_right (down e) (down_pos e) v (units_of (b % 2 ^ 31)) (sym u.1 ∙ w.1))
+of_float lib.Ieee.nan v f u = elim u [ ]
+of_float (inf _) v f u = elim u [ ]
 
 units_of_lem : (x : Float) → T (fits binary32 x) → T (rootable x) → (r : ℕ) × (r < top) × Units x (units_of r)
 units_of_lem (fin true m e) f t = absurd t
@@ -232,6 +234,8 @@ units_of_lem (fin false m e) f t =
     (fin_no_nan false m e) in
     let w : Val (fin false m e) (b % 2 ^ 31) = subst (λ (z : Float). Val z (b % 2 ^ 31)) p (reads b d).0 in
     (b % 2 ^ 31, w.0, (refl, w.1))
+units_of_lem lib.Ieee.nan f t = elim t [ ]
+units_of_lem (inf _) f t = elim t [ ]
 
 pub sqrt-at : (x : Float) (u : ℕ) → Units x u → sqrt binary32 x ≡ root_units binary32 (u * 2 ^ 149)
 unfolding sqrt
@@ -243,6 +247,8 @@ sqrt-at (fin false m e) u h =
     ∙ ap (λ (y : ℕ). y * 2 ^ 149) h.1
     ∙ mul_right_comm u (down e) (2 ^ 149))
     ∙ mul-div_cancel (u * 2 ^ 149) (down_pos e))
+sqrt-at lib.Ieee.nan u h = elim h [ ]
+sqrt-at (inf _) u h = elim h [ ]
 
 pub units_fits : (q K : ℕ) → q ≤ 2 ^ 24 → T (fits binary32 (units binary32 false q K))
 unfolding units
@@ -413,6 +419,8 @@ plus_float (fin false m e) v f u =
       eq_of_mul-eq-mul_right (down e) (down_pos e) v (units_of (b % 2 ^ 31)) (sym u.1 ∙ w.0.1)
           ∙ ap units_of (mod-eq_of_lt l),
     )
+plus_float lib.Ieee.nan v f u = elim u [ ]
+plus_float (inf _) v f u = elim u [ ]
 
 units_le : (r q : ℕ) → r ≤ q → units_of r ≤ units_of q
 units_le r q h = elim (eq-or-lt_of_le h) [ inl e ↦ le_of_eq (ap units_of e) | inr l ↦ le_of_lt (units_mono r q l) ]

@@ -30,6 +30,8 @@ use Rattle.spec_laws.proofs.Nearest.Sums.{squares_from0, own_from0, dot-within}
 pub from0_rootable : (B : ℕ) (x : Float) → From0 B x → T (rootable x)
 from0_rootable B (fin true m e) h = absurd h
 from0_rootable B (fin false m e) h = tt
+from0_rootable B nan h = elim h [ ]
+from0_rootable B (inf _) h = elim h [ ]
 
 odd_no_nan : (d : ℕ) (s : Bool) (q k l : ℕ) → T (not (is_nan (odd d s q k l)))
 unfolding odd is_nan
@@ -57,6 +59,8 @@ pub sqrt_no_nan : (x : Float) → T (rootable x) → T (not (is_nan (sqrt binary
 unfolding sqrt
 sqrt_no_nan (fin true m e) h = absurd h
 sqrt_no_nan (fin false m e) h = root_no_nan binary32 (m * up e * 2 ^ 298 / down e)
+sqrt_no_nan nan h = elim h [ ]
+sqrt_no_nan (inf _) h = elim h [ ]
 
 round_no_nan : (f : Format) (s : Bool) (a c : ℕ) → T (not (is_nan (round f s a c)))
 unfolding round
@@ -79,6 +83,8 @@ div_no_nan f (fin s m e) (fin t (suc k) d) B h n z =
     (is_nan (cond b (cond (eqb m 0) nan (inf (unlike s t)))
     (round f (unlike s t) (m * up e * down d) (suc k * up d * down e)))))) (sym (eqb-suc-zero k))
     (round_no_nan f (unlike s t) (m * up e * down d) (suc k * up d * down e))
+div_no_nan f nan d B h n z = elim h [ ]
+div_no_nan f (inf _) d B h n z = elim h [ ]
 
 sum_no_nan : (f : Format) (s : Bool) (a : ℕ) (t : Bool) (b c : ℕ) → T (not (is_nan (sum f s a t b c)))
 unfolding sum
@@ -104,6 +110,10 @@ angle_no_nan x d B h n z = sub_no_nan binary32 (div binary32 x d) (div_no_nan bi
 pub finite_mul : (x y : Float) → T (finite x) → T (finite y) → T (not (is_nan (mul binary32 x y)))
 unfolding mul
 finite_mul (fin s m e) (fin t n d) h k = round_no_nan binary32 (unlike s t) (m * up e * (n * up d)) (down e * down d)
+finite_mul nan y h k = elim h [ ]
+finite_mul (inf _) y h k = elim h [ ]
+finite_mul (fin s m e) nan h k = elim k [ ]
+finite_mul (fin s m e) (inf _) h k = elim k [ ]
 
 -- ---- the root of what is at most 2 ^ 71 is finite
 units_finite : (f : Format) (s : Bool) (q k : ℕ) → q * 2 ^ k < 2 ^ (low f + suc (emax f)) → T (finite (units f s q k))
@@ -111,6 +121,8 @@ units_finite f s q k h = go (units f s q k) (units_val f s q k h)
   where
     go : (v : Float) → HasValue v s (q * 2 ^ k) (2 ^ low f) → T (finite v)
     go (fin t m e) v = tt
+    go nan v = elim v [ ]
+    go (inf _) v = elim v [ ]
 
 root_finite : (n : ℕ) → n < 2 ^ 370 → T (finite (root_units binary32 n))
 unfolding root_units
@@ -140,6 +152,8 @@ sqrt_finite (fin false m e) h =
     (le_trans (mul-le-mul_right (2 ^ 298) h)
     (le_of_eq (mul_right_comm (2 ^ 71) (down e) (2 ^ 298) ∙ mul_comm (2 ^ 71 * 2 ^ 298) (down e))))) (lit≤ tt))
     (lit< {m = 2 ^ 369} {n = 2 ^ 370} tt))
+sqrt_finite nan h = elim h [ ]
+sqrt_finite (inf _) h = elim h [ ]
 
 -- ---- the two distances
 pub vector_bounded : (v : List Float) → T (vector_in_domain v) → Bounded v

@@ -79,6 +79,8 @@ read_odd s q k r h e = go (odd 24 s q k 149) (odd_sign 24 s q k 149)
   where
     go : (v : Float) → HasValue v s (q * 2 ^ k) (2 ^ 149) → Val v r × (minus v ≡ s)
     go (fin t m x) p = ((h, p.1 ∙ ap (λ (z : ℕ). z * down x) e), p.0)
+    go nan p = elim p [ ]
+    go (inf _) p = elim p [ ]
 
 abbrev pub Reads : Float → Bool → ℕ → Type 0
 Reads v s r = Val v r × (minus v ≡ s)

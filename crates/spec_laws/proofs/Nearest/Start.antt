@@ -73,6 +73,8 @@ first_plus : (B : ℕ) (t : Float) → From0 B t → add binary32 minus_zero t �
 first_plus B (fin true n d) h = absurd h
 first_plus B (fin false n d) h =
     add_zero true false n d ∙ plus_first (n * up d * 1) (1 * down d) ∙ sym (add_zero false false n d)
+first_plus B nan h = elim h [ ]
+first_plus B (inf _) h = elim h [ ]
 
 add_alike : (x y t : Float) (B : ℕ) → Within B t → Alike x y → Alike (add binary32 x t) (add binary32 y t)
 add_alike x y t B h (equal e) = equal (ap (λ (z : Float). add binary32 z t) e)
@@ -86,6 +88,8 @@ add_alike x y (fin true n d) B h (zeros p q) =
     (subst (λ (z : Float). Alike (sum binary32 true 0 true (n * up d * 1) (1 * down d)) z)
     (sym (ap (λ (z : Float). add binary32 z (fin true n d)) q ∙ add_zero false true n d))
     (minus-first (n * up d * 1) (1 * down d) (mul-pos (zero-lt-suc 0) (down_pos d))))
+add_alike x y nan B h (zeros p q) = elim h [ ]
+add_alike x y (inf _) B h (zeros p q) = elim h [ ]
 
 -- ---- the sums
 product_within : (x y : Float) → T (in_domain x) → T (in_domain y) → Within (2 ^ 32 * 2 ^ 32) (mul binary32 x y)

@@ -17,7 +17,7 @@ use Rattle.spec.specs.Node.Backup.{BackupAnswer, leads_from, is_empty, replicate
 use Rattle.spec.specs.Node.Ack.{AckAnswer, Sent, Deed, nothing, step_down, unalign, record_ack, deed_of, ack_row, unaligned, on_row, do_deed, deed_at, ack_held, settled_row, outcome_held}
 use Rattle.spec.specs.declared.Peer.{Peer}
 use Rattle.spec_laws.proofs.Lists.{by-test}
-use borrow.Author.Tests.{not_false}
+use borrow.Author.Tests.{not-false}
 
 module _ {κ} (P : Held → Type κ) (h : Held) (same : P h) where
   -- Write: an entry more, where the log has room
@@ -39,7 +39,7 @@ module _ {κ} (P : Held → Type κ) (h : Held) (same : P h) where
   unfolding wait_held
   wait_after now timeout epoch offset new =
       by-test (λ (v : Result WaitAnswer Held). P v.after) (not (leads_at h.role epoch)) (λ p. same)
-      (λ p. new (not_false (leads_at h.role epoch) p))
+      (λ p. new (not-false (leads_at h.role epoch) p))
 
   -- Replicate: what store makes of the replica, where it has room
   pub replicate_after : (epoch offset : ℕ) (op : Op)

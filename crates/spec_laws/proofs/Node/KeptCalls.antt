@@ -9,7 +9,7 @@ use lib.Dec.{T, leb, ltb}
 use lib.ListN.{length}
 use lib.Ieee.{Float, binary32, of_bits, fits}
 use lib.Ieee.Bits.{of_bits-fits}
-use borrow.Author.Tests.{le-leb, not_false}
+use borrow.Author.Tests.{le-leb, not-false}
 use Rattle.spec.specs.Lists.{◌and◌, ◌or◌, every}
 use Rattle.spec.specs.Limits.{max_name, max_components}
 use Rattle.spec.specs.Keys.{Key}
@@ -92,7 +92,7 @@ module _ (n : Node) (x : FormedNode n) where
       let P : Result WriteAnswer Node → Type 0 = λ v. FormedNode v.after in
       by-test P (not (op_in_domain w.op)) (λ p. x)
       (λ p. by-test P (not (lent w.key)) (λ q. x)
-      (λ q. write_kept n now least w.key w.epoch (stored_op w.op) (op-formed w.op (g w refl) (not_false (op_in_domain w.op) p)) x))
+      (λ q. write_kept n now least w.key w.epoch (stored_op w.op) (op-formed w.op (g w refl) (not-false (op_in_domain w.op) p)) x))
 
   pub write_with_kept : (lent : Key → Bool) (now least : ℕ) (s : List ℕ) → Bytes s → FormedNode (write_with lent n now least s).after
   unfolding write_with
@@ -107,7 +107,7 @@ module _ (n : Node) (x : FormedNode n) where
       let P : Result BackupAnswer Node → Type 0 = λ v. FormedNode v.after in
       by-test P (not (op_in_domain w.op)) (λ p. x)
       (λ p. by-test P (not (lent w.key)) (λ q. x)
-      (λ q. replicate_kept n w.key w.epoch w.offset (stored_op w.op) (op-formed w.op (g w refl) (not_false (op_in_domain w.op) p)) x))
+      (λ q. replicate_kept n w.key w.epoch w.offset (stored_op w.op) (op-formed w.op (g w refl) (not-false (op_in_domain w.op) p)) x))
 
   pub replicate_with_kept : (lent : Key → Bool) (s : List ℕ) → Bytes s → FormedNode (replicate_with lent n s).after
   unfolding replicate_with
@@ -131,7 +131,7 @@ module _ (n : Node) (x : FormedNode n) where
       let P : Result BackupAnswer Node → Type 0 = λ v. FormedNode v.after in
       by-test P (not (every entry_in_domain w.entries)) (λ p. x)
       (λ p. by-test P (not (lent w.key)) (λ q. x)
-      (λ q. copy_kept n w.key w.epoch (map stored_entry w.entries) (entries_formed w.entries (g w refl) (not_false (every entry_in_domain w.entries) p)) x))
+      (λ q. copy_kept n w.key w.epoch (map stored_entry w.entries) (entries_formed w.entries (g w refl) (not-false (every entry_in_domain w.entries) p)) x))
 
   pub copy_with_kept : (lent : Key → Bool) (s : List ℕ) → Bytes s → FormedNode (copy_with lent n s).after
   unfolding copy_with
@@ -209,4 +209,4 @@ module _ (n : Node) (w : well_formed_node n ≡ true) where
   unfolding call_shown shown_with
   call_shown_kept fresh m =
       by-test (λ (v : Result ShownAnswer Node). well_formed_node v.after ≡ true) (not (well_formed_header n and well_formed_map m)) (λ q. w)
-      (λ q. formed-node _ (map-kept n fresh m (and_right (well_formed_header n) (well_formed_map m) (not_false (well_formed_header n and well_formed_map m) q)) (node-formed n w)))
+      (λ q. formed-node _ (map-kept n fresh m (and_right (well_formed_header n) (well_formed_map m) (not-false (well_formed_header n and well_formed_map m) q)) (node-formed n w)))

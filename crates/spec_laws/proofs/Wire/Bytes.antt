@@ -10,7 +10,7 @@ use lib.Dec.{leb}
 use borrow.Author.Tests.{leb-true}
 use native.Mathlib.Omega.{arith}
 use native.Mathlib.Numerals.{add-one}
-use native.Mathlib.Nat.{add_zero, pow-suc, pow-le-pow_right}
+use native.Mathlib.Nat.{add-zero, pow-suc, pow-le-pow_right}
 use Rattle.spec.specs.Lists.{◌and◌}
 use Rattle.spec.specs.Layout.Format.{Bytes, bytes_of, number_at, all_within, in_range}
 use Rattle.spec_laws.proofs.Wire.Tests.{and_left, and_right}
@@ -30,7 +30,7 @@ cut-append s at a t e = sym (drop-drop (length a) at s) ∙ ap (drop (length a))
 
 -- the bytes of the number that stands at a position are those that stand there
 pub bytes-number : (k : ℕ) (s : List ℕ) (at : ℕ) → Bytes s → at + k ≤ length s → bytes_of k (number_at k s at) ++ drop (at + k) s ≡ drop at s
-bytes-number zero s at b h = rw add_zero
+bytes-number zero s at b h = rw add-zero
 bytes-number (suc k) s at b h =
     let m : (get_or s at 0 + 256 * number_at k s (at + 1)) % 256 ≡ get_or s at 0 = omega (arith, b at) in
     let d : (get_or s at 0 + 256 * number_at k s (at + 1)) / 256 ≡ number_at k s (at + 1) = omega (arith, b at) in

@@ -8,10 +8,10 @@ use mathlib.Core.List.{List, [], ◌∷◌, ◌++◌, append_assoc, append-nil}
 use lib.ListN.{length, get_or, take, drop, replicate, length-append, length-drop, length-replicate, take-append-drop}
 use lib.Seq.{drop-cons, length-take-le, take_at, drop-drop, take-append_seam, drop-length}
 use lib.Dec.{eqb}
-use borrow.Author.Tests.{lt-ltb, le-leb, eq-eqb, leb-true, ltb-true, eqb-true, not_true}
+use borrow.Author.Tests.{lt-ltb, le-leb, eq-eqb, leb-true, ltb-true, eqb-true, not-true}
 use native.Mathlib.Omega.{arith}
 use native.Mathlib.Numerals.{add-one}
-use native.Mathlib.Nat.{add_zero, zero-add, add_assoc}
+use native.Mathlib.Nat.{add-zero, zero-add, add_assoc}
 use Rattle.spec.specs.Lists.{◌and◌}
 use Rattle.spec.specs.Layout.Format.{Bytes, Format, code, word, below, text, ◌▸◌, many, either, other, Value, bytes_of, number_at, concat_map, next_n, fits_n, value_n, encode, next, fits, value, all_within, in_range, All, Good, sound, whole}
 use Rattle.spec_laws.proofs.Wire.Tests.{and_intro, and_left, and_right, false_not_true}
@@ -150,7 +150,7 @@ module _ (s : List ℕ) where
   wrote-many : (f : Format)
       → ((v : Value f) (at : ℕ) (t : List ℕ) → Good f v → at ≤ length s → drop at s ≡ encode f v ++ t → Wrote f v s at)
       → (vs : List (Value f)) (at : ℕ) (t : List ℕ) → All (Good f) vs → at ≤ length s → drop at s ≡ concat_map (encode f) vs ++ t → WroteN f vs s at
-  wrote-many f law [] at t g h e = record { ok = refl; same = refl; after = sym (add_zero at) }
+  wrote-many f law [] at t g h e = record { ok = refl; same = refl; after = sym (add-zero at) }
   wrote-many f law (v ∷ vs) at t g h e =
       let e' = e ∙ append_assoc (encode f v) (concat_map (encode f) vs) t in
       let r = law v at (concat_map (encode f) vs ++ t) g.0 h e' in
@@ -185,14 +185,14 @@ module _ (s : List ℕ) where
   -- what begins with another byte than x
   begins : (x : ℕ) (f : Format) → other x f ≡ true → (v : Value f) (at : ℕ) (t : List ℕ) → drop at s ≡ encode f v ++ t
       → (eqb (get_or s at 0) x ≡ false) × (at < length s)
-  begins x (code c) w v at t e = let p = cut s at c t e in (rw p.0 (not_true _ w), p.1)
+  begins x (code c) w v at t e = let p = cut s at c t e in (rw p.0 (not-true _ w), p.1)
   begins x (word k) w v at t e = absurd (false_not_true w)
   begins x (below m) w v at t e = absurd (false_not_true w)
   begins x (text c) w v at t e = absurd (false_not_true w)
   begins x (f ▸ g) w v at t e = begins x f w v.0 at (encode g v.1 ++ t) (e ∙ append_assoc (encode f v.0) (encode g v.1) t)
   begins x (many k lo hi f) w v at t e = absurd (false_not_true w)
   begins x (either u f g) w (inl v) at t e =
-      let p = cut s at u (encode f v ++ t) e in (rw p.0 (not_true _ (and_left _ _ w)), p.1)
+      let p = cut s at u (encode f v ++ t) e in (rw p.0 (not-true _ (and_left _ _ w)), p.1)
   begins x (either u f g) w (inr v) at t e = begins x g (and_right _ _ w) v at t e
 
   pub wrote : (f : Format) → sound f ≡ true → (v : Value f) (at : ℕ) (t : List ℕ) → Good f v → at ≤ length s → drop at s ≡ encode f v ++ t → Wrote f v s at

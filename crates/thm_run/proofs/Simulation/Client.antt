@@ -7,7 +7,7 @@ use mathlib.Core.Option.{Option, none, some}
 use native.Mathlib.Omega.{arith}
 use lib.Dec.{eqb, ltb}
 use lib.ListN.{length, length-append}
-use borrow.Author.Tests.{not_false, ltb-true}
+use borrow.Author.Tests.{not-false, ltb-true}
 use Rattle.spec.specs.Lists.{◌or◌, every}
 use Rattle.spec.specs.Refusals.{Refusal, unknown_shard}
 use Rattle.spec.specs.Log.{Op, Entry, ShardReplica, push, append, last_offset}
@@ -160,7 +160,7 @@ module _ (w : World) (s : real.State) (a : State) (k : Sim w s a) where
           by-test P (not (leads_at h.role m.epoch)) (λ p. still _)
           (λ p. by-test P (not (leased x now)) (λ q. still _)
           (λ q. by-test P (ltb (ack_count h) least) (λ r. still _)
-          (λ r. by-test P (overfull grown) (λ t. still _) (λ t f. taken (not_false (leads_at h.role m.epoch) p) f))))
+          (λ r. by-test P (overfull grown) (λ t. still _) (λ t f. taken (not-false (leads_at h.role m.epoch) p) f))))
 
     decoded : (now least : ℕ) (o : Option message.Write) → ((m : message.Write) → o ≡ some m → GoodWrite m)
         → After o (write_of (well_formed_lent x) x now least o)

@@ -7,7 +7,7 @@ use mathlib.Core.List.{List, [], ◌∷◌, ◌++◌, map}
 use mathlib.Core.Option.{Option, none, some}
 use lib.Dec.{eqb, leb, ltb}
 use lib.ListN.{length}
-use borrow.Author.Tests.{not_true}
+use borrow.Author.Tests.{not-true}
 use Rattle.spec.specs.Lists.{◌and◌, ◌or◌, nth, find}
 use Rattle.spec.specs.Log.{ShardReplica, last_offset}
 use Rattle.spec.specs.Refusals.{Refusal}
@@ -184,7 +184,7 @@ module _ (w : World) (s : real.State) (a : State) (k : Sim w s a) (i : ℕ) (q :
             let up : leb (length b.replica.log) (upd l.acked q.peer u q.peer) ≡ true =
             ap (λ (z : ℕ). leb (length b.replica.log) z) (upd_same l.acked q.peer u ∙ sym much)
             ∙ ap (λ (v : ShardReplica). leb (length v.log) (acked_through last t by p)) (sym hs.replica) ∙ j₁ in
-            let out : member q.peer l.ack ≡ false = sym (c.rows.row q.peer p here).joined ∙ not_true p.member j₂ in
+            let out : member q.peer l.ack ≡ false = sym (c.rows.row q.peer p here).joined ∙ not-true p.member j₂ in
             and_true (proto.is_positive rs.answer) _ positive
             (and_true (leb (length b.replica.log) (upd l.acked q.peer u q.peer)) _ up (rw out))
 

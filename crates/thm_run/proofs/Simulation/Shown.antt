@@ -6,7 +6,7 @@ use mathlib.Core.Bool.{Bool, true, false, cond, not}
 use mathlib.Core.List.{List, [], ◌∷◌, map}
 use mathlib.Core.Option.{Option, none, some}
 use lib.Dec.{eqb, leb, ltb}
-use borrow.Author.Tests.{not_true}
+use borrow.Author.Tests.{not-true}
 use Rattle.spec.specs.Keys.{Key}
 use Rattle.spec.specs.Lists.{◌and◌, ◌or◌, any, find}
 use Rattle.spec.specs.Log.{ShardReplica}
@@ -177,7 +177,7 @@ module _ (w : World) (s : real.State) (a : State) (k : Sim w s a) (n : ℕ) wher
     promoted p q =
         let not_leading : leads_at h.role a.map.epoch ≡ false =
         subst (λ (e : ℕ). leads_at h.role e ≡ false) k.table.epoch
-        (not_true (leads_at h.role i.epoch) (and_left (not (leads_at h.role i.epoch)) (leb h.replica.epoch i.epoch) q)) in
+        (not-true (leads_at h.role i.epoch) (and_left (not (leads_at h.role i.epoch)) (leb h.replica.epoch i.epoch) q)) in
         let low : leb b.replica.epoch a.map.epoch ≡ true =
         ap (λ (r : ShardReplica). leb r.epoch a.map.epoch) (sym hs.replica)
         ∙ ap (leb h.replica.epoch) (sym k.table.epoch)

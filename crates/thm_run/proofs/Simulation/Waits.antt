@@ -6,7 +6,7 @@ use mathlib.Core.Bool.{Bool, true, false, cond, not}
 use mathlib.Core.List.{List, [], ◌∷◌, ◌++◌, map, append_assoc, append-nil}
 use mathlib.Core.Option.{Option, none, some}
 use lib.Dec.{eqb, leb, ltb}
-use borrow.Author.Tests.{eqb-false, ltb-false, le-leb, not_false, not_true}
+use borrow.Author.Tests.{eqb-false, ltb-false, le-leb, not-false, not-true}
 use Rattle.spec.specs.Lists.{◌and◌, ◌or◌, nth, every, collect}
 use Rattle.spec.specs.Refusals.{Refusal, unknown_shard}
 use Rattle.spec.specs.Log.{last_offset}
@@ -58,7 +58,7 @@ unfolding ◌and◌
 not_lacking o q h m = go q.member m h
   where
     go : (b : Bool) → b ≡ true → not (b and ltb q.acked.0 o) ≡ true → o ≤ q.acked.0
-    go true e t = ltb-false q.acked.0 o (not_true (ltb q.acked.0 o) t)
+    go true e t = ltb-false q.acked.0 o (not-true (ltb q.acked.0 o) t)
     go false e t = not_both false e refl
 
 -- every other member of the ack set has the offset
@@ -196,7 +196,7 @@ module _ (w : World) (s : real.State) (a : State) (k : Sim w s a) (i : ℕ) (v :
         → Gently w (step.waited (real.set_node s n (with_held x (r.after ∷ []))) v r.answer) a in
         by-test P (not (leads_at h.role v.epoch))
         (λ p f. refused _ (with_held x (h ∷ [])) (node-with w a.map.epoch n x b (k.nodes n) b h y f hs) f)
-        (λ p f. let t = not_false (leads_at h.role v.epoch) p in
+        (λ p f. let t = not-false (leads_at h.role v.epoch) p in
         by-test (λ (z : WaitAnswer). Gently w (step.waited (real.set_node s n (with_held x (h' ∷ []))) v z) a) (every (has_acked v.offset) h.peers)
         (λ e. enough t f e) (λ e. more t f))
 

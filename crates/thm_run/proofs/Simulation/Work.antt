@@ -9,7 +9,7 @@ use mathlib.Core.Option.{Option, none, some}
 use native.Mathlib.Omega.{arith}
 use lib.Dec.{eqb, ltb}
 use lib.ListN.{length, take, drop, length-take}
-use borrow.Author.Tests.{eqb-true, eqb-false, not_false}
+use borrow.Author.Tests.{eqb-true, eqb-false, not-false}
 use Rattle.spec.specs.Keys.{Key}
 use Rattle.spec.specs.Limits.{max_u64, max_entries, max_batch, max_table}
 use Rattle.spec.specs.Refusals.{no_room}
@@ -280,7 +280,7 @@ module _ (w : World) (s : real.State) (a : State) (k : Sim w s a) (n : ℕ) (key
           let o : Batch epoch (e ∷ []) = subst (Batch epoch) q ok in
           let rd : Ready epoch e = (subst (All (Ready epoch)) q all-ready).0 in
           let back = op-back e.op rd.formed rd.id in
-          let level : e.epoch ≡ epoch = eqb-true e.epoch epoch (not_false (eqb e.epoch epoch) t) in
+          let level : e.epoch ≡ epoch = eqb-true e.epoch epoch (not-false (eqb e.epoch epoch) t) in
           let m : message.Replicated = record { key = h.key; epoch = epoch; offset = e.offset; op = wire_op e.op } in
           let low = rd.offset in
           let good : GoodReplicated m = (good_key_lem, u64_of epoch upto, omega arith, back.good) in
@@ -381,9 +381,9 @@ module _ (w : World) (s : real.State) (a : State) (k : Sim w s a) (n : ℕ) (key
       let P : Step → Type 0 = λ z. Goal (written_in room (request_held epoch metric h z)) in
       by-test P (not (leads_at h.role epoch)) (λ t. idle)
       (λ t. by-test P (not (any (on_node peer) h.holders)) (λ u. idle)
-      (λ u. let c = leads w top n h.role h.replica h.peers b.role hs.role epoch (not_false (leads_at h.role epoch) t) in
+      (λ u. let c = leads w top n h.role h.replica h.peers b.role hs.role epoch (not-false (leads_at h.role epoch) t) in
       let z : holds peer w.holders ≡ true =
-      subst (λ (rs : List Replica). any (on_node peer) rs ≡ true) hs.holders (not_false (any (on_node peer) h.holders) u) in
+      subst (λ (rs : List Replica). any (on_node peer) rs ≡ true) hs.holders (not-false (any (on_node peer) h.holders) u) in
       does h is hs same c.0 c.1 c.2 c.3 y z _ (steps h is hs same c.0 c.1 c.2 c.3 y z)))
 
   pub worked : Gently w (step.on_work s n key epoch peer metric room) a

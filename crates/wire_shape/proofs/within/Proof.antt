@@ -2,7 +2,7 @@
 use Prim.Native.Nat.{ℕ, ◌+◌, ◌-◌, ◌≤◌, ◌<◌}
 use mathlib.Core.Path.{◌≡◌, sym, ap, ◌∙◌}
 use native.Mathlib.Omega.{arith}
-use native.Mathlib.Nat.{add_zero, sub-zero, sub_self}
+use native.Mathlib.Nat.{add-zero, sub-zero, sub_self}
 use borrow.Author.Tests.{lt-leb, le-leb}
 use Rattle.spec.specs.Layout.Format.{all_within}
 use Rattle.spec_laws.proofs.Wire.Tests.{and_true, and_false}
@@ -17,7 +17,7 @@ abbrev decreases-loop : tie.decreases-loop
 decreases-loop s at n lo hi i₀ i = n - i
 
 loop-holds : tie.Need-loop-init invariant-loop decreases-loop
-loop-holds c = (omega arith, rw (add_zero, sub-zero))
+loop-holds c = (omega arith, rw (add-zero, sub-zero))
 
 add-b : tie.Need-overflow-add-b invariant-loop decreases-loop
 add-b c = omega arith

@@ -7,7 +7,7 @@ use Prim.Native.Nat.{ℕ, ◌+◌, ◌-◌, ◌*◌, ◌≤◌, ◌<◌}
 use lib.ListN.{length, get_or, take, drop, set}
 use mathlib.Core.Bool.{Bool}
 use mathlib.Core.Path.{subst}
-use borrow.Author.Tests.{not_true, not_false}
+use borrow.Author.Tests.{not-true, not-false}
 use Rattle.map_tables.specs.Names.{view_key}
 use Rattle.log_arrive.proofs.Messages.{copy_there}
 use Rattle.image_node_grow.proofs.GrowLaws.{row_last}
@@ -57,16 +57,16 @@ same-length-3 : tie.Need-same-length-3
 same-length-3 c = search rules
 
 returns-2 : tie.Need-returns-2
-returns-2 c = full c.before.before.before.before.before.before.before.before.before.before.before.before.before.before.args.header.now c.before.before.before.before.before.before.before.before.before.before.before.before.before.before.args.stores.now c.before.before.before.before.before.before.before.before.before.before.before.before.before.before.args.reply.now c.before.before.before.before.before.before.before.before.before.before.before.before.before.before.args.message.now (view_key c.before.before.before.before.before.before.before.before.before.before.before.before.before.before.args.key) (λ i. omega (arith, c.before.before.before.before.before.before.before.before.before.before.before.before.slice-known2.given i)) c.before.before.before.before.before.before.before.before.before.before.before.before.before.before.args.p c.before.before.before.before.before.before.before.before.before.before.before.before.before.before.requires.1 c.before.before.before.before.before.before.before.before.before.before.before.before.before.before.args.at c.before.before.before.before.before.before.before.before.before.before.before.before.before.before.requires.0 (λ z. c.before.before.before.is-stale.ensures.nay c.before.before.if1.false (z.0, λ e. z.1 (e ∙ (c.before.before.before.before.before.before.before.before.get8.ensures ∙ sym (row-own c.before.before.before.before.before.before.before.before.before.before.before.before.before.before.args.header.now c.before.before.before.before.before.before.before.before.before.before.before.before.before.before.args.at c.before.before.before.before.before.before.before.before.before.before.before.before.before.before.requires.0.counts c.before.before.before.before.before.before.before.before.before.before.before.before.before.before.requires.0.found.under))))) c.before.before.before.before.before.before.get82.result c.before.has_room.result (c.before.before.before.before.before.before.get82.ensures ∙ sym (row_last c.before.before.before.before.before.before.before.before.before.before.before.before.before.before.args.header.now c.before.before.before.before.before.before.before.before.before.before.before.before.before.before.args.at c.before.before.before.before.before.before.before.before.before.before.before.before.before.before.requires.0.counts c.before.before.before.before.before.before.before.before.before.before.before.before.before.before.requires.0.found.under)) (not_true _ c.if2.true) c.before.has_room.ensures
+returns-2 c = full c.before.before.before.before.before.before.before.before.before.before.before.before.before.before.args.header.now c.before.before.before.before.before.before.before.before.before.before.before.before.before.before.args.stores.now c.before.before.before.before.before.before.before.before.before.before.before.before.before.before.args.reply.now c.before.before.before.before.before.before.before.before.before.before.before.before.before.before.args.message.now (view_key c.before.before.before.before.before.before.before.before.before.before.before.before.before.before.args.key) (λ i. omega (arith, c.before.before.before.before.before.before.before.before.before.before.before.before.slice-known2.given i)) c.before.before.before.before.before.before.before.before.before.before.before.before.before.before.args.p c.before.before.before.before.before.before.before.before.before.before.before.before.before.before.requires.1 c.before.before.before.before.before.before.before.before.before.before.before.before.before.before.args.at c.before.before.before.before.before.before.before.before.before.before.before.before.before.before.requires.0 (λ z. c.before.before.before.is-stale.ensures.nay c.before.before.if1.false (z.0, λ e. z.1 (e ∙ (c.before.before.before.before.before.before.before.before.get8.ensures ∙ sym (row-own c.before.before.before.before.before.before.before.before.before.before.before.before.before.before.args.header.now c.before.before.before.before.before.before.before.before.before.before.before.before.before.before.args.at c.before.before.before.before.before.before.before.before.before.before.before.before.before.before.requires.0.counts c.before.before.before.before.before.before.before.before.before.before.before.before.before.before.requires.0.found.under))))) c.before.before.before.before.before.before.get82.result c.before.has_room.result (c.before.before.before.before.before.before.get82.ensures ∙ sym (row_last c.before.before.before.before.before.before.before.before.before.before.before.before.before.before.args.header.now c.before.before.before.before.before.before.before.before.before.before.before.before.before.before.args.at c.before.before.before.before.before.before.before.before.before.before.before.before.before.before.requires.0.counts c.before.before.before.before.before.before.before.before.before.before.before.before.before.before.requires.0.found.under)) (not-true _ c.if2.true) c.before.has_room.ensures
 
 same-length-4 : tie.Need-same-length-4
 same-length-4 c = search rules
 
 returns-3 : tie.Need-returns-3
-returns-3 c = short c.before.before.before.before.before.before.before.before.before.before.before.before.before.before.before.args.header.now c.before.before.before.before.before.before.before.before.before.before.before.before.before.before.before.args.stores.now c.before.before.before.before.before.before.before.before.before.before.before.before.before.before.before.args.reply.now c.before.before.before.before.before.before.before.before.before.before.before.before.before.before.before.args.message.now (view_key c.before.before.before.before.before.before.before.before.before.before.before.before.before.before.before.args.key) (λ i. omega (arith, c.before.before.before.before.before.before.before.before.before.before.before.before.before.slice-known2.given i)) c.before.before.before.before.before.before.before.before.before.before.before.before.before.before.before.args.p c.before.before.before.before.before.before.before.before.before.before.before.before.before.before.before.requires.1 c.before.before.before.before.before.before.before.before.before.before.before.before.before.before.before.args.at c.before.before.before.before.before.before.before.before.before.before.before.before.before.before.before.requires.0 (λ z. c.before.before.before.before.is-stale.ensures.nay c.before.before.before.if1.false (z.0, λ e. z.1 (e ∙ (c.before.before.before.before.before.before.before.before.before.get8.ensures ∙ sym (row-own c.before.before.before.before.before.before.before.before.before.before.before.before.before.before.before.args.header.now c.before.before.before.before.before.before.before.before.before.before.before.before.before.before.before.args.at c.before.before.before.before.before.before.before.before.before.before.before.before.before.before.before.requires.0.counts c.before.before.before.before.before.before.before.before.before.before.before.before.before.before.before.requires.0.found.under))))) (room-read c.before.before.before.before.before.before.before.before.before.before.before.before.before.before.before.args.header.now c.before.before.before.before.before.before.before.before.before.before.before.before.before.before.before.args.stores.now c.before.before.before.before.before.before.before.before.before.before.before.before.before.before.before.args.reply.now c.before.before.before.before.before.before.before.before.before.before.before.before.before.before.before.args.message.now (view_key c.before.before.before.before.before.before.before.before.before.before.before.before.before.before.before.args.key) (λ i. omega (arith, c.before.before.before.before.before.before.before.before.before.before.before.before.before.slice-known2.given i)) c.before.before.before.before.before.before.before.before.before.before.before.before.before.before.before.args.p c.before.before.before.before.before.before.before.before.before.before.before.before.before.before.before.requires.1 c.before.before.before.before.before.before.before.before.before.before.before.before.before.before.before.args.at c.before.before.before.before.before.before.before.before.before.before.before.before.before.before.before.requires.0 c.before.before.before.before.before.before.before.get82.result c.before.before.has_room.result (c.before.before.before.before.before.before.before.get82.ensures ∙ sym (row_last c.before.before.before.before.before.before.before.before.before.before.before.before.before.before.before.args.header.now c.before.before.before.before.before.before.before.before.before.before.before.before.before.before.before.args.at c.before.before.before.before.before.before.before.before.before.before.before.before.before.before.before.requires.0.counts c.before.before.before.before.before.before.before.before.before.before.before.before.before.before.before.requires.0.found.under)) (not_false _ c.before.if2.false) c.before.before.has_room.ensures) c.if3.true
+returns-3 c = short c.before.before.before.before.before.before.before.before.before.before.before.before.before.before.before.args.header.now c.before.before.before.before.before.before.before.before.before.before.before.before.before.before.before.args.stores.now c.before.before.before.before.before.before.before.before.before.before.before.before.before.before.before.args.reply.now c.before.before.before.before.before.before.before.before.before.before.before.before.before.before.before.args.message.now (view_key c.before.before.before.before.before.before.before.before.before.before.before.before.before.before.before.args.key) (λ i. omega (arith, c.before.before.before.before.before.before.before.before.before.before.before.before.before.slice-known2.given i)) c.before.before.before.before.before.before.before.before.before.before.before.before.before.before.before.args.p c.before.before.before.before.before.before.before.before.before.before.before.before.before.before.before.requires.1 c.before.before.before.before.before.before.before.before.before.before.before.before.before.before.before.args.at c.before.before.before.before.before.before.before.before.before.before.before.before.before.before.before.requires.0 (λ z. c.before.before.before.before.is-stale.ensures.nay c.before.before.before.if1.false (z.0, λ e. z.1 (e ∙ (c.before.before.before.before.before.before.before.before.before.get8.ensures ∙ sym (row-own c.before.before.before.before.before.before.before.before.before.before.before.before.before.before.before.args.header.now c.before.before.before.before.before.before.before.before.before.before.before.before.before.before.before.args.at c.before.before.before.before.before.before.before.before.before.before.before.before.before.before.before.requires.0.counts c.before.before.before.before.before.before.before.before.before.before.before.before.before.before.before.requires.0.found.under))))) (room-read c.before.before.before.before.before.before.before.before.before.before.before.before.before.before.before.args.header.now c.before.before.before.before.before.before.before.before.before.before.before.before.before.before.before.args.stores.now c.before.before.before.before.before.before.before.before.before.before.before.before.before.before.before.args.reply.now c.before.before.before.before.before.before.before.before.before.before.before.before.before.before.before.args.message.now (view_key c.before.before.before.before.before.before.before.before.before.before.before.before.before.before.before.args.key) (λ i. omega (arith, c.before.before.before.before.before.before.before.before.before.before.before.before.before.slice-known2.given i)) c.before.before.before.before.before.before.before.before.before.before.before.before.before.before.before.args.p c.before.before.before.before.before.before.before.before.before.before.before.before.before.before.before.requires.1 c.before.before.before.before.before.before.before.before.before.before.before.before.before.before.before.args.at c.before.before.before.before.before.before.before.before.before.before.before.before.before.before.before.requires.0 c.before.before.before.before.before.before.before.get82.result c.before.before.has_room.result (c.before.before.before.before.before.before.before.get82.ensures ∙ sym (row_last c.before.before.before.before.before.before.before.before.before.before.before.before.before.before.before.args.header.now c.before.before.before.before.before.before.before.before.before.before.before.before.before.before.before.args.at c.before.before.before.before.before.before.before.before.before.before.before.before.before.before.before.requires.0.counts c.before.before.before.before.before.before.before.before.before.before.before.before.before.before.before.requires.0.found.under)) (not-false _ c.before.if2.false) c.before.before.has_room.ensures) c.if3.true
 
 grow-all-requires : tie.Need-grow-all-requires
-grow-all-requires c κs = (c.before.before.before.before.before.before.before.before.before.before.before.before.before.before.before.before.before.requires.0.counts, c.before.before.before.before.before.before.before.before.before.before.before.before.before.before.before.before.before.requires.0.found.under, c.before.before.before.before.before.before.before.before.before.before.before.before.before.before.before.before.before.requires.0.slot, stores_there c.before.before.before.before.before.before.before.before.before.before.before.before.before.before.before.before.before.args.header.now c.before.before.before.before.before.before.before.before.before.before.before.before.before.before.before.before.before.args.stores.now (view_key c.before.before.before.before.before.before.before.before.before.before.before.before.before.before.before.before.before.args.key) c.before.before.before.before.before.before.before.before.before.before.before.before.before.before.before.before.before.requires.0.lends, c.before.before.before.before.before.before.before.before.before.before.before.before.before.before.before.before.before.requires.0.well, copy_there c.before.before.before.before.before.before.before.before.before.before.before.before.before.before.before.before.before.args.message.now c.before.before.before.before.before.before.before.before.before.before.before.before.before.before.before.before.before.args.p c.before.before.before.before.before.before.before.before.before.before.before.before.before.before.before.before.before.requires.1.read, c.before.before.before.before.before.before.before.before.before.before.before.before.before.before.before.before.before.requires.1.inside, (room-read c.before.before.before.before.before.before.before.before.before.before.before.before.before.before.before.before.before.args.header.now c.before.before.before.before.before.before.before.before.before.before.before.before.before.before.before.before.before.args.stores.now c.before.before.before.before.before.before.before.before.before.before.before.before.before.before.before.before.before.args.reply.now c.before.before.before.before.before.before.before.before.before.before.before.before.before.before.before.before.before.args.message.now (view_key c.before.before.before.before.before.before.before.before.before.before.before.before.before.before.before.before.before.args.key) (λ i. omega (arith, c.before.before.before.before.before.before.before.before.before.before.before.before.before.before.before.slice-known2.given i)) c.before.before.before.before.before.before.before.before.before.before.before.before.before.before.before.before.before.args.p c.before.before.before.before.before.before.before.before.before.before.before.before.before.before.before.before.before.requires.1 c.before.before.before.before.before.before.before.before.before.before.before.before.before.before.before.before.before.args.at c.before.before.before.before.before.before.before.before.before.before.before.before.before.before.before.before.before.requires.0 c.before.before.before.before.before.before.before.before.before.get82.result c.before.before.before.before.has_room.result (c.before.before.before.before.before.before.before.before.before.get82.ensures ∙ sym (row_last c.before.before.before.before.before.before.before.before.before.before.before.before.before.before.before.before.before.args.header.now c.before.before.before.before.before.before.before.before.before.before.before.before.before.before.before.before.before.args.at c.before.before.before.before.before.before.before.before.before.before.before.before.before.before.before.before.before.requires.0.counts c.before.before.before.before.before.before.before.before.before.before.before.before.before.before.before.before.before.requires.0.found.under)) (not_false _ c.before.before.before.if2.false) c.before.before.before.before.has_room.ensures))
+grow-all-requires c κs = (c.before.before.before.before.before.before.before.before.before.before.before.before.before.before.before.before.before.requires.0.counts, c.before.before.before.before.before.before.before.before.before.before.before.before.before.before.before.before.before.requires.0.found.under, c.before.before.before.before.before.before.before.before.before.before.before.before.before.before.before.before.before.requires.0.slot, stores_there c.before.before.before.before.before.before.before.before.before.before.before.before.before.before.before.before.before.args.header.now c.before.before.before.before.before.before.before.before.before.before.before.before.before.before.before.before.before.args.stores.now (view_key c.before.before.before.before.before.before.before.before.before.before.before.before.before.before.before.before.before.args.key) c.before.before.before.before.before.before.before.before.before.before.before.before.before.before.before.before.before.requires.0.lends, c.before.before.before.before.before.before.before.before.before.before.before.before.before.before.before.before.before.requires.0.well, copy_there c.before.before.before.before.before.before.before.before.before.before.before.before.before.before.before.before.before.args.message.now c.before.before.before.before.before.before.before.before.before.before.before.before.before.before.before.before.before.args.p c.before.before.before.before.before.before.before.before.before.before.before.before.before.before.before.before.before.requires.1.read, c.before.before.before.before.before.before.before.before.before.before.before.before.before.before.before.before.before.requires.1.inside, (room-read c.before.before.before.before.before.before.before.before.before.before.before.before.before.before.before.before.before.args.header.now c.before.before.before.before.before.before.before.before.before.before.before.before.before.before.before.before.before.args.stores.now c.before.before.before.before.before.before.before.before.before.before.before.before.before.before.before.before.before.args.reply.now c.before.before.before.before.before.before.before.before.before.before.before.before.before.before.before.before.before.args.message.now (view_key c.before.before.before.before.before.before.before.before.before.before.before.before.before.before.before.before.before.args.key) (λ i. omega (arith, c.before.before.before.before.before.before.before.before.before.before.before.before.before.before.before.slice-known2.given i)) c.before.before.before.before.before.before.before.before.before.before.before.before.before.before.before.before.before.args.p c.before.before.before.before.before.before.before.before.before.before.before.before.before.before.before.before.before.requires.1 c.before.before.before.before.before.before.before.before.before.before.before.before.before.before.before.before.before.args.at c.before.before.before.before.before.before.before.before.before.before.before.before.before.before.before.before.before.requires.0 c.before.before.before.before.before.before.before.before.before.get82.result c.before.before.before.before.has_room.result (c.before.before.before.before.before.before.before.before.before.get82.ensures ∙ sym (row_last c.before.before.before.before.before.before.before.before.before.before.before.before.before.before.before.before.before.args.header.now c.before.before.before.before.before.before.before.before.before.before.before.before.before.before.before.before.before.args.at c.before.before.before.before.before.before.before.before.before.before.before.before.before.before.before.before.before.requires.0.counts c.before.before.before.before.before.before.before.before.before.before.before.before.before.before.before.before.before.requires.0.found.under)) (not-false _ c.before.before.before.if2.false) c.before.before.before.before.has_room.ensures))
 
 put-reply-requires-2 : tie.Need-put-reply-requires-2
 put-reply-requires-2 c κs = search rules
@@ -81,7 +81,7 @@ same-length-7 : tie.Need-same-length-7
 same-length-7 c = search rules
 
 returns-4 : tie.Need-returns-4
-returns-4 c = sent c.before.before.before.before.before.before.before.before.before.before.before.before.before.before.before.before.before.before.before.before.before.before.before.before.before.before.args.header.now c.before.before.before.before.before.before.before.before.before.before.before.before.before.before.before.before.before.before.before.before.before.before.before.before.before.before.args.stores.now c.before.before.before.before.before.before.before.before.before.before.before.before.before.before.before.before.before.before.before.before.before.before.before.before.before.before.args.reply.now c.before.before.before.before.before.before.before.before.before.before.before.before.before.before.before.before.before.before.before.before.before.before.before.before.before.before.args.message.now (view_key c.before.before.before.before.before.before.before.before.before.before.before.before.before.before.before.before.before.before.before.before.before.before.before.before.before.before.args.key) (λ i. omega (arith, c.before.before.before.before.before.before.before.before.before.before.before.before.before.before.before.before.before.before.before.before.before.before.before.before.slice-known2.given i)) c.before.before.before.before.before.before.before.before.before.before.before.before.before.before.before.before.before.before.before.before.before.before.before.before.before.before.args.p c.before.before.before.before.before.before.before.before.before.before.before.before.before.before.before.before.before.before.before.before.before.before.before.before.before.before.requires.1 c.before.before.before.before.before.before.before.before.before.before.before.before.before.before.before.before.before.before.before.before.before.before.before.before.before.before.args.at c.before.before.before.before.before.before.before.before.before.before.before.before.before.before.before.before.before.before.before.before.before.before.before.before.before.before.requires.0 (λ z. c.before.before.before.before.before.before.before.before.before.before.before.before.before.before.before.is-stale.ensures.nay c.before.before.before.before.before.before.before.before.before.before.before.before.before.before.if1.false (z.0, λ e. z.1 (e ∙ (c.before.before.before.before.before.before.before.before.before.before.before.before.before.before.before.before.before.before.before.before.get8.ensures ∙ sym (row-own c.before.before.before.before.before.before.before.before.before.before.before.before.before.before.before.before.before.before.before.before.before.before.before.before.before.before.args.header.now c.before.before.before.before.before.before.before.before.before.before.before.before.before.before.before.before.before.before.before.before.before.before.before.before.before.before.args.at c.before.before.before.before.before.before.before.before.before.before.before.before.before.before.before.before.before.before.before.before.before.before.before.before.before.before.requires.0.counts c.before.before.before.before.before.before.before.before.before.before.before.before.before.before.before.before.before.before.before.before.before.before.before.before.before.before.requires.0.found.under))))) (room-read c.before.before.before.before.before.before.before.before.before.before.before.before.before.before.before.before.before.before.before.before.before.before.before.before.before.before.args.header.now c.before.before.before.before.before.before.before.before.before.before.before.before.before.before.before.before.before.before.before.before.before.before.before.before.before.before.args.stores.now c.before.before.before.before.before.before.before.before.before.before.before.before.before.before.before.before.before.before.before.before.before.before.before.before.before.before.args.reply.now c.before.before.before.before.before.before.before.before.before.before.before.before.before.before.before.before.before.before.before.before.before.before.before.before.before.before.args.message.now (view_key c.before.before.before.before.before.before.before.before.before.before.before.before.before.before.before.before.before.before.before.before.before.before.before.before.before.before.args.key) (λ i. omega (arith, c.before.before.before.before.before.before.before.before.before.before.before.before.before.before.before.before.before.before.before.before.before.before.before.before.slice-known2.given i)) c.before.before.before.before.before.before.before.before.before.before.before.before.before.before.before.before.before.before.before.before.before.before.before.before.before.before.args.p c.before.before.before.before.before.before.before.before.before.before.before.before.before.before.before.before.before.before.before.before.before.before.before.before.before.before.requires.1 c.before.before.before.before.before.before.before.before.before.before.before.before.before.before.before.before.before.before.before.before.before.before.before.before.before.before.args.at c.before.before.before.before.before.before.before.before.before.before.before.before.before.before.before.before.before.before.before.before.before.before.before.before.before.before.requires.0 c.before.before.before.before.before.before.before.before.before.before.before.before.before.before.before.before.before.before.get82.result c.before.before.before.before.before.before.before.before.before.before.before.before.before.has_room.result (c.before.before.before.before.before.before.before.before.before.before.before.before.before.before.before.before.before.before.get82.ensures ∙ sym (row_last c.before.before.before.before.before.before.before.before.before.before.before.before.before.before.before.before.before.before.before.before.before.before.before.before.before.before.args.header.now c.before.before.before.before.before.before.before.before.before.before.before.before.before.before.before.before.before.before.before.before.before.before.before.before.before.before.args.at c.before.before.before.before.before.before.before.before.before.before.before.before.before.before.before.before.before.before.before.before.before.before.before.before.before.before.requires.0.counts c.before.before.before.before.before.before.before.before.before.before.before.before.before.before.before.before.before.before.before.before.before.before.before.before.before.before.requires.0.found.under)) (not_false _ c.before.before.before.before.before.before.before.before.before.before.before.before.if2.false) c.before.before.before.before.before.before.before.before.before.before.before.before.before.has_room.ensures) _ _ _ c.before.before.before.before.before.before.before.before.grow-all.ensures _ _ c.before.before.put-reply2.ensures (told_zero _ c.before.before.before.before.before.before.before.before.before.before.before.before.before.before.before.before.before.before.before.before.before.before.before.before.before.before.args.reply.now _ _ c.before.before.before.before.before.before.before.before.before.before.before.if3.false c.before.before.put-reply2.ensures)
+returns-4 c = sent c.before.before.before.before.before.before.before.before.before.before.before.before.before.before.before.before.before.before.before.before.before.before.before.before.before.before.args.header.now c.before.before.before.before.before.before.before.before.before.before.before.before.before.before.before.before.before.before.before.before.before.before.before.before.before.before.args.stores.now c.before.before.before.before.before.before.before.before.before.before.before.before.before.before.before.before.before.before.before.before.before.before.before.before.before.before.args.reply.now c.before.before.before.before.before.before.before.before.before.before.before.before.before.before.before.before.before.before.before.before.before.before.before.before.before.before.args.message.now (view_key c.before.before.before.before.before.before.before.before.before.before.before.before.before.before.before.before.before.before.before.before.before.before.before.before.before.before.args.key) (λ i. omega (arith, c.before.before.before.before.before.before.before.before.before.before.before.before.before.before.before.before.before.before.before.before.before.before.before.before.slice-known2.given i)) c.before.before.before.before.before.before.before.before.before.before.before.before.before.before.before.before.before.before.before.before.before.before.before.before.before.before.args.p c.before.before.before.before.before.before.before.before.before.before.before.before.before.before.before.before.before.before.before.before.before.before.before.before.before.before.requires.1 c.before.before.before.before.before.before.before.before.before.before.before.before.before.before.before.before.before.before.before.before.before.before.before.before.before.before.args.at c.before.before.before.before.before.before.before.before.before.before.before.before.before.before.before.before.before.before.before.before.before.before.before.before.before.before.requires.0 (λ z. c.before.before.before.before.before.before.before.before.before.before.before.before.before.before.before.is-stale.ensures.nay c.before.before.before.before.before.before.before.before.before.before.before.before.before.before.if1.false (z.0, λ e. z.1 (e ∙ (c.before.before.before.before.before.before.before.before.before.before.before.before.before.before.before.before.before.before.before.before.get8.ensures ∙ sym (row-own c.before.before.before.before.before.before.before.before.before.before.before.before.before.before.before.before.before.before.before.before.before.before.before.before.before.before.args.header.now c.before.before.before.before.before.before.before.before.before.before.before.before.before.before.before.before.before.before.before.before.before.before.before.before.before.before.args.at c.before.before.before.before.before.before.before.before.before.before.before.before.before.before.before.before.before.before.before.before.before.before.before.before.before.before.requires.0.counts c.before.before.before.before.before.before.before.before.before.before.before.before.before.before.before.before.before.before.before.before.before.before.before.before.before.before.requires.0.found.under))))) (room-read c.before.before.before.before.before.before.before.before.before.before.before.before.before.before.before.before.before.before.before.before.before.before.before.before.before.before.args.header.now c.before.before.before.before.before.before.before.before.before.before.before.before.before.before.before.before.before.before.before.before.before.before.before.before.before.before.args.stores.now c.before.before.before.before.before.before.before.before.before.before.before.before.before.before.before.before.before.before.before.before.before.before.before.before.before.before.args.reply.now c.before.before.before.before.before.before.before.before.before.before.before.before.before.before.before.before.before.before.before.before.before.before.before.before.before.before.args.message.now (view_key c.before.before.before.before.before.before.before.before.before.before.before.before.before.before.before.before.before.before.before.before.before.before.before.before.before.before.args.key) (λ i. omega (arith, c.before.before.before.before.before.before.before.before.before.before.before.before.before.before.before.before.before.before.before.before.before.before.before.before.slice-known2.given i)) c.before.before.before.before.before.before.before.before.before.before.before.before.before.before.before.before.before.before.before.before.before.before.before.before.before.before.args.p c.before.before.before.before.before.before.before.before.before.before.before.before.before.before.before.before.before.before.before.before.before.before.before.before.before.before.requires.1 c.before.before.before.before.before.before.before.before.before.before.before.before.before.before.before.before.before.before.before.before.before.before.before.before.before.before.args.at c.before.before.before.before.before.before.before.before.before.before.before.before.before.before.before.before.before.before.before.before.before.before.before.before.before.before.requires.0 c.before.before.before.before.before.before.before.before.before.before.before.before.before.before.before.before.before.before.get82.result c.before.before.before.before.before.before.before.before.before.before.before.before.before.has_room.result (c.before.before.before.before.before.before.before.before.before.before.before.before.before.before.before.before.before.before.get82.ensures ∙ sym (row_last c.before.before.before.before.before.before.before.before.before.before.before.before.before.before.before.before.before.before.before.before.before.before.before.before.before.before.args.header.now c.before.before.before.before.before.before.before.before.before.before.before.before.before.before.before.before.before.before.before.before.before.before.before.before.before.before.args.at c.before.before.before.before.before.before.before.before.before.before.before.before.before.before.before.before.before.before.before.before.before.before.before.before.before.before.requires.0.counts c.before.before.before.before.before.before.before.before.before.before.before.before.before.before.before.before.before.before.before.before.before.before.before.before.before.before.requires.0.found.under)) (not-false _ c.before.before.before.before.before.before.before.before.before.before.before.before.if2.false) c.before.before.before.before.before.before.before.before.before.before.before.before.before.has_room.ensures) _ _ _ c.before.before.before.before.before.before.before.before.grow-all.ensures _ _ c.before.before.put-reply2.ensures (told_zero _ c.before.before.before.before.before.before.before.before.before.before.before.before.before.before.before.before.before.before.before.before.before.before.before.before.before.before.args.reply.now _ _ c.before.before.before.before.before.before.before.before.before.before.before.if3.false c.before.before.put-reply2.ensures)
 
 pub copy-at-spec : {M : Type 1} → statement M
 copy-at-spec = tie.close (tie.spec mul-row add_row add-get8 get8-requires add-get8-2 get8-requires-2 is-stale-requires put-reply-requires same_length same-length-2 returns has-room-requires same-length-3 returns-2 same-length-4 returns-3 grow-all-requires put-reply-requires-2 same-length-5 same-length-6 same-length-7 returns-4)

@@ -7,7 +7,7 @@ use Prim.Native.Nat.{ℕ, ◌+◌, ◌-◌, ◌*◌, ◌≤◌, ◌<◌}
 use lib.ListN.{length, get_or, take, drop, set}
 use mathlib.Core.Path.{subst}
 use native.Mathlib.Numerals.{add-one}
-use borrow.Author.Tests.{not_true, not_false}
+use borrow.Author.Tests.{not-true, not-false}
 use Rattle.calls_join.specs.View.{Leads, after_at}
 use Rattle.calls_join.proofs.Bytes.{stands_says, leads-size, leads_snoc, broken_in}
 use Rattle.calls_join.proofs.answers.count_answers.Statement.{statement}
@@ -29,11 +29,11 @@ stands-requires c κs = search rules
 returns : tie.Need-returns invariant-loop decreases-loop
 returns c =
     let loop = c.before.before.before.loop in
-    broken_in c.before.before.before.before.before.args.s.now loop.n loop.p loop.invariant.1 (λ e. omega arith) (sym c.before.stands.ensures ∙ not_true _ c.if1.true)
+    broken_in c.before.before.before.before.before.args.s.now loop.n loop.p loop.invariant.1 (λ e. omega arith) (sym c.before.stands.ensures ∙ not-true _ c.if1.true)
 
 after-requires : tie.Need-after-requires invariant-loop decreases-loop
 after-requires c κs =
-    sym c.before.stands.ensures ∙ not_false _ c.if1.false
+    sym c.before.stands.ensures ∙ not-false _ c.if1.false
 
 add-n : tie.Need-overflow-add-n invariant-loop decreases-loop
 add-n c =
@@ -42,14 +42,14 @@ add-n c =
 
 loop-less : tie.Need-loop-smaller invariant-loop decreases-loop
 loop-less c =
-    let l = (stands_says _ _ (sym c.before.before.stands.ensures ∙ not_false _ c.before.if1.false)).ends in omega (arith, c.after.ensures)
+    let l = (stands_says _ _ (sym c.before.before.stands.ensures ∙ not-false _ c.before.if1.false)).ends in omega (arith, c.after.ensures)
 
 loop-again : tie.Need-loop-preserved invariant-loop decreases-loop
 loop-again c =
     let args = c.before.before.before.before.before.before.args in
     let loop = c.before.before.before.before.loop in
     let s = args.s.now in
-    let h = sym c.before.before.stands.ensures ∙ not_false _ c.before.if1.false in
+    let h = sym c.before.before.stands.ensures ∙ not-false _ c.before.if1.false in
     let l = (stands_says _ _ h).ends in
     (omega (arith, c.after.ensures), subst (λ (q : ℕ). Leads s (loop.n + 1) 0 q) (sym c.after.ensures) (subst (λ (m : ℕ). Leads s m 0 (after_at s loop.p)) (sym (add-one loop.n)) (leads_snoc s loop.n 0 loop.p loop.invariant.1 h)))
 

@@ -6,7 +6,7 @@ use mathlib.Core.List.{List, [], ◌∷◌, ◌++◌}
 use Prim.Native.Nat.{ℕ, ◌+◌, ◌-◌, ◌*◌, ◌≤◌, ◌<◌}
 use lib.ListN.{length, get_or, take, drop, set}
 use mathlib.Core.Path.{subst}
-use borrow.Author.Tests.{not_true, not_false}
+use borrow.Author.Tests.{not-true, not-false}
 use Rattle.spec.specs.Lists.{every}
 use Rattle.spec_join.specs.Join.{sound_answer}
 use Rattle.calls_join.specs.View.{Stand, answers_at}
@@ -47,7 +47,7 @@ returns c =
     let loop = c.before.before.before.before.loop in
     let count_at = c.before.before.count_at in
     let s = args.s.now in
-    sym (sym loop.invariant.1 ∙ answers_stop s sound_answer loop.left loop.p c.before.before.before.loop-test.true (order_wrong s loop.p count_at.result count_at.ensures (sym c.before.in_order.ensures ∙ not_true _ c.if1.true)))
+    sym (sym loop.invariant.1 ∙ answers_stop s sound_answer loop.left loop.p c.before.before.before.loop-test.true (order_wrong s loop.p count_at.result count_at.ensures (sym c.before.in_order.ensures ∙ not-true _ c.if1.true)))
 
 add_apart : tie.Need-overflow-add-apart invariant-loop decreases-loop
 add_apart c =
@@ -68,7 +68,7 @@ returns-2 c =
     let loop = c.before.before.before.before.before.before.loop in
     let count_at = c.before.before.before.before.count_at in
     let s = args.s.now in
-    sym (sym loop.invariant.1 ∙ answers_stop s sound_answer loop.left loop.p c.before.before.before.before.before.loop-test.true (apart_wrong s loop.p count_at.result count_at.ensures (sym c.before.before.before.in_order.ensures ∙ not_false _ c.before.before.if1.false) (sym c.before.apart.ensures ∙ not_true _ c.if2.true)))
+    sym (sym loop.invariant.1 ∙ answers_stop s sound_answer loop.left loop.p c.before.before.before.before.before.loop-test.true (apart_wrong s loop.p count_at.result count_at.ensures (sym c.before.before.before.in_order.ensures ∙ not-false _ c.before.before.if1.false) (sym c.before.apart.ensures ∙ not-true _ c.if2.true)))
 
 after-requires : tie.Need-after-requires invariant-loop decreases-loop
 after-requires c κs =
@@ -88,7 +88,7 @@ loop-again c =
     let loop-test = c.before.before.before.before.before.before.loop-test in
     let count_at = c.before.before.before.before.before.count_at in
     let s = args.s.now in
-    (subst (Stand s (loop.left - 1)) (sym c.after.ensures) (stand_rest s loop.left loop.p loop-test.true loop.invariant.0), subst (λ (z : ℕ). every sound_answer (answers_at s (loop.left - 1) z) ≡ every sound_answer (answers_at s args.n 0)) (sym c.after.ensures) (sym (answers-on s sound_answer loop.left loop.p loop-test.true (answer-sound s loop.p count_at.result count_at.ensures (sym c.before.before.before.before.in_order.ensures ∙ not_false _ c.before.before.before.if1.false) (sym c.before.before.apart.ensures ∙ not_false _ c.before.if2.false))) ∙ loop.invariant.1))
+    (subst (Stand s (loop.left - 1)) (sym c.after.ensures) (stand_rest s loop.left loop.p loop-test.true loop.invariant.0), subst (λ (z : ℕ). every sound_answer (answers_at s (loop.left - 1) z) ≡ every sound_answer (answers_at s args.n 0)) (sym c.after.ensures) (sym (answers-on s sound_answer loop.left loop.p loop-test.true (answer-sound s loop.p count_at.result count_at.ensures (sym c.before.before.before.before.in_order.ensures ∙ not-false _ c.before.before.before.if1.false) (sym c.before.before.apart.ensures ∙ not-false _ c.before.if2.false))) ∙ loop.invariant.1))
 
 returns-3 : tie.Need-returns-3 invariant-loop decreases-loop
 returns-3 c =

@@ -6,7 +6,7 @@ use mathlib.Core.List.{List, [], ◌∷◌, ◌++◌}
 use Prim.Native.Nat.{ℕ, ◌+◌, ◌-◌, ◌*◌, ◌≤◌, ◌<◌}
 use lib.ListN.{length, get_or, take, drop, set}
 use mathlib.Core.Path.{subst}
-use borrow.Author.Tests.{not_true, not_false}
+use borrow.Author.Tests.{not-true, not-false}
 use Rattle.spec_join.specs.Join.{Answer, owned}
 use Rattle.calls_join.specs.View.{Stand, answers_at, answer_at, hits_at}
 use Rattle.calls_join.specs.Owners.{own_hits}
@@ -52,7 +52,7 @@ returns c =
     let loop = c.before.before.before.before.before.loop in
     let count_at = c.before.before.before.count_at in
     let s = args.s.now in
-    let r = c.before.owns.ensures ∙ ap (λ (x : ℕ). own_hits args.shards x (hits_at s count_at.result (loop.p + 6))) c.before.before.get4.ensures ∙ ap (λ (x : ℕ). own_hits args.shards (answer_at s loop.p).shard (hits_at s x (loop.p + 6))) count_at.ensures in sym (sym loop.invariant.1 ∙ answers_stop s (λ (a : Answer). own_hits args.shards a.shard a.hits) loop.left loop.p c.before.before.before.before.loop-test.true (sym r ∙ not_true _ c.if1.true))
+    let r = c.before.owns.ensures ∙ ap (λ (x : ℕ). own_hits args.shards x (hits_at s count_at.result (loop.p + 6))) c.before.before.get4.ensures ∙ ap (λ (x : ℕ). own_hits args.shards (answer_at s loop.p).shard (hits_at s x (loop.p + 6))) count_at.ensures in sym (sym loop.invariant.1 ∙ answers_stop s (λ (a : Answer). own_hits args.shards a.shard a.hits) loop.left loop.p c.before.before.before.before.loop-test.true (sym r ∙ not-true _ c.if1.true))
 
 after-requires : tie.Need-after-requires invariant-loop decreases-loop
 after-requires c κs =
@@ -74,7 +74,7 @@ loop-again c =
     let count_at = c.before.before.before.before.count_at in
     let s = args.s.now in
     let r = c.before.before.owns.ensures ∙ ap (λ (x : ℕ). own_hits args.shards x (hits_at s count_at.result (loop.p + 6))) c.before.before.before.get4.ensures ∙ ap (λ (x : ℕ). own_hits args.shards (answer_at s loop.p).shard (hits_at s x (loop.p + 6))) count_at.ensures in
-    (subst (Stand s (loop.left - 1)) (sym c.after.ensures) (stand_rest s loop.left loop.p loop-test.true loop.invariant.0), subst (λ (z : ℕ). owned args.shards (answers_at s (loop.left - 1) z) ≡ owned args.shards (answers_at s args.n 0)) (sym c.after.ensures) (sym (answers-on s (λ (a : Answer). own_hits args.shards a.shard a.hits) loop.left loop.p loop-test.true (sym r ∙ not_false _ c.before.if1.false)) ∙ loop.invariant.1))
+    (subst (Stand s (loop.left - 1)) (sym c.after.ensures) (stand_rest s loop.left loop.p loop-test.true loop.invariant.0), subst (λ (z : ℕ). owned args.shards (answers_at s (loop.left - 1) z) ≡ owned args.shards (answers_at s args.n 0)) (sym c.after.ensures) (sym (answers-on s (λ (a : Answer). own_hits args.shards a.shard a.hits) loop.left loop.p loop-test.true (sym r ∙ not-false _ c.before.if1.false)) ∙ loop.invariant.1))
 
 returns-2 : tie.Need-returns-2 invariant-loop decreases-loop
 unfolding owned

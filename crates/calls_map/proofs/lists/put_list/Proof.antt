@@ -1,7 +1,7 @@
 -- `lists::put_list` meets its contract. Assumes nothing.
 use borrow.Author.Rules.{rules}
 use native.Mathlib.Omega.{arith}
-use native.Mathlib.Nat.{add_zero}
+use native.Mathlib.Nat.{add-zero}
 use mathlib.Core.Path.{◌≡◌, refl, ◌∙◌}
 use Prim.Native.Nat.{◌+◌, ◌-◌, ◌*◌, ◌≤◌, ◌<◌}
 use lib.ListN.{length, get_or, take, drop}
@@ -30,7 +30,7 @@ in-use-requires : tie.Need-in-use-requires invariant-loop decreases-loop
 in-use-requires c κs = search rules
 
 loop-holds : tie.Need-loop-init invariant-loop decreases-loop
-loop-holds c = (omega arith, c.in_use.ensures.1, refl, rw add_zero)
+loop-holds c = (omega arith, c.in_use.ensures.1, refl, rw add-zero)
 
 mul-id : tie.Need-overflow-mul-id invariant-loop decreases-loop
 mul-id c = search rules

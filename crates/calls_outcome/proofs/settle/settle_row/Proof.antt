@@ -5,7 +5,7 @@ use mathlib.Core.Path.{◌≡◌, refl, sym, ◌∙◌, ap}
 use mathlib.Core.List.{List, [], ◌∷◌, ◌++◌}
 use Prim.Native.Nat.{ℕ, ◌+◌, ◌-◌, ◌*◌, ◌≤◌, ◌<◌}
 use lib.ListN.{length, get_or, take, drop, set}
-use borrow.Author.Tests.{not_true, not_false}
+use borrow.Author.Tests.{not-true, not-false}
 use Rattle.image_parts.specs.Codes.{flag_of}
 use Rattle.calls_outcome.proofs.SettleLaws.{settle_not, settle-none, settle-few, settle-row}
 use Rattle.calls_outcome.proofs.settle.settle_row.Statement.{statement}
@@ -24,7 +24,7 @@ same_length : tie.Need-same-length
 same_length c = search rules
 
 returns : tie.Need-returns
-returns c = settle_not c.before.before.before.before.before.args.out.now c.before.before.before.before.before.args.row c.before.before.before.before.before.args.me c.before.before.before.before.before.args.epoch c.before.before.before.before.before.args.peer c.before.before.before.before.before.args.left c.before.before.role-at.result c.before.before.role-at.ensures (sym c.before.leads.ensures ∙ not_true _ c.if1.true)
+returns c = settle_not c.before.before.before.before.before.args.out.now c.before.before.before.before.before.args.row c.before.before.before.before.before.args.me c.before.before.before.before.before.args.epoch c.before.before.before.before.before.args.peer c.before.before.before.before.before.args.left c.before.before.role-at.result c.before.before.role-at.ensures (sym c.before.leads.ensures ∙ not-true _ c.if1.true)
 
 add-get8 : tie.Need-overflow-add-get8
 add-get8 c = let p = c.before.before.before.before.before.before.requires.0 in omega arith
@@ -57,7 +57,7 @@ same-length-2 : tie.Need-same-length-2
 same-length-2 c = search rules
 
 returns-2 : tie.Need-returns-2
-returns-2 c = settle-none c.before.before.before.before.before.before.before.before.before.before.before.before.before.before.before.before.before.before.args.out.now c.before.before.before.before.before.before.before.before.before.before.before.before.before.before.before.before.before.before.args.row c.before.before.before.before.before.before.before.before.before.before.before.before.before.before.before.before.before.before.args.me c.before.before.before.before.before.before.before.before.before.before.before.before.before.before.before.before.before.before.args.epoch c.before.before.before.before.before.before.before.before.before.before.before.before.before.before.before.before.before.before.args.peer c.before.before.before.before.before.before.before.before.before.before.before.before.before.before.before.before.before.before.args.left c.before.before.before.before.before.before.before.before.before.before.before.before.before.before.before.role-at.result c.before.before.before.before.before.before.before.before.before.before.before.before.before.before.before.role-at.ensures (sym c.before.before.before.before.before.before.before.before.before.before.before.before.before.before.leads.ensures ∙ not_false _ c.before.before.before.before.before.before.before.before.before.before.before.before.before.if1.false) c.before.before.before.before.before.before.flag-of.result (c.before.before.before.before.before.before.flag-of.ensures ∙ ap flag_of c.before.before.before.before.before.before.before.get4.ensures) c.before.before.before.before.before.own-after.result c.before.before.before.before.before.own-after.ensures c.before.before.before.before.before.before.before.before.before.before.before.get8.result c.before.before.before.before.before.before.before.before.before.before.before.get8.ensures c.before.before.before.before.before.before.before.before.before.before.before.before.before.before.before.before.before.before.requires.1 c.before.before.before.before.before.before.before.before.before.place_of.result c.before.before.before.before.before.before.before.before.before.place_of.ensures c.before.before.before.before.if2.true _ c.before.before.set_own.ensures
+returns-2 c = settle-none c.before.before.before.before.before.before.before.before.before.before.before.before.before.before.before.before.before.before.args.out.now c.before.before.before.before.before.before.before.before.before.before.before.before.before.before.before.before.before.before.args.row c.before.before.before.before.before.before.before.before.before.before.before.before.before.before.before.before.before.before.args.me c.before.before.before.before.before.before.before.before.before.before.before.before.before.before.before.before.before.before.args.epoch c.before.before.before.before.before.before.before.before.before.before.before.before.before.before.before.before.before.before.args.peer c.before.before.before.before.before.before.before.before.before.before.before.before.before.before.before.before.before.before.args.left c.before.before.before.before.before.before.before.before.before.before.before.before.before.before.before.role-at.result c.before.before.before.before.before.before.before.before.before.before.before.before.before.before.before.role-at.ensures (sym c.before.before.before.before.before.before.before.before.before.before.before.before.before.before.leads.ensures ∙ not-false _ c.before.before.before.before.before.before.before.before.before.before.before.before.before.if1.false) c.before.before.before.before.before.before.flag-of.result (c.before.before.before.before.before.before.flag-of.ensures ∙ ap flag_of c.before.before.before.before.before.before.before.get4.ensures) c.before.before.before.before.before.own-after.result c.before.before.before.before.before.own-after.ensures c.before.before.before.before.before.before.before.before.before.before.before.get8.result c.before.before.before.before.before.before.before.before.before.before.before.get8.ensures c.before.before.before.before.before.before.before.before.before.before.before.before.before.before.before.before.before.before.requires.1 c.before.before.before.before.before.before.before.before.before.place_of.result c.before.before.before.before.before.before.before.before.before.place_of.ensures c.before.before.before.before.if2.true _ c.before.before.set_own.ensures
 
 add-peer-at : tie.Need-overflow-add-peer-at
 add-peer-at c = let p = c.before.before.before.before.before.before.before.before.before.before.before.before.before.before.before.requires.0 in omega arith
@@ -84,7 +84,7 @@ same-length-3 : tie.Need-same-length-3
 same-length-3 c = c.before.before.set-own2.auto.0 ∙ c.before.before.before.before.before.before.set-peer.auto.0
 
 returns-3 : tie.Need-returns-3
-returns-3 c = settle-row c.before.before.before.before.before.before.before.before.before.before.before.before.before.before.before.before.before.before.before.before.before.before.before.before.before.args.out.now c.before.before.before.before.before.before.before.before.before.before.before.before.before.before.before.before.before.before.before.before.before.before.before.before.before.args.row c.before.before.before.before.before.before.before.before.before.before.before.before.before.before.before.before.before.before.before.before.before.before.before.before.before.args.me c.before.before.before.before.before.before.before.before.before.before.before.before.before.before.before.before.before.before.before.before.before.before.before.before.before.args.epoch c.before.before.before.before.before.before.before.before.before.before.before.before.before.before.before.before.before.before.before.before.before.before.before.before.before.args.peer c.before.before.before.before.before.before.before.before.before.before.before.before.before.before.before.before.before.before.before.before.before.before.before.before.before.args.left c.before.before.before.before.before.before.before.before.before.before.before.before.before.before.before.before.before.before.before.before.before.before.role-at.result c.before.before.before.before.before.before.before.before.before.before.before.before.before.before.before.before.before.before.before.before.before.before.role-at.ensures (sym c.before.before.before.before.before.before.before.before.before.before.before.before.before.before.before.before.before.before.before.before.before.leads.ensures ∙ not_false _ c.before.before.before.before.before.before.before.before.before.before.before.before.before.before.before.before.before.before.before.before.if1.false) c.before.before.before.before.before.before.before.before.before.before.before.before.before.flag-of.result (c.before.before.before.before.before.before.before.before.before.before.before.before.before.flag-of.ensures ∙ ap flag_of c.before.before.before.before.before.before.before.before.before.before.before.before.before.before.get4.ensures) c.before.before.before.before.before.before.before.before.before.before.before.before.own-after.result c.before.before.before.before.before.before.before.before.before.before.before.before.own-after.ensures c.before.before.before.before.before.before.before.before.before.before.before.before.before.before.before.before.before.before.get8.result c.before.before.before.before.before.before.before.before.before.before.before.before.before.before.before.before.before.before.get8.ensures c.before.before.before.before.before.before.before.before.before.before.before.before.before.before.before.before.before.before.before.before.before.before.before.before.before.requires.1 c.before.before.before.before.before.before.before.before.before.before.before.before.before.before.before.before.place_of.result c.before.before.before.before.before.before.before.before.before.before.before.before.before.before.before.before.place_of.ensures c.before.before.before.before.before.before.before.before.before.before.before.if2.false c.before.before.before.before.before.before.before.before.before.peer-at.result c.before.before.before.before.before.before.before.before.before.peer-at.ensures c.before.before.before.before.before.before.before.before.row_settled.result c.before.before.before.before.before.before.before.before.row_settled.ensures _ _ c.before.before.before.before.before.before.set-peer.ensures c.before.before.set-own2.ensures
+returns-3 c = settle-row c.before.before.before.before.before.before.before.before.before.before.before.before.before.before.before.before.before.before.before.before.before.before.before.before.before.args.out.now c.before.before.before.before.before.before.before.before.before.before.before.before.before.before.before.before.before.before.before.before.before.before.before.before.before.args.row c.before.before.before.before.before.before.before.before.before.before.before.before.before.before.before.before.before.before.before.before.before.before.before.before.before.args.me c.before.before.before.before.before.before.before.before.before.before.before.before.before.before.before.before.before.before.before.before.before.before.before.before.before.args.epoch c.before.before.before.before.before.before.before.before.before.before.before.before.before.before.before.before.before.before.before.before.before.before.before.before.before.args.peer c.before.before.before.before.before.before.before.before.before.before.before.before.before.before.before.before.before.before.before.before.before.before.before.before.before.args.left c.before.before.before.before.before.before.before.before.before.before.before.before.before.before.before.before.before.before.before.before.before.before.role-at.result c.before.before.before.before.before.before.before.before.before.before.before.before.before.before.before.before.before.before.before.before.before.before.role-at.ensures (sym c.before.before.before.before.before.before.before.before.before.before.before.before.before.before.before.before.before.before.before.before.before.leads.ensures ∙ not-false _ c.before.before.before.before.before.before.before.before.before.before.before.before.before.before.before.before.before.before.before.before.if1.false) c.before.before.before.before.before.before.before.before.before.before.before.before.before.flag-of.result (c.before.before.before.before.before.before.before.before.before.before.before.before.before.flag-of.ensures ∙ ap flag_of c.before.before.before.before.before.before.before.before.before.before.before.before.before.before.get4.ensures) c.before.before.before.before.before.before.before.before.before.before.before.before.own-after.result c.before.before.before.before.before.before.before.before.before.before.before.before.own-after.ensures c.before.before.before.before.before.before.before.before.before.before.before.before.before.before.before.before.before.before.get8.result c.before.before.before.before.before.before.before.before.before.before.before.before.before.before.before.before.before.before.get8.ensures c.before.before.before.before.before.before.before.before.before.before.before.before.before.before.before.before.before.before.before.before.before.before.before.before.before.requires.1 c.before.before.before.before.before.before.before.before.before.before.before.before.before.before.before.before.place_of.result c.before.before.before.before.before.before.before.before.before.before.before.before.before.before.before.before.place_of.ensures c.before.before.before.before.before.before.before.before.before.before.before.if2.false c.before.before.before.before.before.before.before.before.before.peer-at.result c.before.before.before.before.before.before.before.before.before.peer-at.ensures c.before.before.before.before.before.before.before.before.row_settled.result c.before.before.before.before.before.before.before.before.row_settled.ensures _ _ c.before.before.before.before.before.before.set-peer.ensures c.before.before.set-own2.ensures
 
 pub settle-row-spec : {M : Type 1} → statement M
 settle-row-spec = tie.close (tie.spec add-role-at role-at-requires leads-requires same_length returns add-get8 get8-requires add-place-of place-of-requires add-get4 get4-requires flag-of-requires own-after-requires set-own-requires same-length-2 returns-2 add-peer-at mul-peer-at add-peer-at-2 peer-at-requires row-settled-requires set-peer-requires set-own-requires-2 same-length-3 returns-3)

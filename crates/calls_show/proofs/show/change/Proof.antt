@@ -7,7 +7,7 @@ use Prim.Native.Nat.{ℕ, ◌+◌, ◌-◌, ◌*◌, ◌≤◌, ◌<◌}
 use lib.ListN.{length, get_or, take, drop, set}
 use lib.ListN.{length-replicate}
 use lib.Seq.{length-take-le}
-use borrow.Author.Tests.{not_true, not_false}
+use borrow.Author.Tests.{not-true, not-false}
 use Rattle.calls_show.proofs.Change.{change-full, change-short, change_unanswered, change-put, rows_open}
 use Rattle.calls_show.proofs.show.change.Statement.{statement}
 use Rattle.calls_show.proofs.show.change.Tie as tie
@@ -46,7 +46,7 @@ same-length-4 : tie.Need-same-length-4
 same-length-4 c = search rules
 
 returns-3 : tie.Need-returns-3
-returns-3 c = let a = c.before.before.before.before.before.before.before.before.before.before.before.before.before.before.before.before.before.args in change_unanswered a.header.now a.map.now _ _ a.count c.before.before.before.before.before.before.before.before.before.before.before.before.before.before.before.before.before.requires.0 c.before.before.before.before.before.before.before.before.before.before.before.before.before.before.before.before.before.requires.1 c.before.before.before.before.before.before.before.before.before.before.before.before.before.before.before.before.before.requires.2 c.before.before.before.before.before.before.before.before.before.make-rows.result c.before.before.before.before.before.before.before.before.before.make-rows.ensures c.before.before.before.before.before.before.if1.false a.starts.now a.answer.now _ c.before.before.before.before.before.if2.false c.before.before.before.put-number.ensures.1 (sym c.before.before.before.put-number.ensures.0 ∙ not_true _ c.if3.true)
+returns-3 c = let a = c.before.before.before.before.before.before.before.before.before.before.before.before.before.before.before.before.before.args in change_unanswered a.header.now a.map.now _ _ a.count c.before.before.before.before.before.before.before.before.before.before.before.before.before.before.before.before.before.requires.0 c.before.before.before.before.before.before.before.before.before.before.before.before.before.before.before.before.before.requires.1 c.before.before.before.before.before.before.before.before.before.before.before.before.before.before.before.before.before.requires.2 c.before.before.before.before.before.before.before.before.before.make-rows.result c.before.before.before.before.before.before.before.before.before.make-rows.ensures c.before.before.before.before.before.before.if1.false a.starts.now a.answer.now _ c.before.before.before.before.before.if2.false c.before.before.before.put-number.ensures.1 (sym c.before.before.before.put-number.ensures.0 ∙ not-true _ c.if3.true)
 
 array-share-prefix-workers : tie.Need-array-share-prefix-workers
 array-share-prefix-workers c = search rules
@@ -76,7 +76,7 @@ same-length-7 : tie.Need-same-length-7
 same-length-7 c = search rules
 
 returns-4 : tie.Need-returns-4
-returns-4 c = let a = c.before.before.before.before.before.before.before.before.before.before.before.before.before.before.before.before.before.before.before.before.before.before.before.before.before.before.before.before.args in change-put a.header.now a.map.now _ _ a.count c.before.before.before.before.before.before.before.before.before.before.before.before.before.before.before.before.before.before.before.before.before.before.before.before.before.before.before.before.requires.0 c.before.before.before.before.before.before.before.before.before.before.before.before.before.before.before.before.before.before.before.before.before.before.before.before.before.before.before.before.requires.1 c.before.before.before.before.before.before.before.before.before.before.before.before.before.before.before.before.before.before.before.before.before.before.before.before.before.before.before.before.requires.2 c.before.before.before.before.before.before.before.before.before.before.before.before.before.before.before.before.before.before.before.before.make-rows.result c.before.before.before.before.before.before.before.before.before.before.before.before.before.before.before.before.before.before.before.before.make-rows.ensures c.before.before.before.before.before.before.before.before.before.before.before.before.before.before.before.before.before.if1.false a.starts.now a.answer.now _ c.before.before.before.before.before.before.before.before.before.before.before.before.before.before.before.before.if2.false c.before.before.before.before.before.before.before.before.before.before.before.before.before.before.put-number.ensures.1 (sym c.before.before.before.before.before.before.before.before.before.before.before.before.before.before.put-number.ensures.0 ∙ not_false _ c.before.before.before.before.before.before.before.before.before.before.before.if3.false) _ _ _ c.before.before.before.before.before.get8.ensures c.before.before.before.before.before.before.before.before.put-bytes.ensures c.before.before.put-rows.ensures
+returns-4 c = let a = c.before.before.before.before.before.before.before.before.before.before.before.before.before.before.before.before.before.before.before.before.before.before.before.before.before.before.before.before.args in change-put a.header.now a.map.now _ _ a.count c.before.before.before.before.before.before.before.before.before.before.before.before.before.before.before.before.before.before.before.before.before.before.before.before.before.before.before.before.requires.0 c.before.before.before.before.before.before.before.before.before.before.before.before.before.before.before.before.before.before.before.before.before.before.before.before.before.before.before.before.requires.1 c.before.before.before.before.before.before.before.before.before.before.before.before.before.before.before.before.before.before.before.before.before.before.before.before.before.before.before.before.requires.2 c.before.before.before.before.before.before.before.before.before.before.before.before.before.before.before.before.before.before.before.before.make-rows.result c.before.before.before.before.before.before.before.before.before.before.before.before.before.before.before.before.before.before.before.before.make-rows.ensures c.before.before.before.before.before.before.before.before.before.before.before.before.before.before.before.before.before.if1.false a.starts.now a.answer.now _ c.before.before.before.before.before.before.before.before.before.before.before.before.before.before.before.before.if2.false c.before.before.before.before.before.before.before.before.before.before.before.before.before.before.put-number.ensures.1 (sym c.before.before.before.before.before.before.before.before.before.before.before.before.before.before.put-number.ensures.0 ∙ not-false _ c.before.before.before.before.before.before.before.before.before.before.before.if3.false) _ _ _ c.before.before.before.before.before.get8.ensures c.before.before.before.before.before.before.before.before.put-bytes.ensures c.before.before.put-rows.ensures
 
 pub change-spec : {M : Type 1} → statement M
 change-spec = tie.close (tie.spec slice-aggregate-make-rows slice-aggregate-make-rows-2 make-rows-requires same_length returns mul-size same-length-2 returns-2 put-number-requires same-length-3 same-length-4 returns-3 array-share-prefix-workers slice-aggregate-put-bytes put-bytes-requires get8-requires slice-aggregate-put-rows put-rows-requires same-length-5 same-length-6 same-length-7 returns-4)

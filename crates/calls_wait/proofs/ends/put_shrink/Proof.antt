@@ -4,7 +4,7 @@ use native.Mathlib.Omega.{arith}
 use mathlib.Core.Path.{◌≡◌, sym, ◌∙◌}
 use Prim.Native.Nat.{◌-◌, ◌*◌, ◌≤◌, ◌<◌}
 use lib.ListN.{length, take}
-use borrow.Author.Tests.{not_true, not_false}
+use borrow.Author.Tests.{not-true, not-false}
 use Rattle.map_tables.proofs.Tables.{of_field}
 use Rattle.image_parts.proofs.Images.{length-used}
 use Rattle.image_header.specs.Image.{node_at}
@@ -50,7 +50,7 @@ returns-2 c = let z = c.before.before.before.before.before.before.before.before.
     let f = c.before.before.before.before.before.if1.false in
     let p = c.before.before.before.put-number in
     let g : 8 * length (take a.shrink.count a.shrink.items) ≤ length a.peers.now = omega arith in
-    no_answer id_bytes 8 a.said a.header.now a.peers.now a.answer.now (take a.shrink.count a.shrink.items) n g _ _ p.ensures.1 (sym p.ensures.0 ∙ not_true _ c.if2.true)
+    no_answer id_bytes 8 a.said a.header.now a.peers.now a.answer.now (take a.shrink.count a.shrink.items) n g _ _ p.ensures.1 (sym p.ensures.0 ∙ not-true _ c.if2.true)
 
 put-ids-requires : tie.Need-put-ids-requires
 put-ids-requires c κs = let u = c.before.before.before.before.before.before.before.before.in_use.ensures.0 in
@@ -78,7 +78,7 @@ returns-3 c = let z = c.before.before.before.before.before.before.before.before.
     let p = c.before.before.before.before.before.before.before.before.before.before.before.before.put-number in
     let w = c.before.before.put-waited.ensures in
     let g : 8 * length (take a.shrink.count a.shrink.items) ≤ length a.peers.now = omega arith in
-    all-put id_bytes 8 a.said a.header.now a.peers.now a.answer.now (take a.shrink.count a.shrink.items) n g _ _ p.ensures.1 (sym p.ensures.0 ∙ not_false _ c.before.before.before.before.before.before.before.before.before.if2.false) w.image w.becomes c.before.before.before.before.before.before.put-ids.ensures (u ∙ sym m)
+    all-put id_bytes 8 a.said a.header.now a.peers.now a.answer.now (take a.shrink.count a.shrink.items) n g _ _ p.ensures.1 (sym p.ensures.0 ∙ not-false _ c.before.before.before.before.before.before.before.before.before.if2.false) w.image w.becomes c.before.before.before.before.before.before.put-ids.ensures (u ∙ sym m)
 
 pub put-shrink-spec : {M : Type 1} → statement M
 put-shrink-spec = tie.close (tie.spec in-use-requires mul-if1 returns put-number-requires same_length returns-2 put-ids-requires put-waited-requires same-length-2 same-length-3 same-length-4 returns-3)

@@ -4,7 +4,7 @@ use native.Mathlib.Omega.{arith}
 use mathlib.Core.Path.{◌≡◌, refl, sym, ◌∙◌}
 use Prim.Native.Nat.{◌-◌}
 use mathlib.Core.Bool.{true}
-use borrow.Author.Tests.{not_true, not_false}
+use borrow.Author.Tests.{not-true, not-false}
 use Rattle.map_tables.specs.Names.{view_key}
 use Rattle.node_header.proofs.Formed.{header-few}
 use Rattle.image_header.specs.Image.{header_lent, node_at}
@@ -29,10 +29,10 @@ same_length : tie.Need-same-length
 same_length c = search rules
 
 returns-2 : tie.Need-returns-2
-returns-2 c = asked_malformed (sym c.before.before.before.before.unread.ensures ∙ c.before.before.before.if1.false) (sym c.before.is-lent.ensures ∙ not_true _ c.if2.true) refl (refl, refl, refl)
+returns-2 c = asked_malformed (sym c.before.before.before.before.unread.ensures ∙ c.before.before.before.if1.false) (sym c.before.is-lent.ensures ∙ not-true _ c.if2.true) refl (refl, refl, refl)
 
 is-formed-requires : tie.Need-is-formed-requires
-is-formed-requires c κs = lent_long c.before.before.before.before.before.before.before.before.before.before.args.header.now (sym c.before.before.is-lent.ensures ∙ not_false _ c.before.if2.false)
+is-formed-requires c κs = lent_long c.before.before.before.before.before.before.before.before.before.before.args.header.now (sym c.before.before.is-lent.ensures ∙ not-false _ c.before.if2.false)
 
 same-length-2 : tie.Need-same-length-2
 same-length-2 c = search rules
@@ -42,19 +42,19 @@ returns-3 c =
     let a = c.before.before.before.before.before.before.before.before.before.before.before.before.args in
     let s = a.header.now in
     let u = sym c.before.before.before.before.before.before.before.unread.ensures ∙ c.before.before.before.before.before.before.if1.false in
-    let lent : header_lent s ≡ true = sym c.before.before.before.before.is-lent.ensures ∙ not_false _ c.before.before.before.if2.false in
-    asked-called u lent (wait_bad s lent a.name.now a.shard _ refl a.peers.now a.answer.now a.epoch a.offset a.clock a.timeout (wait_early a.name.now a.clock a.timeout u) (wait_short a.name.now a.clock a.timeout u) (sym c.before.is-formed.ensures ∙ not_true _ c.if3.true))
+    let lent : header_lent s ≡ true = sym c.before.before.before.before.is-lent.ensures ∙ not-false _ c.before.before.before.if2.false in
+    asked-called u lent (wait_bad s lent a.name.now a.shard _ refl a.peers.now a.answer.now a.epoch a.offset a.clock a.timeout (wait_early a.name.now a.clock a.timeout u) (wait_short a.name.now a.clock a.timeout u) (sym c.before.is-formed.ensures ∙ not-true _ c.if3.true))
 
 get8-requires : tie.Need-get8-requires
-get8-requires c κs = let l = lent_long c.before.before.before.before.before.before.before.before.before.before.before.before.before.args.header.now (sym c.before.before.before.before.before.is-lent.ensures ∙ not_false _ c.before.before.before.before.if2.false) in omega arith
+get8-requires c κs = let l = lent_long c.before.before.before.before.before.before.before.before.before.before.before.before.before.args.header.now (sym c.before.before.before.before.before.is-lent.ensures ∙ not-false _ c.before.before.before.before.if2.false) in omega arith
 
 key-named-requires : tie.Need-key-named-requires
 key-named-requires c κs = name-fits c.before.before.before.before.before.before.before.before.before.before.before.before.before.before.args.name.now _ (sym c.before.before.before.before.before.before.before.before.before.unread.ensures ∙ c.before.before.before.before.before.before.before.before.if1.false)
 
 place-at-requires : tie.Need-place-at-requires
 place-at-requires c κs = let s = c.before.before.before.before.before.before.before.before.before.before.before.before.before.before.before.before.args.header.now in
-    let l = lent_long s (sym c.before.before.before.before.before.before.before.before.is-lent.ensures ∙ not_false _ c.before.before.before.before.before.before.before.if2.false) in
-    let w = header-few (node_at s) (sym c.before.before.before.before.before.is-formed.ensures ∙ not_false _ c.before.before.before.before.if3.false) in
+    let l = lent_long s (sym c.before.before.before.before.before.before.before.before.is-lent.ensures ∙ not-false _ c.before.before.before.before.before.before.before.if2.false) in
+    let w = header-few (node_at s) (sym c.before.before.before.before.before.is-formed.ensures ∙ not-false _ c.before.before.before.before.if3.false) in
     let k = counted s in
     let e = c.before.before.get8.ensures in (l, omega arith, sym e)
 
@@ -68,8 +68,8 @@ returns-4 c =
     let the-key-named = c.before.before.before.key-named in
     let s = a.header.now in
     let u = sym c.before.before.before.before.before.before.before.before.before.before.before.before.before.unread.ensures ∙ c.before.before.before.before.before.before.before.before.before.before.before.before.if1.false in
-    let lent : header_lent s ≡ true = sym c.before.before.before.before.before.before.before.before.before.before.is-lent.ensures ∙ not_false _ c.before.before.before.before.before.before.before.before.before.if2.false in
-    let good = sym c.before.before.before.before.before.before.before.is-formed.ensures ∙ not_false _ c.before.before.before.before.before.before.if3.false in
+    let lent : header_lent s ≡ true = sym c.before.before.before.before.before.before.before.before.before.before.is-lent.ensures ∙ not-false _ c.before.before.before.before.before.before.before.before.before.if2.false in
+    let good = sym c.before.before.before.before.before.before.before.is-formed.ensures ∙ not-false _ c.before.before.before.before.before.before.if3.false in
     let l = lent_long s lent in
     let w = header-few (node_at s) good in
     let k = counted s in
@@ -86,8 +86,8 @@ wait-at-requires c κs =
     let the-if4 = c.before.before.before.if4 in
     let s = a.header.now in
     let u = sym c.before.before.before.before.before.before.before.before.before.before.before.before.before.before.before.before.unread.ensures ∙ c.before.before.before.before.before.before.before.before.before.before.before.before.before.before.before.if1.false in
-    let lent : header_lent s ≡ true = sym c.before.before.before.before.before.before.before.before.before.before.before.before.before.is-lent.ensures ∙ not_false _ c.before.before.before.before.before.before.before.before.before.before.before.before.if2.false in
-    let good = sym c.before.before.before.before.before.before.before.before.before.before.is-formed.ensures ∙ not_false _ c.before.before.before.before.before.before.before.before.before.if3.false in
+    let lent : header_lent s ≡ true = sym c.before.before.before.before.before.before.before.before.before.before.before.before.before.is-lent.ensures ∙ not-false _ c.before.before.before.before.before.before.before.before.before.before.before.before.if2.false in
+    let good = sym c.before.before.before.before.before.before.before.before.before.before.is-formed.ensures ∙ not-false _ c.before.before.before.before.before.before.before.before.before.if3.false in
     let l = lent_long s lent in
     let w = header-few (node_at s) good in
     let k = counted s in
@@ -112,8 +112,8 @@ returns-5 c =
     let the-place-at = c.before.before.before.before.before.before.before.before.before.before.before.place_at in
     let s = a.header.now in
     let u = sym c.before.before.before.before.before.before.before.before.before.before.before.before.before.before.before.before.before.before.before.before.before.before.before.unread.ensures ∙ c.before.before.before.before.before.before.before.before.before.before.before.before.before.before.before.before.before.before.before.before.before.before.if1.false in
-    let lent : header_lent s ≡ true = sym c.before.before.before.before.before.before.before.before.before.before.before.before.before.before.before.before.before.before.before.before.is-lent.ensures ∙ not_false _ c.before.before.before.before.before.before.before.before.before.before.before.before.before.before.before.before.before.before.before.if2.false in
-    let good = sym c.before.before.before.before.before.before.before.before.before.before.before.before.before.before.before.before.before.is-formed.ensures ∙ not_false _ c.before.before.before.before.before.before.before.before.before.before.before.before.before.before.before.before.if3.false in
+    let lent : header_lent s ≡ true = sym c.before.before.before.before.before.before.before.before.before.before.before.before.before.before.before.before.before.before.before.before.is-lent.ensures ∙ not-false _ c.before.before.before.before.before.before.before.before.before.before.before.before.before.before.before.before.before.before.before.if2.false in
+    let good = sym c.before.before.before.before.before.before.before.before.before.before.before.before.before.before.before.before.before.is-formed.ensures ∙ not-false _ c.before.before.before.before.before.before.before.before.before.before.before.before.before.before.before.before.if3.false in
     let l = lent_long s lent in
     let w = header-few (node_at s) good in
     let k = counted s in

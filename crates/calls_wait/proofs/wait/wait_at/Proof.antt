@@ -3,7 +3,7 @@ use borrow.Author.Rules.{rules}
 use native.Mathlib.Omega.{arith}
 use mathlib.Core.Path.{sym, ◌∙◌}
 use Prim.Native.Nat.{◌-◌}
-use borrow.Author.Tests.{not_true, not_false}
+use borrow.Author.Tests.{not-true, not-false}
 use Rattle.calls_wait.proofs.WaitLaws.{at_other, at_over, at-still}
 use Rattle.calls_wait.proofs.wait.wait_at.Statement.{statement}
 use Rattle.calls_wait.proofs.wait.wait_at.Tie as tie
@@ -61,7 +61,7 @@ returns c =
     let the-role-at = c.before.before.before.before.before.before.before.before.role-at in
     let the-get8 = c.before.before.before.before.get8 in
     let s = a.header.now in
-    at_other s a.peers.now a.answer.now a.at a.epoch a.offset a.clock a.timeout the-role-at.result the-role-at.ensures (sym c.before.before.before.before.before.before.before.leads.ensures ∙ not_true _ c.before.before.before.before.before.before.if1.true) the-get8.result the-get8.ensures _ c.before.before.put-number.ensures.1
+    at_other s a.peers.now a.answer.now a.at a.epoch a.offset a.clock a.timeout the-role-at.result the-role-at.ensures (sym c.before.before.before.before.before.before.before.leads.ensures ∙ not-true _ c.before.before.before.before.before.before.if1.true) the-get8.result the-get8.ensures _ c.before.before.put-number.ensures.1
 
 get8-requires-2 : tie.Need-get8-requires-2
 get8-requires-2 c κs =
@@ -114,7 +114,7 @@ returns-2 c =
     let the-get82 = c.before.before.before.before.before.before.before.before.before.before.before.before.before.before.before.before.before.get82 in
     let the-get83 = c.before.before.before.before.before.before.before.before.before.before.before.before.before.before.before.get83 in
     let the-shrinks-of = c.before.before.before.before.before.before.before.before.before.before.before.before.before.shrinks-of in
-    at_over a.header.now _ a.peers.now _ a.answer.now _ a.at a.epoch a.offset a.clock a.timeout _ the-role-at.result the-role-at.ensures (sym c.before.before.before.before.before.before.before.before.before.before.before.before.before.before.before.before.before.before.before.before.leads.ensures ∙ not_false _ c.before.before.before.before.before.before.before.before.before.before.before.before.before.before.before.before.before.before.before.if1.false) the-get83.result the-get82.result the-get83.ensures the-get82.ensures the-shrinks-of.result the-shrinks-of.ensures (sym c.before.before.before.before.before.before.before.before.before.before.before.all-acked.ensures ∙ c.before.before.before.before.before.before.before.before.before.before.if2.true) c.before.before.before.before.before.before.put-shrink.ensures
+    at_over a.header.now _ a.peers.now _ a.answer.now _ a.at a.epoch a.offset a.clock a.timeout _ the-role-at.result the-role-at.ensures (sym c.before.before.before.before.before.before.before.before.before.before.before.before.before.before.before.before.before.before.before.before.leads.ensures ∙ not-false _ c.before.before.before.before.before.before.before.before.before.before.before.before.before.before.before.before.before.before.before.if1.false) the-get83.result the-get82.result the-get83.ensures the-get82.ensures the-shrinks-of.result the-shrinks-of.ensures (sym c.before.before.before.before.before.before.before.before.before.before.before.all-acked.ensures ∙ c.before.before.before.before.before.before.before.before.before.before.if2.true) c.before.before.before.before.before.before.put-shrink.ensures
 
 put-shrink-requires-2 : tie.Need-put-shrink-requires-2
 put-shrink-requires-2 c κs = c.before.before.before.before.before.before.before.before.before.before.before.before.before.before.before.before.before.before.before.requires
@@ -135,7 +135,7 @@ returns-3 c =
     let the-get82 = c.before.before.before.before.before.before.before.before.before.before.before.before.before.before.before.before.before.get82 in
     let the-get83 = c.before.before.before.before.before.before.before.before.before.before.before.before.before.before.before.get83 in
     let the-shrinks-of = c.before.before.before.before.before.before.before.before.before.before.before.before.before.shrinks-of in
-    at-still a.header.now _ a.peers.now _ a.answer.now _ a.at a.epoch a.offset a.clock a.timeout _ the-role-at.result the-role-at.ensures (sym c.before.before.before.before.before.before.before.before.before.before.before.before.before.before.before.before.before.before.before.before.leads.ensures ∙ not_false _ c.before.before.before.before.before.before.before.before.before.before.before.before.before.before.before.before.before.before.before.if1.false) the-get83.result the-get82.result the-get83.ensures the-get82.ensures the-shrinks-of.result the-shrinks-of.ensures (sym c.before.before.before.before.before.before.before.before.before.before.before.all-acked.ensures ∙ c.before.before.before.before.before.before.before.before.before.before.if2.false) c.before.before.before.before.before.before.put-shrink2.ensures
+    at-still a.header.now _ a.peers.now _ a.answer.now _ a.at a.epoch a.offset a.clock a.timeout _ the-role-at.result the-role-at.ensures (sym c.before.before.before.before.before.before.before.before.before.before.before.before.before.before.before.before.before.before.before.before.leads.ensures ∙ not-false _ c.before.before.before.before.before.before.before.before.before.before.before.before.before.before.before.before.before.before.before.if1.false) the-get83.result the-get82.result the-get83.ensures the-get82.ensures the-shrinks-of.result the-shrinks-of.ensures (sym c.before.before.before.before.before.before.before.before.before.before.before.all-acked.ensures ∙ c.before.before.before.before.before.before.before.before.before.before.if2.false) c.before.before.before.before.before.before.put-shrink2.ensures
 
 pub wait-at-spec : {M : Type 1} → statement M
 wait-at-spec = tie.close (tie.spec mul-row add_row add-owns add-lasts add-counts add-roles add-rows role-at-requires leads-requires get8-requires put-number-requires same_length same-length-2 returns get8-requires-2 get8-requires-3 shrinks-of-requires all-acked-requires put-shrink-requires same-length-3 same-length-4 same-length-5 returns-2 put-shrink-requires-2 same-length-6 same-length-7 same-length-8 returns-3)

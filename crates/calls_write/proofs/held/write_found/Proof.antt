@@ -3,7 +3,7 @@ use borrow.Author.Rules.{rules}
 use native.Mathlib.Omega.{arith}
 use mathlib.Core.Path.{sym, ◌∙◌, ap}
 use Prim.Native.Nat.{ℕ, ◌+◌, ◌-◌}
-use borrow.Author.Tests.{not_true, not_false}
+use borrow.Author.Tests.{not-true, not-false}
 use Rattle.map_tables.specs.Names.{view_key}
 use Rattle.log_arrive.proofs.Messages.{write-there}
 use Rattle.image_node_grow.proofs.GrowLaws.{row_last, row-few}
@@ -101,7 +101,7 @@ returns-5 c = let a = c.before.before.before.before.before.before.before.before.
     let e = row_last a.header.now a.at f.counts f.found.under in
     no_answer a.header.now a.stores.now a.answer.now (view_key a.key) a.clock a.least a.message.now (λ i. omega (arith, c.before.before.before.before.before.before.before.before.before.before.before.before.before.before.slice-known2.given i)) a.p c.before.before.before.before.before.before.before.before.before.before.before.before.before.before.before.before.requires.0 a.at f
     (admits_so a.header.now a.stores.now a.answer.now (view_key a.key) a.clock a.least a.message.now (λ i. omega (arith, c.before.before.before.before.before.before.before.before.before.before.before.before.before.before.slice-known2.given i)) a.p c.before.before.before.before.before.before.before.before.before.before.before.before.before.before.before.before.requires.0 a.at f c.before.before.before.before.before.before.before.before.before.admit-write.result _ c.before.before.before.before.before.before.before.before.before.admit-write.ensures c.before.before.before.before.before.before.before.enum-told4.given.1)
-    (sym c.before.before.before.put-number2.ensures.0 ∙ not_true _ c.if1.true) (c.before.before.before.before.before.get8.result + 1) (ap (λ (x : ℕ). x + 1) (c.before.before.before.before.before.get8.ensures ∙ sym e)) _ c.before.before.before.put-number2.ensures.1
+    (sym c.before.before.before.put-number2.ensures.0 ∙ not-true _ c.if1.true) (c.before.before.before.before.before.get8.result + 1) (ap (λ (x : ℕ). x + 1) (c.before.before.before.before.before.get8.ensures ∙ sym e)) _ c.before.before.before.put-number2.ensures.1
 
 grow-requires : tie.Need-grow-requires
 grow-requires c κs = let a = c.before.before.before.before.before.before.before.before.before.before.before.before.before.before.before.before.before.before.args in let f = c.before.before.before.before.before.before.before.before.before.before.before.before.before.before.before.before.before.before.requires.1 in (
@@ -130,7 +130,7 @@ returns-6 c = let a = c.before.before.before.before.before.before.before.before.
     let e = row_last a.header.now a.at f.counts f.found.under in
     grown_so a.header.now a.stores.now a.answer.now (view_key a.key) a.clock a.least a.message.now (λ i. omega (arith, c.before.before.before.before.before.before.before.before.before.before.before.before.before.before.before.before.before.before.before.before.before.slice-known2.given i)) a.p c.before.before.before.before.before.before.before.before.before.before.before.before.before.before.before.before.before.before.before.before.before.before.before.requires.0 a.at f
     (admits_so a.header.now a.stores.now a.answer.now (view_key a.key) a.clock a.least a.message.now (λ i. omega (arith, c.before.before.before.before.before.before.before.before.before.before.before.before.before.before.before.before.before.before.before.before.before.slice-known2.given i)) a.p c.before.before.before.before.before.before.before.before.before.before.before.before.before.before.before.before.before.before.before.before.before.before.before.requires.0 a.at f c.before.before.before.before.before.before.before.before.before.before.before.before.before.before.before.before.admit-write.result _ c.before.before.before.before.before.before.before.before.before.before.before.before.before.before.before.before.admit-write.ensures c.before.before.before.before.before.before.before.before.before.before.before.before.before.before.enum-told4.given.1)
-    (sym c.before.before.before.before.before.before.before.before.before.before.put-number2.ensures.0 ∙ not_false _ c.before.before.before.before.before.before.before.if1.false) (c.before.before.before.before.before.before.before.before.before.before.before.before.get8.result + 1) (ap (λ (x : ℕ). x + 1) (c.before.before.before.before.before.before.before.before.before.before.before.before.get8.ensures ∙ sym e)) _ c.before.before.before.before.before.before.before.before.before.before.put-number2.ensures.1 _ _ c.before.before.before.before.grow.ensures
+    (sym c.before.before.before.before.before.before.before.before.before.before.put-number2.ensures.0 ∙ not-false _ c.before.before.before.before.before.before.before.if1.false) (c.before.before.before.before.before.before.before.before.before.before.before.before.get8.result + 1) (ap (λ (x : ℕ). x + 1) (c.before.before.before.before.before.before.before.before.before.before.before.before.get8.ensures ∙ sym e)) _ c.before.before.before.before.before.before.before.before.before.before.put-number2.ensures.1 _ _ c.before.before.before.before.grow.ensures
 
 pub write-found-spec : {M : Type 1} → statement M
 write-found-spec = tie.close (tie.spec mul-row add_row admit-write-requires enum-known-admit put-number-requires same_length same-length-2 returns enum_told same-length-3 returns-2 enum-told-2 same-length-4 returns-3 enum-told-3 same-length-5 returns-4 enum-told-4 add-get8 get8-requires add-put-number put-number-requires-2 same-length-6 same-length-7 returns-5 grow-requires same-length-8 same-length-9 same-length-10 returns-6)

@@ -5,7 +5,7 @@ use mathlib.Core.Path.{◌≡◌, refl, sym, ◌∙◌, ap}
 use mathlib.Core.List.{List, [], ◌∷◌, ◌++◌}
 use Prim.Native.Nat.{ℕ, ◌+◌, ◌-◌, ◌*◌, ◌≤◌, ◌<◌}
 use lib.ListN.{length, get_or, take, drop, set}
-use borrow.Author.Tests.{not_true, not_false, lt-ltb, le-ltb}
+use borrow.Author.Tests.{not-true, not-false, lt-ltb, le-ltb}
 use types.Run.{miss}
 use Rattle.log_arrive.proofs.Messages.{write-there}
 use Rattle.node_write.proofs.Named.{write_missed, write_key_there}
@@ -32,11 +32,11 @@ op-in-domain-requires c κs = write-there c.before.before.before.before.before.b
 
 returns-3 : tie.Need-returns-3
 returns-3 c = let a = c.before.before.before.before.before.before.before.before.before.before.before.before.args in let i = sym c.before.before.before.before.before.decode.ensures ∙ c.before.before.before.p.given.1 in
-    bytes_outside a.header.now a.stores.now a.answer.now a.refused.now a.clock a.least a.message.now (le-ltb 4611686018427387904 a.clock (omega (arith, c.before.before.before.before.before.before.if1.false))) _ i c.before.op-in-domain.result c.before.op-in-domain.ensures (not_true _ c.if2.true)
+    bytes_outside a.header.now a.stores.now a.answer.now a.refused.now a.clock a.least a.message.now (le-ltb 4611686018427387904 a.clock (omega (arith, c.before.before.before.before.before.before.if1.false))) _ i c.before.op-in-domain.result c.before.op-in-domain.ensures (not-true _ c.if2.true)
 
 returns-4 : tie.Need-returns-4
 returns-4 c = let a = c.before.before.before.before.before.before.before.before.before.before.before.before.before.args in let i = sym c.before.before.before.before.before.before.decode.ensures ∙ c.before.before.before.before.p.given.1 in
-    bytes_uncounted a.header.now a.stores.now a.answer.now a.refused.now a.clock a.least a.message.now (le-ltb 4611686018427387904 a.clock (omega (arith, c.before.before.before.before.before.before.before.if1.false))) _ i c.before.before.op-in-domain.result c.before.before.op-in-domain.ensures (not_false _ c.before.if2.false) c.if3.true
+    bytes_uncounted a.header.now a.stores.now a.answer.now a.refused.now a.clock a.least a.message.now (le-ltb 4611686018427387904 a.clock (omega (arith, c.before.before.before.before.before.before.before.if1.false))) _ i c.before.before.op-in-domain.result c.before.before.op-in-domain.ensures (not-false _ c.before.if2.false) c.if3.true
 
 key-of-requires : tie.Need-key-of-requires
 key-of-requires c κs = write_key_there c.before.before.before.before.before.before.before.before.before.before.before.before.before.before.args.message.now _ (sym c.before.before.before.before.before.before.before.decode.ensures ∙ c.before.before.before.before.before.p.given.1)
@@ -45,7 +45,7 @@ write-at-requires : tie.Need-write-at-requires
 write-at-requires c κs = record {
   early = le-ltb 4611686018427387904 c.before.before.before.before.before.before.before.before.before.before.before.before.before.before.before.before.before.before.args.clock (omega (arith, c.before.before.before.before.before.before.before.before.before.before.before.before.if1.false));
   read = sym c.before.before.before.before.before.before.before.before.before.before.before.decode.ensures ∙ c.before.before.before.before.before.before.before.before.before.p.given.1;
-  inside = sym c.before.before.before.before.before.before.before.op-in-domain.ensures ∙ not_false _ c.before.before.before.before.before.before.if2.false;
+  inside = sym c.before.before.before.before.before.before.before.op-in-domain.ensures ∙ not-false _ c.before.before.before.before.before.before.if2.false;
   named = c.before.before.before.key_of.ensures;
 }
 
@@ -60,7 +60,7 @@ same-length-3 c = search rules
 
 returns-5 : tie.Need-returns-5
 returns-5 c = let a = c.before.before.before.before.before.before.before.before.before.before.before.before.before.before.before.before.before.before.before.before.before.before.before.before.before.args in let i = sym c.before.before.before.before.before.before.before.before.before.before.before.before.before.before.before.before.before.before.decode.ensures ∙ c.before.before.before.before.before.before.before.before.before.before.before.before.before.before.before.before.p.given.1 in
-    bytes-named a.header.now a.stores.now a.answer.now a.refused.now a.clock a.least a.message.now (le-ltb 4611686018427387904 a.clock (omega (arith, c.before.before.before.before.before.before.before.before.before.before.before.before.before.before.before.before.before.before.before.if1.false))) _ i c.before.before.before.before.before.before.before.before.before.before.before.before.before.before.op-in-domain.result c.before.before.before.before.before.before.before.before.before.before.before.before.before.before.op-in-domain.ensures (not_false _ c.before.before.before.before.before.before.before.before.before.before.before.before.before.if2.false) (omega (arith, c.before.before.before.before.before.before.before.before.before.before.before.before.if3.false)) _ c.before.before.before.before.before.before.before.before.before.before.key_of.ensures _ c.before.before.before.before.before.before.write-at.ensures
+    bytes-named a.header.now a.stores.now a.answer.now a.refused.now a.clock a.least a.message.now (le-ltb 4611686018427387904 a.clock (omega (arith, c.before.before.before.before.before.before.before.before.before.before.before.before.before.before.before.before.before.before.before.if1.false))) _ i c.before.before.before.before.before.before.before.before.before.before.before.before.before.before.op-in-domain.result c.before.before.before.before.before.before.before.before.before.before.before.before.before.before.op-in-domain.ensures (not-false _ c.before.before.before.before.before.before.before.before.before.before.before.before.before.if2.false) (omega (arith, c.before.before.before.before.before.before.before.before.before.before.before.before.if3.false)) _ c.before.before.before.before.before.before.before.before.before.before.key_of.ensures _ c.before.before.before.before.before.before.write-at.ensures
 
 pub write-message-spec : {M : Type 1} → statement M
 write-message-spec = tie.close (tie.spec returns decode-requires enum-known-p returns-2 op-in-domain-requires returns-3 returns-4 key-of-requires write-at-requires same_length same-length-2 same-length-3 returns-5)

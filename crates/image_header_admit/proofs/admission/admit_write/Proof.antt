@@ -3,7 +3,7 @@ use borrow.Author.Rules.{rules}
 use native.Mathlib.Omega.{arith}
 use mathlib.Core.Path.{sym, ◌∙◌, ap}
 use Prim.Native.Nat.{◌-◌}
-use borrow.Author.Tests.{not_true, not_false}
+use borrow.Author.Tests.{not-true, not-false}
 use Rattle.spec.specs.Node.Lease.{before}
 use Rattle.node_admit.specs.View.{view_expiry}
 use Rattle.image_parts.specs.Codes.{flag_of}
@@ -29,14 +29,14 @@ get8-requires c κs = let r = c.before.before.before.before.requires.1 in omega 
 
 returns : tie.Need-returns
 returns c = let a = c.before.before.before.before.before.args in let s = a.s.now in
-    elsewhere s a.row a.epoch (before (view_expiry (node_at s).expiry) a.clock) a.least c.before.before.before.role-at.result c.before.before.before.role-at.ensures c.before.before.leads.result c.before.before.leads.ensures (not_true _ c.before.if1.true) c.get8.result c.get8.ensures
+    elsewhere s a.row a.epoch (before (view_expiry (node_at s).expiry) a.clock) a.least c.before.before.before.role-at.result c.before.before.before.role-at.ensures c.before.before.leads.result c.before.before.leads.ensures (not-true _ c.before.if1.true) c.get8.result c.get8.ensures
 
 is-leased-requires : tie.Need-is-leased-requires
 is-leased-requires c κs = c.before.before.before.before.requires.0
 
 returns-2 : tie.Need-returns-2
 returns-2 c = let a = c.before.before.before.before.before.before.args in let s = a.s.now in
-    unleased s a.row a.epoch (before (view_expiry (node_at s).expiry) a.clock) a.least c.before.before.before.before.role-at.result c.before.before.before.before.role-at.ensures c.before.before.before.leads.result c.before.before.before.leads.ensures (not_false _ c.before.before.if1.false) (sym c.before.is-leased.ensures ∙ not_true _ c.if2.true)
+    unleased s a.row a.epoch (before (view_expiry (node_at s).expiry) a.clock) a.least c.before.before.before.before.role-at.result c.before.before.before.before.role-at.ensures c.before.before.before.leads.result c.before.before.before.leads.ensures (not-false _ c.before.before.if1.false) (sym c.before.is-leased.ensures ∙ not-true _ c.if2.true)
 
 add-get8-2 : tie.Need-overflow-add-get8-2
 add-get8-2 c = search rules
@@ -64,7 +64,7 @@ plus-own-requires c κs = c.before.before.members.ensures.1
 
 returns-3 : tie.Need-returns-3
 returns-3 c = let a = c.before.before.before.before.before.before.before.before.before.before.before.before.args in let s = a.s.now in
-    too_few s a.row a.epoch (before (view_expiry (node_at s).expiry) a.clock) a.least c.before.before.before.before.before.before.before.before.before.before.role-at.result c.before.before.before.before.before.before.before.before.before.before.role-at.ensures c.before.before.before.before.before.before.before.before.before.leads.result c.before.before.before.before.before.before.before.before.before.leads.ensures (not_false _ c.before.before.before.before.before.before.before.before.if1.false) (sym c.before.before.before.before.before.before.before.is-leased.ensures ∙ not_false _ c.before.before.before.before.before.before.if2.false)
+    too_few s a.row a.epoch (before (view_expiry (node_at s).expiry) a.clock) a.least c.before.before.before.before.before.before.before.before.before.before.role-at.result c.before.before.before.before.before.before.before.before.before.before.role-at.ensures c.before.before.before.before.before.before.before.before.before.leads.result c.before.before.before.before.before.before.before.before.before.leads.ensures (not-false _ c.before.before.before.before.before.before.before.before.if1.false) (sym c.before.before.before.before.before.before.before.is-leased.ensures ∙ not-false _ c.before.before.before.before.before.before.if2.false)
     c.before.before.before.before.before.get82.result c.before.before.before.before.members.result c.before.before.flag-of.result c.before.plus-own.result c.before.before.before.before.before.get82.ensures c.before.before.before.before.members.ensures.0 (c.before.before.flag-of.ensures ∙ ap flag_of c.before.before.before.get4.ensures) c.before.plus-own.ensures c.if3.true
 
 add-get8-3 : tie.Need-overflow-add-get8-3
@@ -75,12 +75,12 @@ get8-requires-3 c κs = let r = c.before.before.before.before.before.before.befo
 
 returns-4 : tie.Need-returns-4
 returns-4 c = let a = c.before.before.before.before.before.before.before.before.before.before.before.before.before.before.args in let s = a.s.now in
-    full s a.row a.epoch (before (view_expiry (node_at s).expiry) a.clock) a.least c.before.before.before.before.before.before.before.before.before.before.before.before.role-at.result c.before.before.before.before.before.before.before.before.before.before.before.before.role-at.ensures c.before.before.before.before.before.before.before.before.before.before.before.leads.result c.before.before.before.before.before.before.before.before.before.before.before.leads.ensures (not_false _ c.before.before.before.before.before.before.before.before.before.before.if1.false) (sym c.before.before.before.before.before.before.before.before.before.is-leased.ensures ∙ not_false _ c.before.before.before.before.before.before.before.before.if2.false)
+    full s a.row a.epoch (before (view_expiry (node_at s).expiry) a.clock) a.least c.before.before.before.before.before.before.before.before.before.before.before.before.role-at.result c.before.before.before.before.before.before.before.before.before.before.before.before.role-at.ensures c.before.before.before.before.before.before.before.before.before.before.before.leads.result c.before.before.before.before.before.before.before.before.before.before.before.leads.ensures (not-false _ c.before.before.before.before.before.before.before.before.before.before.if1.false) (sym c.before.before.before.before.before.before.before.before.before.is-leased.ensures ∙ not-false _ c.before.before.before.before.before.before.before.before.if2.false)
     c.before.before.before.before.before.before.before.get82.result c.before.before.before.before.before.before.members.result c.before.before.before.before.flag-of.result c.before.before.before.plus-own.result c.before.before.before.before.before.before.before.get82.ensures c.before.before.before.before.before.before.members.ensures.0 (c.before.before.before.before.flag-of.ensures ∙ ap flag_of c.before.before.before.before.before.get4.ensures) c.before.before.before.plus-own.ensures c.before.before.if3.false c.before.get83.result c.before.get83.ensures c.if4.true
 
 returns-5 : tie.Need-returns-5
 returns-5 c = let a = c.before.before.before.before.before.before.before.before.before.before.before.before.before.before.args in let s = a.s.now in
-    admitted s a.row a.epoch (before (view_expiry (node_at s).expiry) a.clock) a.least c.before.before.before.before.before.before.before.before.before.before.before.before.role-at.result c.before.before.before.before.before.before.before.before.before.before.before.before.role-at.ensures c.before.before.before.before.before.before.before.before.before.before.before.leads.result c.before.before.before.before.before.before.before.before.before.before.before.leads.ensures (not_false _ c.before.before.before.before.before.before.before.before.before.before.if1.false) (sym c.before.before.before.before.before.before.before.before.before.is-leased.ensures ∙ not_false _ c.before.before.before.before.before.before.before.before.if2.false)
+    admitted s a.row a.epoch (before (view_expiry (node_at s).expiry) a.clock) a.least c.before.before.before.before.before.before.before.before.before.before.before.before.role-at.result c.before.before.before.before.before.before.before.before.before.before.before.before.role-at.ensures c.before.before.before.before.before.before.before.before.before.before.before.leads.result c.before.before.before.before.before.before.before.before.before.before.before.leads.ensures (not-false _ c.before.before.before.before.before.before.before.before.before.before.if1.false) (sym c.before.before.before.before.before.before.before.before.before.is-leased.ensures ∙ not-false _ c.before.before.before.before.before.before.before.before.if2.false)
     c.before.before.before.before.before.before.before.get82.result c.before.before.before.before.before.before.members.result c.before.before.before.before.flag-of.result c.before.before.before.plus-own.result c.before.before.before.before.before.before.before.get82.ensures c.before.before.before.before.before.before.members.ensures.0 (c.before.before.before.before.flag-of.ensures ∙ ap flag_of c.before.before.before.before.before.get4.ensures) c.before.before.before.plus-own.ensures c.before.before.if3.false c.before.get83.result c.before.get83.ensures c.if4.false
 
 pub admit-write-spec : {M : Type 1} → statement M

@@ -5,7 +5,7 @@ use mathlib.Core.Path.{◌≡◌, refl, sym, ◌∙◌, ap}
 use mathlib.Core.List.{List, [], ◌∷◌, ◌++◌}
 use Prim.Native.Nat.{ℕ, ◌+◌, ◌-◌, ◌*◌, ◌≤◌, ◌<◌}
 use lib.ListN.{length, get_or, take, drop, set}
-use borrow.Author.Tests.{not_true, not_false}
+use borrow.Author.Tests.{not-true, not-false}
 use Rattle.spec.specs.Lists.{lead}
 use Rattle.spec.specs.Keys.{key_below}
 use Rattle.node_shard.proofs.Loops.{lead-on, lead_stop, lead-end}
@@ -44,7 +44,7 @@ key-below-requires c κs = search rules
 returns : tie.Need-returns invariant-loop decreases-loop
 returns c = let a = c.before.before.before.before.before.before.args in let s = a.s.now in let l = c.before.before.before.before.loop in let i = l.i in let n = a.count in let p = below_key (view_key a.key) in let k = c.before.before.before.before.before.before.requires.1 in let g = held_long s in let lt = c.before.before.before.loop-test.true in
     let r : c.before.key_below.result ≡ key_below (view_key (key_at s (48 + 1280 * i))) (view_key a.key) = c.before.key_below.ensures ∙ (rw c.before.before.key-at.ensures) in
-    lead_stop p (node_at s).held n i (omega arith) l.invariant.1 no_held_row (ap p (row_at s n c.before.before.before.before.before.before.requires i no_held_row lt) ∙ below_key_lem s (48 + 1280 * i) (view_key a.key) ∙ sym r ∙ not_true _ c.if1.true) lt
+    lead_stop p (node_at s).held n i (omega arith) l.invariant.1 no_held_row (ap p (row_at s n c.before.before.before.before.before.before.requires i no_held_row lt) ∙ below_key_lem s (48 + 1280 * i) (view_key a.key) ∙ sym r ∙ not-true _ c.if1.true) lt
 
 add-i : tie.Need-overflow-add-i invariant-loop decreases-loop
 add-i c = search rules
@@ -55,7 +55,7 @@ loop-less c = search rules
 loop-again : tie.Need-loop-preserved invariant-loop decreases-loop
 loop-again c = let a = c.before.before.before.before.before.before.args in let s = a.s.now in let l = c.before.before.before.before.loop in let i = l.i in let n = a.count in let p = below_key (view_key a.key) in let k = c.before.before.before.before.before.before.requires.1 in let g = held_long s in let lt = c.before.before.before.loop-test.true in
     let r : c.before.key_below.result ≡ key_below (view_key (key_at s (48 + 1280 * i))) (view_key a.key) = c.before.key_below.ensures ∙ (rw c.before.before.key-at.ensures) in
-    (omega arith, lead-on p (node_at s).held n i (omega arith) l.invariant.1 no_held_row (ap p (row_at s n c.before.before.before.before.before.before.requires i no_held_row lt) ∙ below_key_lem s (48 + 1280 * i) (view_key a.key) ∙ sym r ∙ not_false _ c.if1.false) lt)
+    (omega arith, lead-on p (node_at s).held n i (omega arith) l.invariant.1 no_held_row (ap p (row_at s n c.before.before.before.before.before.before.requires i no_held_row lt) ∙ below_key_lem s (48 + 1280 * i) (view_key a.key) ∙ sym r ∙ not-false _ c.if1.false) lt)
 
 returns-2 : tie.Need-returns-2 invariant-loop decreases-loop
 returns-2 c = let a = c.before.before.before.args in let s = a.s.now in let k = c.before.before.before.requires.1 in let g = held_long s in

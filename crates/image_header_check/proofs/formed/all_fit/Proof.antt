@@ -4,7 +4,7 @@ use native.Mathlib.Omega.{arith}
 use mathlib.Core.Path.{◌≡◌, refl, sym, ◌∙◌, ap}
 use Prim.Native.Nat.{◌-◌, ◌≤◌}
 use lib.ListN.{take, drop}
-use borrow.Author.Tests.{not_true, not_false}
+use borrow.Author.Tests.{not-true, not-false}
 use Rattle.spec.specs.Lists.{every}
 use Rattle.node_header.specs.View.{no_held_row}
 use Rattle.node_header.specs.Formed.{held_row_fits}
@@ -43,7 +43,7 @@ returns c =
     let k = the-pre.1 in
     let g = held_long s in
     let lt = c.before.before.loop-test.true in
-    every_stop held_row_fits (node_at s).held n i (omega arith) l.invariant.1 no_held_row (ap held_row_fits (row_at s n (the-pre) i no_held_row lt) ∙ sym c.before.row_fits.ensures ∙ not_true _ c.if1.true) lt
+    every_stop held_row_fits (node_at s).held n i (omega arith) l.invariant.1 no_held_row (ap held_row_fits (row_at s n (the-pre) i no_held_row lt) ∙ sym c.before.row_fits.ensures ∙ not-true _ c.if1.true) lt
 
 add-i : tie.Need-overflow-add-i invariant-loop decreases-loop
 add-i c = search rules
@@ -62,7 +62,7 @@ loop-again c =
     let k = the-pre.1 in
     let g = held_long s in
     let lt = c.before.before.loop-test.true in
-    (omega arith, every-on held_row_fits (node_at s).held n i (omega arith) l.invariant.1 no_held_row (ap held_row_fits (row_at s n (the-pre) i no_held_row lt) ∙ sym c.before.row_fits.ensures ∙ not_false _ c.if1.false) lt)
+    (omega arith, every-on held_row_fits (node_at s).held n i (omega arith) l.invariant.1 no_held_row (ap held_row_fits (row_at s n (the-pre) i no_held_row lt) ∙ sym c.before.row_fits.ensures ∙ not-false _ c.if1.false) lt)
 
 returns-2 : tie.Need-returns-2 invariant-loop decreases-loop
 returns-2 c =

@@ -4,7 +4,7 @@ use native.Mathlib.Omega.{arith}
 use mathlib.Core.Path.{◌≡◌, refl, sym, ◌∙◌}
 use Prim.Native.Nat.{◌+◌, ◌-◌, ◌*◌, ◌≤◌}
 use lib.ListN.{take, drop}
-use borrow.Author.Tests.{not_true, not_false}
+use borrow.Author.Tests.{not-true, not-false}
 use Rattle.spec.specs.Lists.{rising}
 use Rattle.spec.specs.Keys.{key_below}
 use Rattle.map_tables.specs.Names.{view_key}
@@ -67,7 +67,7 @@ returns-2 c =
     let lt = c.before.before.before.before.loop-test.true in
     let f = l.invariant.0 in
     let r : c.before.key_below.result ≡ key_below (view_key (key_at s (48 + 1280 * (i - 1)))) (view_key (key_at s (48 + 1280 * i))) = c.before.key_below.ensures ∙ (rw (c.before.before.before.key-at.ensures, c.before.before.key-at2.ensures)) in
-    rise_stop held_row_below (node_at s).held n i (omega arith) f l.invariant.2 no_held_row lt (rw (row_at s n (the-pre) (i - 1) no_held_row (omega arith), row_at s n (the-pre) i no_held_row lt) (below-is s (48 + 1280 * (i - 1)) (48 + 1280 * i) ∙ sym r ∙ not_true _ c.if2.true))
+    rise_stop held_row_below (node_at s).held n i (omega arith) f l.invariant.2 no_held_row lt (rw (row_at s n (the-pre) (i - 1) no_held_row (omega arith), row_at s n (the-pre) i no_held_row lt) (below-is s (48 + 1280 * (i - 1)) (48 + 1280 * i) ∙ sym r ∙ not-true _ c.if2.true))
 
 add-i : tie.Need-overflow-add-i invariant-loop decreases-loop
 add-i c = search rules
@@ -88,7 +88,7 @@ loop-again c =
     let lt = c.before.before.before.before.loop-test.true in
     let f = l.invariant.0 in
     let r : c.before.key_below.result ≡ key_below (view_key (key_at s (48 + 1280 * (i - 1)))) (view_key (key_at s (48 + 1280 * i))) = c.before.key_below.ensures ∙ (rw (c.before.before.before.key-at.ensures, c.before.before.key-at2.ensures)) in
-    (omega arith, omega arith, rise-on held_row_below (node_at s).held n i (omega arith) f l.invariant.2 no_held_row lt (rw (row_at s n (the-pre) (i - 1) no_held_row (omega arith), row_at s n (the-pre) i no_held_row lt) (below-is s (48 + 1280 * (i - 1)) (48 + 1280 * i) ∙ sym r ∙ not_false _ c.if2.false)))
+    (omega arith, omega arith, rise-on held_row_below (node_at s).held n i (omega arith) f l.invariant.2 no_held_row lt (rw (row_at s n (the-pre) (i - 1) no_held_row (omega arith), row_at s n (the-pre) i no_held_row lt) (below-is s (48 + 1280 * (i - 1)) (48 + 1280 * i) ∙ sym r ∙ not-false _ c.if2.false)))
 
 returns-3 : tie.Need-returns-3 invariant-loop decreases-loop
 returns-3 c =

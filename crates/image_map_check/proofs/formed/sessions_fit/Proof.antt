@@ -5,7 +5,7 @@ use mathlib.Core.Path.{◌≡◌, refl, sym, ◌∙◌, ap}
 use mathlib.Core.List.{List, [], ◌∷◌, ◌++◌}
 use Prim.Native.Nat.{ℕ, ◌+◌, ◌-◌, ◌*◌, ◌≤◌, ◌<◌}
 use lib.ListN.{length, get_or, take, drop, set}
-use borrow.Author.Tests.{not_true, not_false}
+use borrow.Author.Tests.{not-true, not-false}
 use Rattle.spec.specs.Layout.Format.{number_at}
 use Rattle.spec.specs.Map.Apply.{session_below}
 use Rattle.spec.specs.Map.WellFormed.{session_fits}
@@ -48,7 +48,7 @@ session-follows-requires : tie.Need-session-follows-requires invariant-loop decr
 session-follows-requires c κs = let k = c.before.loop.invariant.1 in let q = c.before.loop.invariant.2 in let lt = c.loop-test.true in let room = c.before.before.before.before.before.requires in (omega arith, omega arith)
 
 returns-2 : tie.Need-returns-2 invariant-loop decreases-loop
-returns-2 c = let k = c.before.before.before.loop.invariant.1 in let n = c.before.before.before.loop.invariant.3 in let lt = c.before.before.loop-test.true in pass_stop 64 80 21416 (session_at c.before.before.before.before.before.before.before.args.s.now) no_session (number_at 8 c.before.before.before.before.before.before.before.args.s.now 32) view_session session_below session_counted session_fits (omega arith) c.before.before.before.loop.i c.before.before.before.loop.last c.before.before.before.loop.invariant.2 c.before.before.before.loop.invariant.4 (omega arith) (sym c.before.session-follows.ensures ∙ not_true _ c.if2.true)
+returns-2 c = let k = c.before.before.before.loop.invariant.1 in let n = c.before.before.before.loop.invariant.3 in let lt = c.before.before.loop-test.true in pass_stop 64 80 21416 (session_at c.before.before.before.before.before.before.before.args.s.now) no_session (number_at 8 c.before.before.before.before.before.before.before.args.s.now 32) view_session session_below session_counted session_fits (omega arith) c.before.before.before.loop.i c.before.before.before.loop.last c.before.before.before.loop.invariant.2 c.before.before.before.loop.invariant.4 (omega arith) (sym c.before.session-follows.ensures ∙ not-true _ c.if2.true)
 
 add-i : tie.Need-overflow-add-i invariant-loop decreases-loop
 add-i c = search rules
@@ -57,7 +57,7 @@ loop-less : tie.Need-loop-smaller invariant-loop decreases-loop
 loop-less c = search rules
 
 loop-again : tie.Need-loop-preserved invariant-loop decreases-loop
-loop-again c = let k = c.before.before.before.loop.invariant.1 in let n = c.before.before.before.loop.invariant.3 in let lt = c.before.before.loop-test.true in (omega arith, k, omega arith, n, pass_on 64 80 21416 (session_at c.before.before.before.before.before.before.before.args.s.now) no_session (number_at 8 c.before.before.before.before.before.before.before.args.s.now 32) view_session session_below session_counted session_fits (omega arith) c.before.before.before.loop.i c.before.before.before.loop.last c.before.before.before.loop.invariant.2 c.before.before.before.loop.invariant.4 (omega arith) (sym c.before.session-follows.ensures ∙ not_false _ c.if2.false))
+loop-again c = let k = c.before.before.before.loop.invariant.1 in let n = c.before.before.before.loop.invariant.3 in let lt = c.before.before.loop-test.true in (omega arith, k, omega arith, n, pass_on 64 80 21416 (session_at c.before.before.before.before.before.before.before.args.s.now) no_session (number_at 8 c.before.before.before.before.before.before.before.args.s.now 32) view_session session_below session_counted session_fits (omega arith) c.before.before.before.loop.i c.before.before.before.loop.last c.before.before.before.loop.invariant.2 c.before.before.before.loop.invariant.4 (omega arith) (sym c.before.session-follows.ensures ∙ not-false _ c.if2.false))
 
 returns-3 : tie.Need-returns-3 invariant-loop decreases-loop
 returns-3 c = let k = c.before.loop.invariant.1 in let n = c.before.loop.invariant.3 in let lt = c.loop-test.false in pass_end 64 80 21416 (session_at c.before.before.before.before.before.args.s.now) no_session (number_at 8 c.before.before.before.before.before.args.s.now 32) view_session session_below session_counted session_fits (omega arith) c.before.loop.i c.before.loop.last c.before.loop.invariant.2 c.before.loop.invariant.4 (omega arith)

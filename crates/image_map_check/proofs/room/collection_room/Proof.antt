@@ -6,7 +6,7 @@ use mathlib.Core.List.{List, [], ◌∷◌, ◌++◌}
 use Prim.Native.Nat.{ℕ, ◌+◌, ◌-◌, ◌*◌, ◌≤◌, ◌<◌}
 use lib.ListN.{length, get_or, take, drop, set}
 use mathlib.Core.Bool.{Bool, true, false, not}
-use borrow.Author.Tests.{eq-eqb, ne_eqb, le-ltb, lt-ltb, not_true, not_false}
+use borrow.Author.Tests.{eq-eqb, ne_eqb, le-ltb, lt-ltb, not-true, not-false}
 use lib.Dec.{ltb}
 use Rattle.spec.specs.Keys.{key_below, name_below}
 use Rattle.spec.specs.Layout.Format.{number_at}
@@ -43,7 +43,7 @@ name-below-requires : tie.Need-name-below-requires invariant-loop decreases-loop
 name-below-requires c κs = search rules
 
 returns : tie.Need-returns invariant-loop decreases-loop
-returns c = let n = c.before.before.before.before.before.before.requires.2 in let lt = c.before.before.before.loop-test.true in led_stop 16 56 3112 (collection_at c.before.before.before.before.before.before.args.s.now) no_collection (number_at 8 c.before.before.before.before.before.before.args.s.now 16) view_collection (λ (y : tables.Collection). name_below y.name (view_name c.before.before.before.before.before.before.args.name)) (let q = c.before.before.before.before.before.before.requires.1 in let e = c.before.before.before.before.before.before.requires.2 in omega arith) c.before.before.before.before.loop.i c.before.before.before.before.loop.invariant.1 (omega arith) (name-low c.before.before.before.before.before.before.args.s.now (3112 + 56 * c.before.before.before.before.loop.i) c.before.before.before.before.before.before.args.name _ c.before.before.name-at.ensures _ c.before.name_below.ensures ∙ not_true _ c.if1.true)
+returns c = let n = c.before.before.before.before.before.before.requires.2 in let lt = c.before.before.before.loop-test.true in led_stop 16 56 3112 (collection_at c.before.before.before.before.before.before.args.s.now) no_collection (number_at 8 c.before.before.before.before.before.before.args.s.now 16) view_collection (λ (y : tables.Collection). name_below y.name (view_name c.before.before.before.before.before.before.args.name)) (let q = c.before.before.before.before.before.before.requires.1 in let e = c.before.before.before.before.before.before.requires.2 in omega arith) c.before.before.before.before.loop.i c.before.before.before.before.loop.invariant.1 (omega arith) (name-low c.before.before.before.before.before.before.args.s.now (3112 + 56 * c.before.before.before.before.loop.i) c.before.before.before.before.before.before.args.name _ c.before.before.name-at.ensures _ c.before.name_below.ensures ∙ not-true _ c.if1.true)
 
 add-i : tie.Need-overflow-add-i invariant-loop decreases-loop
 add-i c = search rules
@@ -52,7 +52,7 @@ loop-less : tie.Need-loop-smaller invariant-loop decreases-loop
 loop-less c = search rules
 
 loop-again : tie.Need-loop-preserved invariant-loop decreases-loop
-loop-again c = let n = c.before.before.before.before.before.before.requires.2 in let lt = c.before.before.before.loop-test.true in (omega arith, led_on 16 56 3112 (collection_at c.before.before.before.before.before.before.args.s.now) no_collection (number_at 8 c.before.before.before.before.before.before.args.s.now 16) view_collection (λ (y : tables.Collection). name_below y.name (view_name c.before.before.before.before.before.before.args.name)) (let q = c.before.before.before.before.before.before.requires.1 in let e = c.before.before.before.before.before.before.requires.2 in omega arith) c.before.before.before.before.loop.i c.before.before.before.before.loop.invariant.1 (omega arith) (name-low c.before.before.before.before.before.before.args.s.now (3112 + 56 * c.before.before.before.before.loop.i) c.before.before.before.before.before.before.args.name _ c.before.before.name-at.ensures _ c.before.name_below.ensures ∙ not_false _ c.if1.false))
+loop-again c = let n = c.before.before.before.before.before.before.requires.2 in let lt = c.before.before.before.loop-test.true in (omega arith, led_on 16 56 3112 (collection_at c.before.before.before.before.before.before.args.s.now) no_collection (number_at 8 c.before.before.before.before.before.before.args.s.now 16) view_collection (λ (y : tables.Collection). name_below y.name (view_name c.before.before.before.before.before.before.args.name)) (let q = c.before.before.before.before.before.before.requires.1 in let e = c.before.before.before.before.before.before.requires.2 in omega arith) c.before.before.before.before.loop.i c.before.before.before.before.loop.invariant.1 (omega arith) (name-low c.before.before.before.before.before.before.args.s.now (3112 + 56 * c.before.before.before.before.loop.i) c.before.before.before.before.before.before.args.name _ c.before.before.name-at.ensures _ c.before.name_below.ensures ∙ not-false _ c.if1.false))
 
 returns-2 : tie.Need-returns-2 invariant-loop decreases-loop
 returns-2 c = let n = c.before.before.before.requires.2 in let lt = c.loop-test.false in led_end 16 56 3112 (collection_at c.before.before.before.args.s.now) no_collection (number_at 8 c.before.before.before.args.s.now 16) view_collection (λ (y : tables.Collection). name_below y.name (view_name c.before.before.before.args.name)) (let q = c.before.before.before.requires.1 in let e = c.before.before.before.requires.2 in omega arith) c.before.loop.i c.before.loop.invariant.1 (omega arith)

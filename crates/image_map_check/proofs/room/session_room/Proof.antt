@@ -6,7 +6,7 @@ use mathlib.Core.List.{List, [], ◌∷◌, ◌++◌}
 use Prim.Native.Nat.{ℕ, ◌+◌, ◌-◌, ◌*◌, ◌≤◌, ◌<◌}
 use lib.ListN.{length, get_or, take, drop, set}
 use mathlib.Core.Bool.{Bool, true, false, not}
-use borrow.Author.Tests.{eq-eqb, ne_eqb, le-ltb, lt-ltb, not_true, not_false}
+use borrow.Author.Tests.{eq-eqb, ne_eqb, le-ltb, lt-ltb, not-true, not-false}
 use lib.Dec.{ltb}
 use Rattle.spec.specs.Keys.{key_below, name_below}
 use Rattle.spec.specs.Layout.Format.{number_at}

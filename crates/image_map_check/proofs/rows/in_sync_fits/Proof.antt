@@ -5,7 +5,7 @@ use mathlib.Core.Path.{◌≡◌, refl, sym, ◌∙◌, ap}
 use mathlib.Core.List.{List, [], ◌∷◌, ◌++◌}
 use Prim.Native.Nat.{ℕ, ◌+◌, ◌-◌, ◌*◌, ◌≤◌, ◌<◌}
 use lib.ListN.{length, get_or, take, drop, set}
-use borrow.Author.Tests.{not_true, not_false}
+use borrow.Author.Tests.{not-true, not-false}
 use mathlib.Core.Bool.{Bool, true, false}
 use Rattle.spec.specs.Map.Change.{id_below}
 use Rattle.image_parts.specs.Codes.{id_of}
@@ -53,7 +53,7 @@ id-follows-requires : tie.Need-id-follows-requires invariant-loop decreases-loop
 id-follows-requires c κs = search rules
 
 returns : tie.Need-returns invariant-loop decreases-loop
-returns c = synced_stop c.before.before.before.before.before.before.before.args.s.now c.before.before.before.before.before.before.before.args.at c.before.before.before.before.before.before.before.args.held c.before.before.before.before.before.before.before.args.count c.before.before.before.before.before.before.before.requires.3 c.before.before.before.before.before.before.before.requires.4 c.before.before.before.before.before.before.before.requires.2 c.before.before.before.before.before.loop.i c.before.before.before.before.before.loop.last c.before.before.before.before.before.loop.invariant.1 c.before.before.before.before.before.loop.invariant.5 c.before.before.before.before.loop-test.true _ _ c.before.before.before.get8.ensures c.before.before.get82.ensures _ c.before.id-follows.ensures (not_true _ c.if1.true)
+returns c = synced_stop c.before.before.before.before.before.before.before.args.s.now c.before.before.before.before.before.before.before.args.at c.before.before.before.before.before.before.before.args.held c.before.before.before.before.before.before.before.args.count c.before.before.before.before.before.before.before.requires.3 c.before.before.before.before.before.before.before.requires.4 c.before.before.before.before.before.before.before.requires.2 c.before.before.before.before.before.loop.i c.before.before.before.before.before.loop.last c.before.before.before.before.before.loop.invariant.1 c.before.before.before.before.before.loop.invariant.5 c.before.before.before.before.loop-test.true _ _ c.before.before.before.get8.ensures c.before.before.get82.ensures _ c.before.id-follows.ensures (not-true _ c.if1.true)
 
 add-i : tie.Need-overflow-add-i invariant-loop decreases-loop
 add-i c = search rules
@@ -62,7 +62,7 @@ loop-less : tie.Need-loop-smaller invariant-loop decreases-loop
 loop-less c = search rules
 
 loop-again : tie.Need-loop-preserved invariant-loop decreases-loop
-loop-again c = (omega arith, omega arith, c.before.before.before.before.before.loop.invariant.2, c.before.before.before.before.before.loop.invariant.3, c.before.before.before.before.before.before.before.requires.2, synced_on c.before.before.before.before.before.before.before.args.s.now c.before.before.before.before.before.before.before.args.at c.before.before.before.before.before.before.before.args.held c.before.before.before.before.before.before.before.args.count c.before.before.before.before.before.before.before.requires.3 c.before.before.before.before.before.before.before.requires.4 c.before.before.before.before.before.before.before.requires.2 c.before.before.before.before.before.loop.i c.before.before.before.before.before.loop.last c.before.before.before.before.before.loop.invariant.1 c.before.before.before.before.before.loop.invariant.5 c.before.before.before.before.loop-test.true _ _ c.before.before.before.get8.ensures c.before.before.get82.ensures _ c.before.id-follows.ensures (not_false _ c.if1.false))
+loop-again c = (omega arith, omega arith, c.before.before.before.before.before.loop.invariant.2, c.before.before.before.before.before.loop.invariant.3, c.before.before.before.before.before.before.before.requires.2, synced_on c.before.before.before.before.before.before.before.args.s.now c.before.before.before.before.before.before.before.args.at c.before.before.before.before.before.before.before.args.held c.before.before.before.before.before.before.before.args.count c.before.before.before.before.before.before.before.requires.3 c.before.before.before.before.before.before.before.requires.4 c.before.before.before.before.before.before.before.requires.2 c.before.before.before.before.before.loop.i c.before.before.before.before.before.loop.last c.before.before.before.before.before.loop.invariant.1 c.before.before.before.before.before.loop.invariant.5 c.before.before.before.before.loop-test.true _ _ c.before.before.before.get8.ensures c.before.before.get82.ensures _ c.before.id-follows.ensures (not-false _ c.if1.false))
 
 returns-2 : tie.Need-returns-2 invariant-loop decreases-loop
 returns-2 c = synced_end c.before.before.before.args.s.now c.before.before.before.args.at c.before.before.before.args.held c.before.before.before.args.count c.before.before.before.requires.3 c.before.before.before.requires.4 c.before.before.before.requires.2 c.before.loop.i c.before.loop.last c.before.loop.invariant.1 c.before.loop.invariant.5 c.loop-test.false

@@ -5,7 +5,7 @@ use mathlib.Core.Path.{◌≡◌, refl, sym, ◌∙◌, ap}
 use mathlib.Core.List.{List, [], ◌∷◌, ◌++◌}
 use Prim.Native.Nat.{ℕ, ◌+◌, ◌-◌, ◌*◌, ◌≤◌, ◌<◌}
 use lib.ListN.{length, get_or, take, drop, set}
-use borrow.Author.Tests.{not_true, not_false}
+use borrow.Author.Tests.{not-true, not-false}
 use Rattle.spec.specs.Keys.{key_below}
 use Rattle.map_tables.specs.Names.{view_key}
 use Rattle.map_tables.specs.declared.ShardKey.{ShardKey}
@@ -18,10 +18,10 @@ shard-fits-requires : tie.Need-shard-fits-requires
 shard-fits-requires c κs = search rules
 
 returns : tie.Need-returns
-returns c = shard_wrong c.before.before.before.args.s.now c.before.before.before.args.i c.before.before.before.args.before c.before.before.before.args.at (sym c.before.shard-fits.ensures ∙ not_true _ c.if1.true)
+returns c = shard_wrong c.before.before.before.args.s.now c.before.before.before.args.i c.before.before.before.args.before c.before.before.before.args.at (sym c.before.shard-fits.ensures ∙ not-true _ c.if1.true)
 
 returns-2 : tie.Need-returns-2
-returns-2 c = shard-first c.before.before.before.before.args.s.now c.before.before.before.before.args.i c.before.before.before.before.args.before c.before.before.before.before.args.at (sym c.before.before.shard-fits.ensures ∙ not_false _ c.before.if1.false) c.if2.true
+returns-2 c = shard-first c.before.before.before.before.args.s.now c.before.before.before.before.args.i c.before.before.before.before.args.before c.before.before.before.before.args.at (sym c.before.before.shard-fits.ensures ∙ not-false _ c.before.if1.false) c.if2.true
 
 key-at-requires : tie.Need-key-at-requires
 key-at-requires c κs = search rules
@@ -33,7 +33,7 @@ key-below-requires : tie.Need-key-below-requires
 key-below-requires c κs = search rules
 
 returns-3 : tie.Need-returns-3
-returns-3 c = shard-after c.before.before.before.before.before.before.before.args.s.now c.before.before.before.before.before.before.before.args.i c.before.before.before.before.before.before.before.args.before c.before.before.before.before.before.before.before.args.at (sym c.before.before.before.before.before.shard-fits.ensures ∙ not_false _ c.before.before.before.before.if1.false) c.before.before.before.if2.false _
+returns-3 c = shard-after c.before.before.before.before.before.before.before.args.s.now c.before.before.before.before.before.before.before.args.i c.before.before.before.before.before.before.before.args.before c.before.before.before.before.before.before.before.args.at (sym c.before.before.before.before.before.shard-fits.ensures ∙ not-false _ c.before.before.before.before.if1.false) c.before.before.before.if2.false _
     (c.key_below.ensures ∙ ap (λ (x : ShardKey). key_below (view_key x) (view_key c.before.key-at2.result)) c.before.before.key-at.ensures ∙ ap (λ (x : ShardKey). key_below (view_key (key_at c.before.before.before.before.before.before.before.args.s.now c.before.before.before.before.before.before.before.args.before)) (view_key x)) c.before.key-at2.ensures ∙ sym (key-under c.before.before.before.before.before.before.before.args.s.now c.before.before.before.before.before.before.before.args.before c.before.before.before.before.before.before.before.args.at))
 
 pub shard-follows-spec : {M : Type 1} → statement M

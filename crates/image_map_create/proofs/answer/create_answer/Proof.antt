@@ -6,7 +6,7 @@ use mathlib.Core.List.{List, [], ◌∷◌, ◌++◌}
 use Prim.Native.Nat.{ℕ, ◌+◌, ◌-◌, ◌*◌, ◌≤◌, ◌<◌}
 use lib.ListN.{length, get_or, take, drop, set}
 use mathlib.Core.Bool.{true, false}
-use borrow.Author.Tests.{not_true, not_false}
+use borrow.Author.Tests.{not-true, not-false}
 use Rattle.spec.specs.Map.Create.{has_collection, matches, first_not_alive}
 use mathlib.Core.Option.{none}
 use Rattle.map_tables.specs.Names.{view_name}
@@ -58,7 +58,7 @@ rejected-requires-4 : tie.Need-rejected-requires-4
 rejected-requires-4 c κs = search rules
 
 returns-4 : tie.Need-returns-4
-returns-4 c = c.rejected4.ensures ∙ sym (mismatch_answer (read_as c.before.before.before.before.before.before.before.before.before.before.before.args.map.now) (view_name c.before.before.before.before.before.before.before.before.before.before.before.args.name) (view_spec c.before.before.before.before.before.before.before.before.before.before.before.args.spec) (view_placement c.before.before.before.before.before.before.before.before.before.before.before.args.p) (has_not c.before.before.before.before.before.before.before.before.before.before.before.args.map.now c.before.before.before.before.before.before.before.before.before.before.before.requires.0 (view_name c.before.before.before.before.before.before.before.before.before.before.before.args.name) _ _ c.before.before.before.before.before.before.before.before.before.get8.ensures c.before.before.before.before.before.before.before.before.collection-place.ensures c.before.before.before.before.before.before.before.if1.false) (sym c.before.before.before.before.before.before.zero_in.ensures ∙ c.before.before.before.before.before.if2.false) (other_lists (view_spec c.before.before.before.before.before.before.before.before.before.before.before.args.spec) (view_placement c.before.before.before.before.before.before.before.before.before.before.before.args.p) (sym c.before.before.lists-match.ensures ∙ not_true _ c.before.if4.true)))
+returns-4 c = c.rejected4.ensures ∙ sym (mismatch_answer (read_as c.before.before.before.before.before.before.before.before.before.before.before.args.map.now) (view_name c.before.before.before.before.before.before.before.before.before.before.before.args.name) (view_spec c.before.before.before.before.before.before.before.before.before.before.before.args.spec) (view_placement c.before.before.before.before.before.before.before.before.before.before.before.args.p) (has_not c.before.before.before.before.before.before.before.before.before.before.before.args.map.now c.before.before.before.before.before.before.before.before.before.before.before.requires.0 (view_name c.before.before.before.before.before.before.before.before.before.before.before.args.name) _ _ c.before.before.before.before.before.before.before.before.before.get8.ensures c.before.before.before.before.before.before.before.before.collection-place.ensures c.before.before.before.before.before.before.before.if1.false) (sym c.before.before.before.before.before.before.zero_in.ensures ∙ c.before.before.before.before.before.if2.false) (other_lists (view_spec c.before.before.before.before.before.before.before.before.before.before.before.args.spec) (view_placement c.before.before.before.before.before.before.before.before.before.before.before.args.p) (sym c.before.before.lists-match.ensures ∙ not-true _ c.before.if4.true)))
 
 walk-requires : tie.Need-walk-requires
 walk-requires c κs = (c.before.before.before.before.before.before.before.before.before.before.requires.0, c.before.before.before.before.before.before.before.before.before.before.requires.2)
@@ -70,7 +70,7 @@ rejected-requires-5 : tie.Need-rejected-requires-5
 rejected-requires-5 c κs = search rules
 
 returns-5 : tie.Need-returns-5
-returns-5 c = c.rejected5.ensures ∙ sym (dead-answer (read_as c.before.before.before.before.before.before.before.before.before.before.before.before.before.before.before.args.map.now) (view_name c.before.before.before.before.before.before.before.before.before.before.before.before.before.before.before.args.name) (view_spec c.before.before.before.before.before.before.before.before.before.before.before.before.before.before.before.args.spec) (view_placement c.before.before.before.before.before.before.before.before.before.before.before.before.before.before.before.args.p) (has_not c.before.before.before.before.before.before.before.before.before.before.before.before.before.before.before.args.map.now c.before.before.before.before.before.before.before.before.before.before.before.before.before.before.before.requires.0 (view_name c.before.before.before.before.before.before.before.before.before.before.before.before.before.before.before.args.name) _ _ c.before.before.before.before.before.before.before.before.before.before.before.before.before.get8.ensures c.before.before.before.before.before.before.before.before.before.before.before.before.collection-place.ensures c.before.before.before.before.before.before.before.before.before.before.before.if1.false) (sym c.before.before.before.before.before.before.before.before.before.before.zero_in.ensures ∙ c.before.before.before.before.before.before.before.before.before.if2.false) (all_match (view_spec c.before.before.before.before.before.before.before.before.before.before.before.before.before.before.before.args.spec) (view_placement c.before.before.before.before.before.before.before.before.before.before.before.before.before.before.before.args.p) (size c.before.before.before.before.before.before.before.before.before.before.before.before.before.before.before ∙ c.before.before.before.before.before.before.before.if3.false) (sym c.before.before.before.before.before.before.lists-match.ensures ∙ not_false _ c.before.before.before.before.before.if4.false)) _ (walked_some _ _ (sym c.before.before.before.before.walk.ensures ∙ c.before.before.walked.given.1)))
+returns-5 c = c.rejected5.ensures ∙ sym (dead-answer (read_as c.before.before.before.before.before.before.before.before.before.before.before.before.before.before.before.args.map.now) (view_name c.before.before.before.before.before.before.before.before.before.before.before.before.before.before.before.args.name) (view_spec c.before.before.before.before.before.before.before.before.before.before.before.before.before.before.before.args.spec) (view_placement c.before.before.before.before.before.before.before.before.before.before.before.before.before.before.before.args.p) (has_not c.before.before.before.before.before.before.before.before.before.before.before.before.before.before.before.args.map.now c.before.before.before.before.before.before.before.before.before.before.before.before.before.before.before.requires.0 (view_name c.before.before.before.before.before.before.before.before.before.before.before.before.before.before.before.args.name) _ _ c.before.before.before.before.before.before.before.before.before.before.before.before.before.get8.ensures c.before.before.before.before.before.before.before.before.before.before.before.before.collection-place.ensures c.before.before.before.before.before.before.before.before.before.before.before.if1.false) (sym c.before.before.before.before.before.before.before.before.before.before.zero_in.ensures ∙ c.before.before.before.before.before.before.before.before.before.if2.false) (all_match (view_spec c.before.before.before.before.before.before.before.before.before.before.before.before.before.before.before.args.spec) (view_placement c.before.before.before.before.before.before.before.before.before.before.before.before.before.before.before.args.p) (size c.before.before.before.before.before.before.before.before.before.before.before.before.before.before.before ∙ c.before.before.before.before.before.before.before.if3.false) (sym c.before.before.before.before.before.before.lists-match.ensures ∙ not-false _ c.before.before.before.before.before.if4.false)) _ (walked_some _ _ (sym c.before.before.before.before.walk.ensures ∙ c.before.before.walked.given.1)))
 
 enum_told : tie.Need-enum-told
 enum_told c = search rules
@@ -82,13 +82,13 @@ refused-requires : tie.Need-refused-requires
 refused-requires c κs = search rules
 
 returns-6 : tie.Need-returns-6
-returns-6 c = c.refused.ensures ∙ sym (full-answer (read_as c.before.before.before.before.before.before.before.before.before.before.before.before.before.before.before.before.args.map.now) (view_name c.before.before.before.before.before.before.before.before.before.before.before.before.before.before.before.before.args.name) (view_spec c.before.before.before.before.before.before.before.before.before.before.before.before.before.before.before.before.args.spec) (view_placement c.before.before.before.before.before.before.before.before.before.before.before.before.before.before.before.before.args.p) (has_not c.before.before.before.before.before.before.before.before.before.before.before.before.before.before.before.before.args.map.now c.before.before.before.before.before.before.before.before.before.before.before.before.before.before.before.before.requires.0 (view_name c.before.before.before.before.before.before.before.before.before.before.before.before.before.before.before.before.args.name) _ _ c.before.before.before.before.before.before.before.before.before.before.before.before.before.before.get8.ensures c.before.before.before.before.before.before.before.before.before.before.before.before.before.collection-place.ensures c.before.before.before.before.before.before.before.before.before.before.before.before.if1.false) (sym c.before.before.before.before.before.before.before.before.before.before.before.zero_in.ensures ∙ c.before.before.before.before.before.before.before.before.before.before.if2.false) (all_match (view_spec c.before.before.before.before.before.before.before.before.before.before.before.before.before.before.before.before.args.spec) (view_placement c.before.before.before.before.before.before.before.before.before.before.before.before.before.before.before.before.args.p) (size c.before.before.before.before.before.before.before.before.before.before.before.before.before.before.before.before ∙ c.before.before.before.before.before.before.before.before.if3.false) (sym c.before.before.before.before.before.before.before.lists-match.ensures ∙ not_false _ c.before.before.before.before.before.before.if4.false)) (walked_none _ (sym c.before.before.before.before.before.walk.ensures ∙ c.before.before.before.enum_told.given.1)) (sym (c.before.before.has_room.ensures (view_placement c.before.before.before.before.before.before.before.before.before.before.before.before.before.before.before.before.args.p) (size c.before.before.before.before.before.before.before.before.before.before.before.before.before.before.before.before)) ∙ not_true _ c.before.if5.true))
+returns-6 c = c.refused.ensures ∙ sym (full-answer (read_as c.before.before.before.before.before.before.before.before.before.before.before.before.before.before.before.before.args.map.now) (view_name c.before.before.before.before.before.before.before.before.before.before.before.before.before.before.before.before.args.name) (view_spec c.before.before.before.before.before.before.before.before.before.before.before.before.before.before.before.before.args.spec) (view_placement c.before.before.before.before.before.before.before.before.before.before.before.before.before.before.before.before.args.p) (has_not c.before.before.before.before.before.before.before.before.before.before.before.before.before.before.before.before.args.map.now c.before.before.before.before.before.before.before.before.before.before.before.before.before.before.before.before.requires.0 (view_name c.before.before.before.before.before.before.before.before.before.before.before.before.before.before.before.before.args.name) _ _ c.before.before.before.before.before.before.before.before.before.before.before.before.before.before.get8.ensures c.before.before.before.before.before.before.before.before.before.before.before.before.before.collection-place.ensures c.before.before.before.before.before.before.before.before.before.before.before.before.if1.false) (sym c.before.before.before.before.before.before.before.before.before.before.before.zero_in.ensures ∙ c.before.before.before.before.before.before.before.before.before.before.if2.false) (all_match (view_spec c.before.before.before.before.before.before.before.before.before.before.before.before.before.before.before.before.args.spec) (view_placement c.before.before.before.before.before.before.before.before.before.before.before.before.before.before.before.before.args.p) (size c.before.before.before.before.before.before.before.before.before.before.before.before.before.before.before.before ∙ c.before.before.before.before.before.before.before.before.if3.false) (sym c.before.before.before.before.before.before.before.lists-match.ensures ∙ not-false _ c.before.before.before.before.before.before.if4.false)) (walked_none _ (sym c.before.before.before.before.before.walk.ensures ∙ c.before.before.before.enum_told.given.1)) (sym (c.before.before.has_room.ensures (view_placement c.before.before.before.before.before.before.before.before.before.before.before.before.before.before.before.before.args.p) (size c.before.before.before.before.before.before.before.before.before.before.before.before.before.before.before.before)) ∙ not-true _ c.before.if5.true))
 
 applied-requires : tie.Need-applied-requires
 applied-requires c κs = search rules
 
 returns-7 : tie.Need-returns-7
-returns-7 c = c.applied.ensures ∙ sym (room-answer (read_as c.before.before.before.before.before.before.before.before.before.before.before.before.before.before.before.before.args.map.now) (view_name c.before.before.before.before.before.before.before.before.before.before.before.before.before.before.before.before.args.name) (view_spec c.before.before.before.before.before.before.before.before.before.before.before.before.before.before.before.before.args.spec) (view_placement c.before.before.before.before.before.before.before.before.before.before.before.before.before.before.before.before.args.p) (has_not c.before.before.before.before.before.before.before.before.before.before.before.before.before.before.before.before.args.map.now c.before.before.before.before.before.before.before.before.before.before.before.before.before.before.before.before.requires.0 (view_name c.before.before.before.before.before.before.before.before.before.before.before.before.before.before.before.before.args.name) _ _ c.before.before.before.before.before.before.before.before.before.before.before.before.before.before.get8.ensures c.before.before.before.before.before.before.before.before.before.before.before.before.before.collection-place.ensures c.before.before.before.before.before.before.before.before.before.before.before.before.if1.false) (sym c.before.before.before.before.before.before.before.before.before.before.before.zero_in.ensures ∙ c.before.before.before.before.before.before.before.before.before.before.if2.false) (all_match (view_spec c.before.before.before.before.before.before.before.before.before.before.before.before.before.before.before.before.args.spec) (view_placement c.before.before.before.before.before.before.before.before.before.before.before.before.before.before.before.before.args.p) (size c.before.before.before.before.before.before.before.before.before.before.before.before.before.before.before.before ∙ c.before.before.before.before.before.before.before.before.if3.false) (sym c.before.before.before.before.before.before.before.lists-match.ensures ∙ not_false _ c.before.before.before.before.before.before.if4.false)) (walked_none _ (sym c.before.before.before.before.before.walk.ensures ∙ c.before.before.before.enum_told.given.1)) (sym (c.before.before.has_room.ensures (view_placement c.before.before.before.before.before.before.before.before.before.before.before.before.before.before.before.before.args.p) (size c.before.before.before.before.before.before.before.before.before.before.before.before.before.before.before.before)) ∙ not_false _ c.before.if5.false))
+returns-7 c = c.applied.ensures ∙ sym (room-answer (read_as c.before.before.before.before.before.before.before.before.before.before.before.before.before.before.before.before.args.map.now) (view_name c.before.before.before.before.before.before.before.before.before.before.before.before.before.before.before.before.args.name) (view_spec c.before.before.before.before.before.before.before.before.before.before.before.before.before.before.before.before.args.spec) (view_placement c.before.before.before.before.before.before.before.before.before.before.before.before.before.before.before.before.args.p) (has_not c.before.before.before.before.before.before.before.before.before.before.before.before.before.before.before.before.args.map.now c.before.before.before.before.before.before.before.before.before.before.before.before.before.before.before.before.requires.0 (view_name c.before.before.before.before.before.before.before.before.before.before.before.before.before.before.before.before.args.name) _ _ c.before.before.before.before.before.before.before.before.before.before.before.before.before.before.get8.ensures c.before.before.before.before.before.before.before.before.before.before.before.before.before.collection-place.ensures c.before.before.before.before.before.before.before.before.before.before.before.before.if1.false) (sym c.before.before.before.before.before.before.before.before.before.before.before.zero_in.ensures ∙ c.before.before.before.before.before.before.before.before.before.before.if2.false) (all_match (view_spec c.before.before.before.before.before.before.before.before.before.before.before.before.before.before.before.before.args.spec) (view_placement c.before.before.before.before.before.before.before.before.before.before.before.before.before.before.before.before.args.p) (size c.before.before.before.before.before.before.before.before.before.before.before.before.before.before.before.before ∙ c.before.before.before.before.before.before.before.before.if3.false) (sym c.before.before.before.before.before.before.before.lists-match.ensures ∙ not-false _ c.before.before.before.before.before.before.if4.false)) (walked_none _ (sym c.before.before.before.before.before.walk.ensures ∙ c.before.before.before.enum_told.given.1)) (sym (c.before.before.has_room.ensures (view_placement c.before.before.before.before.before.before.before.before.before.before.before.before.before.before.before.before.args.p) (size c.before.before.before.before.before.before.before.before.before.before.before.before.before.before.before.before)) ∙ not-false _ c.before.if5.false))
 
 pub create-answer-spec : {M : Type 1} → statement M
 create-answer-spec = tie.close (tie.spec get8-requires collection-place-requires rejected-requires returns zero-in-requires rejected-requires-2 returns-2 cast-shards rejected-requires-3 returns-3 lists-match-requires rejected-requires-4 returns-4 walk-requires enum-known-walked rejected-requires-5 returns-5 enum_told has-room-requires refused-requires returns-6 applied-requires returns-7)

@@ -7,7 +7,7 @@ use Prim.Native.Nat.{ℕ, ◌+◌, ◌-◌, ◌*◌, ◌≤◌, ◌<◌}
 use lib.ListN.{length, get_or, take, drop, set}
 use mathlib.Core.Bool.{Bool, true, false, not}
 use lib.Dec.{eqb}
-use borrow.Author.Tests.{not_true, not_false}
+use borrow.Author.Tests.{not-true, not-false}
 use Rattle.spec.specs.Lists.{◌and◌}
 use Rattle.spec.specs.Map.Place.{on_node}
 use Rattle.spec.specs.Map.Change.{holds}
@@ -21,7 +21,7 @@ is-alive-requires c κs = search rules
 
 returns : tie.Need-returns
 unfolding ◌and◌
-returns c = let e = sym c.before.is-alive.ensures ∙ not_true _ c.if1.true in rw e
+returns c = let e = sym c.before.is-alive.ensures ∙ not-true _ c.if1.true in rw e
 
 get8-requires : tie.Need-get8-requires
 get8-requires c κs = search rules
@@ -31,7 +31,7 @@ replicas-on-requires c κs = search rules
 
 returns-2 : tie.Need-returns-2
 unfolding ◌and◌
-returns-2 c = let e = sym c.before.before.before.is-alive.ensures ∙ not_false _ c.before.before.if1.false in
+returns-2 c = let e = sym c.before.before.before.is-alive.ensures ∙ not-false _ c.before.before.if1.false in
     let rs = take c.before.before.before.before.before.args.held (replicas_at c.before.before.before.before.before.args.s.now c.before.before.before.before.before.args.at) in
     rw e (ap (λ (k : ℕ). eqb k 0) (c.replicas-on.ensures.0 ∙ ap (λ (n : ℕ). on_node n rs) (c.before.get8.ensures ∙ sym (node-id c.before.before.before.before.before.args.s.now c.before.before.before.before.before.args.row))) ∙ none-held _ rs)
 

@@ -9,7 +9,7 @@ use mathlib.Core.Bool.{Bool}
 use mathlib.Core.List.{map}
 use lib.Dec.{eqb}
 use lib.ListN.{length-map}
-use borrow.Author.Tests.{not_true, not_false}
+use borrow.Author.Tests.{not-true, not-false}
 use Rattle.map_tables.specs.View.{view_list, view_placement}
 use Rattle.map_tables.specs.declared.NodeList.{NodeList}
 use Rattle.map_tables.proofs.Tables.{of_field}
@@ -67,7 +67,7 @@ returns-2 c =
     let b = c.before.before.before.before.before.before.before.before.before.args.t2 in
     let ka : length a.lists ≡ 16 = search (rules, of_field) in
     let kb : length b.lists ≡ 16 = search (rules, of_field) in
-    compare_stop view_list (same_all eqb) a.lists b.lists a.count b.count c.before.before.before.before.before.before.before.before.in_use.result c.before.before.before.before.before.loop.i (length-used 16 a.count a.lists ka ∙ sym c.before.before.before.before.before.before.before.before.in_use.ensures.0) (length-used 16 b.count b.lists kb ∙ sym c.before.before.before.before.before.before.before.in-use2.ensures.0 ∙ c.before.before.before.before.before.before.if1.false) c.before.before.before.before.before.before.before.before.in_use.ensures.2 (omega (arith, c.before.before.before.before.before.before.before.in-use2.ensures.2, c.before.before.before.before.before.before.if1.false)) (same_all (same_all eqb) (view_placement a) (view_placement b)) c.before.before.before.before.before.loop.invariant.1 _ (search rules) (sym c.before.same_nodes.ensures ∙ not_true _ c.if2.true)
+    compare_stop view_list (same_all eqb) a.lists b.lists a.count b.count c.before.before.before.before.before.before.before.before.in_use.result c.before.before.before.before.before.loop.i (length-used 16 a.count a.lists ka ∙ sym c.before.before.before.before.before.before.before.before.in_use.ensures.0) (length-used 16 b.count b.lists kb ∙ sym c.before.before.before.before.before.before.before.in-use2.ensures.0 ∙ c.before.before.before.before.before.before.if1.false) c.before.before.before.before.before.before.before.before.in_use.ensures.2 (omega (arith, c.before.before.before.before.before.before.before.in-use2.ensures.2, c.before.before.before.before.before.before.if1.false)) (same_all (same_all eqb) (view_placement a) (view_placement b)) c.before.before.before.before.before.loop.invariant.1 _ (search rules) (sym c.before.same_nodes.ensures ∙ not-true _ c.if2.true)
 
 add-i : tie.Need-overflow-add-i invariant-loop decreases-loop
 add-i c = search rules
@@ -81,7 +81,7 @@ loop-again c =
     let b = c.before.before.before.before.before.before.before.before.before.args.t2 in
     let ka : length a.lists ≡ 16 = search (rules, of_field) in
     let kb : length b.lists ≡ 16 = search (rules, of_field) in
-    (search rules, compare_on view_list (same_all eqb) a.lists b.lists a.count b.count c.before.before.before.before.before.before.before.before.in_use.result c.before.before.before.before.before.loop.i (length-used 16 a.count a.lists ka ∙ sym c.before.before.before.before.before.before.before.before.in_use.ensures.0) (length-used 16 b.count b.lists kb ∙ sym c.before.before.before.before.before.before.before.in-use2.ensures.0 ∙ c.before.before.before.before.before.before.if1.false) c.before.before.before.before.before.before.before.before.in_use.ensures.2 (omega (arith, c.before.before.before.before.before.before.before.in-use2.ensures.2, c.before.before.before.before.before.before.if1.false)) (same_all (same_all eqb) (view_placement a) (view_placement b)) c.before.before.before.before.before.loop.invariant.1 _ (search rules) (sym c.before.same_nodes.ensures ∙ not_false _ c.if2.false))
+    (search rules, compare_on view_list (same_all eqb) a.lists b.lists a.count b.count c.before.before.before.before.before.before.before.before.in_use.result c.before.before.before.before.before.loop.i (length-used 16 a.count a.lists ka ∙ sym c.before.before.before.before.before.before.before.before.in_use.ensures.0) (length-used 16 b.count b.lists kb ∙ sym c.before.before.before.before.before.before.before.in-use2.ensures.0 ∙ c.before.before.before.before.before.before.if1.false) c.before.before.before.before.before.before.before.before.in_use.ensures.2 (omega (arith, c.before.before.before.before.before.before.before.in-use2.ensures.2, c.before.before.before.before.before.before.if1.false)) (same_all (same_all eqb) (view_placement a) (view_placement b)) c.before.before.before.before.before.loop.invariant.1 _ (search rules) (sym c.before.same_nodes.ensures ∙ not-false _ c.if2.false))
 
 returns-3 : tie.Need-returns-3 invariant-loop decreases-loop
 unfolding same_lists

@@ -3,7 +3,7 @@ use borrow.Author.Rules.{rules}
 use native.Mathlib.Omega.{arith}
 use mathlib.Core.Path.{◌≡◌, refl, sym, ◌∙◌}
 use Prim.Native.Nat.{◌+◌, ◌-◌, ◌*◌, ◌≤◌, ◌<◌}
-use native.Mathlib.Nat.{add_zero, mul-zero, sub-zero}
+use native.Mathlib.Nat.{add-zero, mul-zero, sub-zero}
 use Rattle.spec.specs.Layout.Format.{number_at}
 use Rattle.image_parts.specs.Shape.{codes_below}
 use Rattle.image_parts.proofs.Images.{codes_on, codes_stop, codes_end, row_room}
@@ -17,7 +17,7 @@ abbrev decreases-loop : tie.decreases-loop
 decreases-loop s limit w n at i₀ i = n - i
 
 loop-holds : tie.Need-loop-init invariant-loop decreases-loop
-loop-holds c = (omega arith, rw (sub-zero, mul-zero, add_zero))
+loop-holds c = (omega arith, rw (sub-zero, mul-zero, add-zero))
 
 mul-get4 : tie.Need-overflow-mul-get4 invariant-loop decreases-loop
 mul-get4 c = let r = row_room c.before.before.before.args.w c.before.loop.i c.before.before.before.args.n c.loop-test.true in omega arith

@@ -4,7 +4,7 @@ use native.Mathlib.Omega.{arith}
 use mathlib.Core.Path.{◌≡◌, refl, ◌∙◌}
 use Prim.Native.Nat.{◌+◌, ◌-◌, ◌*◌, ◌≤◌, ◌<◌}
 use lib.ListN.{length, drop}
-use native.Mathlib.Nat.{add_zero}
+use native.Mathlib.Nat.{add-zero}
 use lib.Seq.{sets}
 use Rattle.spec.specs.Layout.Format.{concat_map}
 use Rattle.map_tables.proofs.Tables.{of_field}
@@ -21,7 +21,7 @@ abbrev decreases-loop : tie.decreases-loop
 decreases-loop out₀ at rs i₀ out i = 8 - i
 
 loop-holds : tie.Need-loop-init invariant-loop decreases-loop
-loop-holds c = (omega arith, refl, rw add_zero)
+loop-holds c = (omega arith, refl, rw add-zero)
 
 mul-put-replica : tie.Need-overflow-mul-put-replica invariant-loop decreases-loop
 mul-put-replica c = search rules

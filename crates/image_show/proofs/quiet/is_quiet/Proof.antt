@@ -6,7 +6,7 @@ use mathlib.Core.List.{List, [], ◌∷◌, ◌++◌}
 use Prim.Native.Nat.{ℕ, ◌+◌, ◌-◌, ◌*◌, ◌≤◌, ◌<◌}
 use lib.ListN.{length, get_or, take, drop, set}
 use mathlib.Core.Bool.{true, false}
-use borrow.Author.Tests.{eqb-true, not_false}
+use borrow.Author.Tests.{eqb-true, not-false}
 use Rattle.spec_laws.proofs.Lists.{not_both}
 use Rattle.image_map.specs.Image.{map_at}
 use Rattle.image_header.specs.Image.{node_at}
@@ -77,7 +77,7 @@ loop-less : tie.Need-loop-smaller invariant-loop decreases-loop
 loop-less c = let lt = c.before.before.before.before.before.before.before.before.before.before.loop-test.true in omega arith
 
 loop-again : tie.Need-loop-preserved invariant-loop decreases-loop
-loop-again c = let lt = c.before.before.before.before.before.if2.false in let m = shards-many c.before.before.before.before.before.before.before.before.before.before.before.before.before.before.before.before.before.args.map.now in let g = c.before.before.before.before.before.before.before.before.before.before.before.before.before.before.get8.ensures in let go = c.before.before.before.before.before.before.before.before.before.before.loop-test.true in (omega arith, omega arith, turn_on c.before.before.before.before.before.before.before.before.before.before.before.before.before.before.before.before.before.args.header.now c.before.before.before.before.before.before.before.before.before.before.before.before.before.before.before.before.before.args.map.now c.before.before.before.before.before.before.before.before.before.before.before.before.before.before.before.before.before.args.count c.before.before.before.before.before.before.before.before.before.before.before.before.before.before.before.before.before.requires.0 c.before.before.before.before.before.before.before.before.before.before.before.before.before.before.before.before.before.requires.3 c.before.before.before.before.before.before.before.before.before.before.before.loop.j c.before.before.before.before.before.before.before.before.before.before.before.loop.i c.before.before.before.before.before.before.before.before.before.before.before.loop.invariant.2 (omega arith) c.before.before.before.before.before.before.before.before.before.shard-at.result c.before.before.before.before.before.before.before.before.before.shard-at.ensures c.before.before.before.before.before.before.before.before.before.before.before.before.before.get82.result c.before.before.before.before.before.before.before.before.before.before.before.before.get83.result c.before.before.before.before.before.before.before.before.before.before.before.before.before.get82.ensures c.before.before.before.before.before.before.before.before.before.before.before.before.get83.ensures (sym c.before.before.before.before.before.before.before.is-listed.ensures ∙ c.before.before.before.before.before.before.if1.true) lt c.before.before.before.place_at.result c.before.before.before.place_at.ensures c.before.before.if3.false (c.before.row-quiet.ensures (not_false _ c.if4.false)))
+loop-again c = let lt = c.before.before.before.before.before.if2.false in let m = shards-many c.before.before.before.before.before.before.before.before.before.before.before.before.before.before.before.before.before.args.map.now in let g = c.before.before.before.before.before.before.before.before.before.before.before.before.before.before.get8.ensures in let go = c.before.before.before.before.before.before.before.before.before.before.loop-test.true in (omega arith, omega arith, turn_on c.before.before.before.before.before.before.before.before.before.before.before.before.before.before.before.before.before.args.header.now c.before.before.before.before.before.before.before.before.before.before.before.before.before.before.before.before.before.args.map.now c.before.before.before.before.before.before.before.before.before.before.before.before.before.before.before.before.before.args.count c.before.before.before.before.before.before.before.before.before.before.before.before.before.before.before.before.before.requires.0 c.before.before.before.before.before.before.before.before.before.before.before.before.before.before.before.before.before.requires.3 c.before.before.before.before.before.before.before.before.before.before.before.loop.j c.before.before.before.before.before.before.before.before.before.before.before.loop.i c.before.before.before.before.before.before.before.before.before.before.before.loop.invariant.2 (omega arith) c.before.before.before.before.before.before.before.before.before.shard-at.result c.before.before.before.before.before.before.before.before.before.shard-at.ensures c.before.before.before.before.before.before.before.before.before.before.before.before.before.get82.result c.before.before.before.before.before.before.before.before.before.before.before.before.get83.result c.before.before.before.before.before.before.before.before.before.before.before.before.before.get82.ensures c.before.before.before.before.before.before.before.before.before.before.before.before.get83.ensures (sym c.before.before.before.before.before.before.before.is-listed.ensures ∙ c.before.before.before.before.before.before.if1.true) lt c.before.before.before.place_at.result c.before.before.before.place_at.ensures c.before.before.if3.false (c.before.row-quiet.ensures (not-false _ c.if4.false)))
 
 add-i-2 : tie.Need-overflow-add-i-2 invariant-loop decreases-loop
 add-i-2 c = let q = c.before.before.before.before.before.before.before.before.before.before.before.requires.3.shards.count in let m = shards-many c.before.before.before.before.before.before.before.before.before.before.before.args.map.now in let g = c.before.before.before.before.before.before.before.before.get8.ensures in let lt = c.before.before.before.before.loop-test.true in omega arith

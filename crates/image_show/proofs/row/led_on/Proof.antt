@@ -6,7 +6,7 @@ use mathlib.Core.List.{List, [], ◌∷◌, ◌++◌}
 use Prim.Native.Nat.{ℕ, ◌+◌, ◌-◌, ◌*◌, ◌≤◌, ◌<◌}
 use lib.ListN.{length, get_or, take, drop, set}
 use mathlib.Core.Bool.{true, false}
-use borrow.Author.Tests.{not_true}
+use borrow.Author.Tests.{not-true}
 use Rattle.spec_laws.proofs.Lists.{not_both}
 use Rattle.image_show.proofs.RowLaws.{led_made}
 use Rattle.image_show.proofs.row.led_on.Statement.{statement}
@@ -52,7 +52,7 @@ any-missing-requires : tie.Need-any-missing-requires
 any-missing-requires c κs = let p = c.before.before.before.before.before.before.before.before.before.before.before.requires.0 in let n = c.before.before.before.before.before.before.before.before.before.before.before.requires.1 in let g = c.before.before.get82.ensures in (omega arith, omega arith, c.before.before.before.before.before.before.before.before.before.before.before.requires.2.held)
 
 returns-3 : tie.Need-returns-3
-returns-3 c = λ e. led_made c.before.before.before.before.before.before.before.before.before.before.before.before.args.s.now c.before.before.before.before.before.before.before.before.before.before.before.before.args.at c.before.before.before.before.before.before.before.before.before.before.before.before.args.me c.before.before.before.before.before.before.before.before.before.before.before.before.args.row c.before.before.before.before.before.before.before.role-at.result c.before.before.before.before.before.before.get8.result c.before.before.before.get82.result c.before.before.before.before.before.before.before.role-at.ensures c.before.before.before.before.before.before.get8.ensures c.before.before.before.get82.ensures (sym c.before.before.before.before.before.rising-to.ensures ∙ c.before.before.before.before.if1.false) (sym c.before.before.any-lost.ensures ∙ c.before.if2.false) (c.any-missing.ensures (not_true _ e))
+returns-3 c = λ e. led_made c.before.before.before.before.before.before.before.before.before.before.before.before.args.s.now c.before.before.before.before.before.before.before.before.before.before.before.before.args.at c.before.before.before.before.before.before.before.before.before.before.before.before.args.me c.before.before.before.before.before.before.before.before.before.before.before.before.args.row c.before.before.before.before.before.before.before.role-at.result c.before.before.before.before.before.before.get8.result c.before.before.before.get82.result c.before.before.before.before.before.before.before.role-at.ensures c.before.before.before.before.before.before.get8.ensures c.before.before.before.get82.ensures (sym c.before.before.before.before.before.rising-to.ensures ∙ c.before.before.before.before.if1.false) (sym c.before.before.any-lost.ensures ∙ c.before.if2.false) (c.any-missing.ensures (not-true _ e))
 
 pub led-on-spec : {M : Type 1} → statement M
 led-on-spec = tie.close (tie.spec add-role-at role-at-requires add-get8 get8-requires rising-to-requires returns add-get8-2 get8-requires-2 add-any-lost any-lost-requires returns-2 add-any-missing any-missing-requires returns-3)

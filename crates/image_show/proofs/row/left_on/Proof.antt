@@ -6,7 +6,7 @@ use mathlib.Core.List.{List, [], ◌∷◌, ◌++◌}
 use Prim.Native.Nat.{ℕ, ◌+◌, ◌-◌, ◌*◌, ◌≤◌, ◌<◌}
 use lib.ListN.{length, get_or, take, drop, set}
 use mathlib.Core.Bool.{true, false}
-use borrow.Author.Tests.{eqb-true, not_true, not_false}
+use borrow.Author.Tests.{eqb-true, not-true, not-false}
 use Rattle.spec_laws.proofs.Lists.{not_both}
 use Rattle.image_header_check.proofs.Rows.{count-is}
 use Rattle.image_parts.specs.Codes.{flag_of}
@@ -45,7 +45,7 @@ get8-requires : tie.Need-get8-requires
 get8-requires c κs = search rules
 
 returns-3 : tie.Need-returns-3
-returns-3 c = λ e. let s = c.before.before.before.before.before.before.before.before.args.s.now in let at = c.before.before.before.before.before.before.before.before.args.at in record { role = role_is s at ∙ sym c.before.before.before.before.before.before.role-at.ensures ∙ c.before.before.before.before.before.is-backup.ensures (not_false _ c.before.before.before.before.if1.false); own = own_is s at ∙ ap flag_of (sym c.before.before.before.get4.ensures) ∙ sym c.before.before.flag-of.ensures ∙ c.before.if2.false; count = count-is s at ∙ sym c.get8.ensures ∙ eqb-true _ _ e }
+returns-3 c = λ e. let s = c.before.before.before.before.before.before.before.before.args.s.now in let at = c.before.before.before.before.before.before.before.before.args.at in record { role = role_is s at ∙ sym c.before.before.before.before.before.before.role-at.ensures ∙ c.before.before.before.before.before.is-backup.ensures (not-false _ c.before.before.before.before.if1.false); own = own_is s at ∙ ap flag_of (sym c.before.before.before.get4.ensures) ∙ sym c.before.before.flag-of.ensures ∙ c.before.if2.false; count = count-is s at ∙ sym c.get8.ensures ∙ eqb-true _ _ e }
 
 pub left-on-spec : {M : Type 1} → statement M
 left-on-spec = tie.close (tie.spec add-role-at role-at-requires is-backup-requires returns add-get4 get4-requires flag-of-requires returns-2 add-get8 get8-requires returns-3)

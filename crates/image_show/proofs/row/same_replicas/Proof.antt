@@ -6,7 +6,7 @@ use mathlib.Core.List.{List, [], ◌∷◌, ◌++◌}
 use Prim.Native.Nat.{ℕ, ◌+◌, ◌-◌, ◌*◌, ◌≤◌, ◌<◌}
 use lib.ListN.{length, get_or, take, drop, set}
 use mathlib.Core.Bool.{true, false}
-use borrow.Author.Tests.{eqb-true, not_true, not_false}
+use borrow.Author.Tests.{eqb-true, not-true, not-false}
 use lib.Dec.{eqb}
 use Rattle.spec.specs.Lists.{◌and◌}
 use Rattle.spec_laws.proofs.Lists.{not_both, and_left, and_right}
@@ -49,7 +49,7 @@ loop-less c = search rules
 
 loop-again : tie.Need-loop-preserved invariant-loop decreases-loop
 loop-again c = let a = c.before.before.before.before.before.before.before.before.before.before.args.t1 in let b = c.before.before.before.before.before.before.before.before.before.before.args.t2 in let i = c.before.before.before.before.before.before.before.before.before.loop.i in let k = c.before.before.before.before.before.before.before.before.before.before.requires in let lt = c.before.before.before.before.before.before.before.before.loop-test.true in
-    let e : eqb (get_or a i no_copy).node.0 (get_or b i no_copy).node.0 and eqb (get_or a i no_copy).incarnation (get_or b i no_copy).incarnation ≡ true = sym c.before.both.ensures ∙ not_false _ c.if1.false in
+    let e : eqb (get_or a i no_copy).node.0 (get_or b i no_copy).node.0 and eqb (get_or a i no_copy).incarnation (get_or b i no_copy).incarnation ≡ true = sym c.before.both.ensures ∙ not-false _ c.if1.false in
     (omega arith, copies-on a b i no_copy (search rules) (search rules) c.before.before.before.before.before.before.before.before.before.loop.invariant.1 (eqb-true _ _ (and_left (eqb (get_or a i no_copy).node.0 (get_or b i no_copy).node.0) _ e)) (eqb-true _ _ (and_right (eqb (get_or a i no_copy).node.0 (get_or b i no_copy).node.0) _ e)))
 
 returns-2 : tie.Need-returns-2 invariant-loop decreases-loop

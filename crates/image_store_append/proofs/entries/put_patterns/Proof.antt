@@ -5,7 +5,7 @@ use mathlib.Core.Path.{◌≡◌, refl, sym, ◌∙◌, ap}
 use mathlib.Core.List.{List, [], ◌∷◌, ◌++◌}
 use Prim.Native.Nat.{ℕ, ◌+◌, ◌-◌, ◌*◌, ◌≤◌, ◌<◌}
 use lib.ListN.{length, get_or, take, drop, set}
-use native.Mathlib.Nat.{add_zero}
+use native.Mathlib.Nat.{add-zero}
 use lib.Seq.{sets}
 use Rattle.spec.specs.Layout.Format.{bytes_of, concat_map}
 use Rattle.image_store.specs.Image.{words}
@@ -20,7 +20,7 @@ abbrev decreases-loop : tie.decreases-loop
 decreases-loop out₀ at s from n i₀ out i = n - i
 
 loop-holds : tie.Need-loop-init invariant-loop decreases-loop
-loop-holds c = (omega arith, refl, (rw add_zero))
+loop-holds c = (omega arith, refl, (rw add-zero))
 
 mul-get4 : tie.Need-overflow-mul-get4 invariant-loop decreases-loop
 mul-get4 c = search rules

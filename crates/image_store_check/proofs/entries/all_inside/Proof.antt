@@ -7,7 +7,7 @@ use Prim.Native.Nat.{ℕ, ◌+◌, ◌-◌, ◌*◌, ◌≤◌, ◌<◌}
 use lib.ListN.{length, get_or, take, drop, set}
 use mathlib.Core.Bool.{Bool}
 use mathlib.Core.Logic.{⊎_elim}
-use borrow.Author.Tests.{not_true, not_false}
+use borrow.Author.Tests.{not-true, not-false}
 use Rattle.spec.specs.Lists.{◌and◌, every}
 use Rattle.spec.specs.Nearest.Order.{bits_in_domain}
 use Rattle.log_check.proofs.Domain.{pass_on, pass_out, pass_end}
@@ -52,8 +52,8 @@ loop-again c = let a = c.before.before.before.before.before.before.args in let l
     let j : l.i < length w = omega (arith, c.before.before.before.loop-test.true) in (
       omega arith,
       ⊎_elim
-          (λ u. ap (λ (t : Bool). t and every bits_in_domain (drop (l.i + 1) w)) u.1 ∙ pass_out bits_in_domain w l.i 0 l.ok (is ∙ not_true _ u.0.taken) j ∙ l.invariant.1)
-          (λ u. ap (λ (t : Bool). t and every bits_in_domain (drop (l.i + 1) w)) u.1 ∙ pass_on bits_in_domain w l.i 0 l.ok (is ∙ not_false _ u.0.left) j ∙ l.invariant.1)
+          (λ u. ap (λ (t : Bool). t and every bits_in_domain (drop (l.i + 1) w)) u.1 ∙ pass_out bits_in_domain w l.i 0 l.ok (is ∙ not-true _ u.0.taken) j ∙ l.invariant.1)
+          (λ u. ap (λ (t : Bool). t and every bits_in_domain (drop (l.i + 1) w)) u.1 ∙ pass_on bits_in_domain w l.i 0 l.ok (is ∙ not-false _ u.0.left) j ∙ l.invariant.1)
           c.if1.branch,
     )
 

@@ -6,7 +6,7 @@ use mathlib.Core.List.{List, [], ◌∷◌, ◌++◌}
 use Prim.Native.Nat.{ℕ, ◌+◌, ◌-◌, ◌*◌, ◌≤◌, ◌<◌}
 use lib.ListN.{length, get_or, take, drop, set}
 use mathlib.Core.Bool.{true}
-use borrow.Author.Tests.{not_true, not_false}
+use borrow.Author.Tests.{not-true, not-false}
 use Rattle.log_check.proofs.Fitting.{entries_on, entries_stop, entries_end}
 use Rattle.image_store_check.specs.Test.{entry_fits}
 use Rattle.image_store_check.proofs.entries.each_fits.Statement.{statement}
@@ -25,7 +25,7 @@ entry-fits-requires : tie.Need-entry-fits-requires invariant-loop decreases-loop
 entry-fits-requires c κs = let p = c.before.before.before.requires.0 in let t = c.loop-test.true in (omega arith, c.before.before.before.requires.1)
 
 returns : tie.Need-returns invariant-loop decreases-loop
-returns c = entries_stop _ _ c.before.before.before.loop.i c.before.before.loop-test.true (sym c.before.entry-fits.ensures ∙ not_true _ c.if1.true)
+returns c = entries_stop _ _ c.before.before.before.loop.i c.before.before.loop-test.true (sym c.before.entry-fits.ensures ∙ not-true _ c.if1.true)
 
 add-i : tie.Need-overflow-add-i invariant-loop decreases-loop
 add-i c = search rules
@@ -34,7 +34,7 @@ loop-less : tie.Need-loop-smaller invariant-loop decreases-loop
 loop-less c = search rules
 
 loop-again : tie.Need-loop-preserved invariant-loop decreases-loop
-loop-again c = (omega arith, entries_on (entry_fits c.before.before.before.before.before.args.s.now c.before.before.before.before.before.args.base) c.before.before.before.loop.i c.before.before.before.loop.invariant.1 (sym c.before.entry-fits.ensures ∙ not_false _ c.if1.false))
+loop-again c = (omega arith, entries_on (entry_fits c.before.before.before.before.before.args.s.now c.before.before.before.before.before.args.base) c.before.before.before.loop.i c.before.before.before.loop.invariant.1 (sym c.before.entry-fits.ensures ∙ not-false _ c.if1.false))
 
 returns-2 : tie.Need-returns-2 invariant-loop decreases-loop
 returns-2 c = entries_end _ c.before.loop.i _ (omega arith) c.before.loop.invariant.1

@@ -6,7 +6,7 @@ use mathlib.Core.List.{List, [], ◌∷◌, ◌++◌}
 use Prim.Native.Nat.{ℕ, ◌+◌, ◌-◌, ◌*◌, ◌≤◌, ◌<◌}
 use lib.ListN.{length, get_or, take, drop, set}
 use mathlib.Core.Logic.{⊎_elim}
-use borrow.Author.Tests.{not_true, not_false}
+use borrow.Author.Tests.{not-true, not-false}
 use Rattle.log_store.specs.Store.{every_below}
 use Rattle.log_check.specs.Entries.{shape_at}
 use Rattle.log_check.proofs.Domain.{column_on, column_out}
@@ -58,8 +58,8 @@ loop-again c = let a = c.before.before.before.before.before.before.before.args i
     let e = sym (shape_in a.s.now a.base l.i (omega arith)) ∙ sym c.before.is-listed.ensures in (
       omega arith,
       ⊎_elim
-          (λ w. w.1 ∙ column_out f l.i (e ∙ not_true _ w.0.taken))
-          (λ w. w.1 ∙ column_on f l.i l.ok (e ∙ not_false _ w.0.left) l.invariant.1)
+          (λ w. w.1 ∙ column_out f l.i (e ∙ not-true _ w.0.taken))
+          (λ w. w.1 ∙ column_on f l.i l.ok (e ∙ not-false _ w.0.left) l.invariant.1)
           c.if1.branch,
     )
 

@@ -5,7 +5,7 @@ use mathlib.Core.Path.{◌≡◌, refl, sym, ◌∙◌, ap}
 use mathlib.Core.List.{List, [], ◌∷◌, ◌++◌}
 use Prim.Native.Nat.{ℕ, ◌+◌, ◌-◌, ◌*◌, ◌≤◌, ◌<◌}
 use lib.ListN.{length, get_or, take, drop, set}
-use borrow.Author.Tests.{not_true, not_false}
+use borrow.Author.Tests.{not-true, not-false}
 use lib.ListN.{length-set}
 use mathlib.Core.Path.{subst}
 use Rattle.log_check.specs.Conditions.{Marked}
@@ -33,7 +33,7 @@ same_length : tie.Need-same-length invariant-loop decreases-loop
 same_length c = search rules
 
 returns : tie.Need-returns invariant-loop decreases-loop
-returns c = let a = c.before.before.before.before.before.before.args in let s = a.s.now in let l = c.before.before.before.loop in rows_stop (ids_in s a.base) (codes_in s a.base) (keys_in s a.base) (places_in s a.base) a.count l.marks l.j a.stored _ c.before.before.loop-test.true l.invariant.1 l.invariant.2 c.before.row_fits.ensures (not_true _ c.if1.true)
+returns c = let a = c.before.before.before.before.before.before.args in let s = a.s.now in let l = c.before.before.before.loop in rows_stop (ids_in s a.base) (codes_in s a.base) (keys_in s a.base) (places_in s a.base) a.count l.marks l.j a.stored _ c.before.before.loop-test.true l.invariant.1 l.invariant.2 c.before.row_fits.ensures (not-true _ c.if1.true)
 
 add-get8 : tie.Need-overflow-add-get8 invariant-loop decreases-loop
 add-get8 c = search rules
@@ -48,10 +48,10 @@ get8-requires : tie.Need-get8-requires invariant-loop decreases-loop
 get8-requires c κs = let p = c.before.before.before.before.before.before.requires.1 in let q = c.before.before.before.before.before.before.requires.2 in let t = c.before.before.loop-test.true in omega arith
 
 sub-i : tie.Need-overflow-sub-i invariant-loop decreases-loop
-sub-i c = let a = c.before.before.before.before.before.before.before.args in let t = c.before.before.before.loop-test.true in let m = c.before.before.before.before.before.before.before.requires.1 in let r = (c.before.before.row_fits.ensures.yes (not_false _ c.before.if1.false)).names.starts in let e : get_or (places_in a.s.now a.base) c.before.before.before.before.loop.j 0 ≡ c.get8.result = word_in a.s.now a.base (a.base + 165888) c.before.before.before.before.loop.j (omega arith) ∙ sym c.get8.ensures in omega arith
+sub-i c = let a = c.before.before.before.before.before.before.before.args in let t = c.before.before.before.loop-test.true in let m = c.before.before.before.before.before.before.before.requires.1 in let r = (c.before.before.row_fits.ensures.yes (not-false _ c.before.if1.false)).names.starts in let e : get_or (places_in a.s.now a.base) c.before.before.before.before.loop.j 0 ≡ c.get8.result = word_in a.s.now a.base (a.base + 165888) c.before.before.before.before.loop.j (omega arith) ∙ sym c.get8.ensures in omega arith
 
 slice-write-marks : tie.Need-slice-write-marks invariant-loop decreases-loop
-slice-write-marks c = let a = c.before.before.before.before.before.before.before.args in let t = c.before.before.before.loop-test.true in let m = c.before.before.before.before.before.before.before.requires.1 in let r = (c.before.before.row_fits.ensures.yes (not_false _ c.before.if1.false)).names in let s = r.starts in let w = r.ends in let e : get_or (places_in a.s.now a.base) c.before.before.before.before.loop.j 0 ≡ c.get8.result = word_in a.s.now a.base (a.base + 165888) c.before.before.before.before.loop.j (omega arith) ∙ sym c.get8.ensures in omega (arith, c.before.before.before.before.before.before.before.requires.0, c.before.before.before.before.loop.invariant.1)
+slice-write-marks c = let a = c.before.before.before.before.before.before.before.args in let t = c.before.before.before.loop-test.true in let m = c.before.before.before.before.before.before.before.requires.1 in let r = (c.before.before.row_fits.ensures.yes (not-false _ c.before.if1.false)).names in let s = r.starts in let w = r.ends in let e : get_or (places_in a.s.now a.base) c.before.before.before.before.loop.j 0 ≡ c.get8.result = word_in a.s.now a.base (a.base + 165888) c.before.before.before.before.loop.j (omega arith) ∙ sym c.get8.ensures in omega (arith, c.before.before.before.before.before.before.before.requires.0, c.before.before.before.before.loop.invariant.1)
 
 add-j : tie.Need-overflow-add-j invariant-loop decreases-loop
 add-j c = search rules
@@ -61,7 +61,7 @@ loop-less c = search rules
 
 loop-again : tie.Need-loop-preserved invariant-loop decreases-loop
 loop-again c = let a = c.before.before.before.before.before.before.before.args in let s = a.s.now in let l = c.before.before.before.before.loop in let t = c.before.before.before.loop-test.true in let m = c.before.before.before.before.before.before.before.requires.1 in
-    let r = c.before.before.row_fits.ensures.yes (not_false _ c.before.if1.false) in
+    let r = c.before.before.row_fits.ensures.yes (not-false _ c.before.if1.false) in
     let e : get_or (places_in s a.base) l.j 0 ≡ c.get8.result = word_in s a.base (a.base + 165888) l.j (omega arith) ∙ sym c.get8.ensures in (
       omega arith,
       length-set l.marks (c.get8.result - 1) 1 ∙ l.invariant.1,

@@ -5,7 +5,7 @@ use mathlib.Core.Path.{◌≡◌, refl, sym, ◌∙◌, ap}
 use mathlib.Core.List.{List, [], ◌∷◌, ◌++◌}
 use Prim.Native.Nat.{ℕ, ◌+◌, ◌-◌, ◌*◌, ◌≤◌, ◌<◌}
 use lib.ListN.{length, get_or, take, drop, set}
-use borrow.Author.Tests.{not_true, not_false}
+use borrow.Author.Tests.{not-true, not-false}
 use Rattle.log_check.proofs.Answers.{grant, deny}
 use Rattle.log_check.proofs.Walking.{From, from_on}
 use Rattle.image_store.specs.Image.{keys_in, places_in}
@@ -39,7 +39,7 @@ same-length-2 : tie.Need-same-length-2 invariant-loop decreases-loop
 same-length-2 c = search rules
 
 returns : tie.Need-returns invariant-loop decreases-loop
-returns c = deny (λ f. c.before.is-settled.ensures.nay (not_true _ c.if1.true) (f (c.before.before.before.before.before.loop.i - 1) (omega (arith, c.before.before.before.before.before.loop.invariant.0, c.before.before.before.before.loop-test.true))))
+returns c = deny (λ f. c.before.is-settled.ensures.nay (not-true _ c.if1.true) (f (c.before.before.before.before.before.loop.i - 1) (omega (arith, c.before.before.before.before.before.loop.invariant.0, c.before.before.before.before.loop-test.true))))
 
 mul-get8 : tie.Need-overflow-mul-get8 invariant-loop decreases-loop
 mul-get8 c = search rules
@@ -61,7 +61,7 @@ loop-again c = let a = c.before.before.before.before.before.before.before.before
   omega (arith, l.invariant.0),
   c.before.before.before.before.remember.ensures.0,
   c.before.before.before.before.remember.ensures.1,
-  from_on (ids_in s a.base) (codes_in s a.base) (keys_in s a.base) (places_in s a.base) a.count a.stored l.i (l.i - 1) (omega (arith, c.before.before.before.before.before.before.before.before.before.before.before.before.loop-test.true)) l.invariant.3 (c.before.before.before.before.before.before.before.before.before.is-settled.ensures.yes (not_false _ c.before.before.before.before.before.before.before.before.if1.false)),
+  from_on (ids_in s a.base) (codes_in s a.base) (keys_in s a.base) (places_in s a.base) a.count a.stored l.i (l.i - 1) (omega (arith, c.before.before.before.before.before.before.before.before.before.before.before.before.loop-test.true)) l.invariant.3 (c.before.before.before.before.before.before.before.before.before.is-settled.ensures.yes (not-false _ c.before.before.before.before.before.before.before.before.if1.false)),
 )
 
 same-length-3 : tie.Need-same-length-3 invariant-loop decreases-loop

@@ -5,7 +5,7 @@ use mathlib.Core.Path.{◌≡◌, refl, sym, ◌∙◌, ap}
 use mathlib.Core.List.{List, [], ◌∷◌, ◌++◌}
 use Prim.Native.Nat.{ℕ, ◌+◌, ◌-◌, ◌*◌, ◌≤◌, ◌<◌}
 use lib.ListN.{length, get_or, take, drop, set}
-use borrow.Author.Tests.{not_true, not_false}
+use borrow.Author.Tests.{not-true, not-false}
 use Rattle.log_check.proofs.Walking.{blank, rows-refused, all-answered}
 use Rattle.image_store.specs.Image.{keys_in, places_in}
 use Rattle.image_store.specs.Read.{codes_in}
@@ -23,7 +23,7 @@ mark-rows-requires c κs = (c.before.before.requires.0, c.before.before.requires
 
 returns : tie.Need-returns
 returns c = let a = c.before.before.before.before.before.args in let s = a.s.now in let m = c.before.before.before.before.before.requires.1 in let lk = words-length 8 1024 s (a.base + 157696) in let lp = words-length 8 1024 s (a.base + 165888) in
-    rows-refused (offsets_in s a.base) (ids_in s a.base) (codes_in s a.base) (keys_in s a.base) (places_in s a.base) a.count a.stored (omega arith) (omega arith) c.before.before.before.before.before.requires.3 _ _ c.before.before.mark-rows.ensures (not_true _ c.if1.true)
+    rows-refused (offsets_in s a.base) (ids_in s a.base) (codes_in s a.base) (keys_in s a.base) (places_in s a.base) a.count a.stored (omega arith) (omega arith) c.before.before.before.before.before.requires.3 _ _ c.before.before.mark-rows.ensures (not-true _ c.if1.true)
 
 slice-aggregate-all-settled : tie.Need-slice-aggregate-all-settled
 slice-aggregate-all-settled c = search rules
@@ -44,7 +44,7 @@ all-settled-requires c κs = let a = c.before.before.before.before.before.before
     keys = words-length 8 1024 s (a.base + 157696);
     places = words-length 8 1024 s (a.base + 165888);
     size = t.size;
-    rows = t.answer.yes (not_false _ c.before.before.before.if1.false);
+    rows = t.answer.yes (not-false _ c.before.before.before.if1.false);
     marked = t.marked;
   },
   c.before.before.before.before.before.before.before.before.requires.2,
@@ -54,7 +54,7 @@ all-settled-requires c κs = let a = c.before.before.before.before.before.before
 
 returns-2 : tie.Need-returns-2
 returns-2 c = let a = c.before.before.before.before.before.before.before.before.before.before.before.args in let s = a.s.now in let m = c.before.before.before.before.before.before.before.before.before.before.before.requires.1 in let lk = words-length 8 1024 s (a.base + 157696) in let lp = words-length 8 1024 s (a.base + 165888) in
-    all-answered (offsets_in s a.base) (ids_in s a.base) (codes_in s a.base) (keys_in s a.base) (places_in s a.base) a.count a.stored (omega arith) (omega arith) c.before.before.before.before.before.before.before.before.before.before.before.requires.3 c.before.before.all_settled.result (c.before.before.before.before.before.before.before.before.mark-rows.ensures.answer.yes (not_false _ c.before.before.before.before.before.before.if1.false)) c.before.before.all_settled.ensures
+    all-answered (offsets_in s a.base) (ids_in s a.base) (codes_in s a.base) (keys_in s a.base) (places_in s a.base) a.count a.stored (omega arith) (omega arith) c.before.before.before.before.before.before.before.before.before.before.before.requires.3 c.before.before.all_settled.result (c.before.before.before.before.before.before.before.before.mark-rows.ensures.answer.yes (not-false _ c.before.before.before.before.before.before.if1.false)) c.before.before.all_settled.ensures
 
 pub played-by-marks-spec : {M : Type 1} → statement M
 played-by-marks-spec = tie.close (tie.spec slice-aggregate-mark-rows mark-rows-requires returns slice-aggregate-all-settled slice-aggregate-all-settled-2 slice-aggregate-all-settled-3 all-settled-requires returns-2)

@@ -1,6 +1,6 @@
 -- 21, 24, StaleEpoch, or the log is aligned as crate log_arrive aligns it. Assumes nothing.
 use borrow.Author.Rules.{rules}
-use borrow.Author.Tests.{not_true, not_false}
+use borrow.Author.Tests.{not-true, not-false}
 use mathlib.Core.Path.{sym, ◌∙◌}
 use mathlib.Core.List.{[], ◌∷◌}
 use types.Run.{miss}
@@ -35,7 +35,7 @@ same-length-2 : tie.Need-same-length-2
 same-length-2 c = search rules
 
 returns-2 : tie.Need-returns-2
-returns-2 c = let a = c.before.before.before.before.before.before.before.before.before.before.before.before.before.before.before.before.before.before.args in rw c.unchanged2.ensures (adopts_malformed a.message.now a.own _ _ _ _ (sym c.before.before.before.before.before.before.before.before.decode.ensures ∙ c.before.before.before.before.before.before.read.given.1) (sym c.before.before.lent-fits.ensures ∙ not_true _ c.before.if1.true))
+returns-2 c = let a = c.before.before.before.before.before.before.before.before.before.before.before.before.before.before.before.before.before.before.args in rw c.unchanged2.ensures (adopts_malformed a.message.now a.own _ _ _ _ (sym c.before.before.before.before.before.before.before.before.decode.ensures ∙ c.before.before.before.before.before.before.read.given.1) (sym c.before.before.lent-fits.ensures ∙ not-true _ c.before.if1.true))
 
 unchanged-requires-3 : tie.Need-unchanged-requires-3
 unchanged-requires-3 c κs = search rules
@@ -47,10 +47,10 @@ same-length-4 : tie.Need-same-length-4
 same-length-4 c = search rules
 
 returns-3 : tie.Need-returns-3
-returns-3 c = let a = c.before.before.before.before.before.before.before.before.before.before.before.before.before.before.before.before.before.before.before.before.before.before.args in rw c.unchanged3.ensures (adopts_older a.message.now a.own _ _ _ _ (sym c.before.before.before.before.before.before.before.before.before.before.before.before.decode.ensures ∙ c.before.before.before.before.before.before.before.before.before.before.read.given.1) (sym c.before.before.before.before.before.before.lent-fits.ensures ∙ not_false _ c.before.before.before.before.before.if1.false) c.before.if2.true)
+returns-3 c = let a = c.before.before.before.before.before.before.before.before.before.before.before.before.before.before.before.before.before.before.before.before.before.before.args in rw c.unchanged3.ensures (adopts_older a.message.now a.own _ _ _ _ (sym c.before.before.before.before.before.before.before.before.before.before.before.before.decode.ensures ∙ c.before.before.before.before.before.before.before.before.before.before.read.given.1) (sym c.before.before.before.before.before.before.lent-fits.ensures ∙ not-false _ c.before.before.before.before.before.if1.false) c.before.if2.true)
 
 adopt-table-requires : tie.Need-adopt-table-requires
-adopt-table-requires c κs = let f = (sym c.before.before.before.before.before.before.before.before.before.lent-fits.ensures ∙ not_false _ c.before.before.before.before.before.before.before.before.if1.false) in (new_epoch_there c.before.before.before.before.before.before.before.before.before.before.before.before.before.before.before.before.before.before.before.before.before.before.before.before.before.args.message.now _ (sym c.before.before.before.before.before.before.before.before.before.before.before.before.before.before.before.decode.ensures ∙ c.before.before.before.before.before.before.before.before.before.before.before.before.before.read.given.1), fits-sized _ f, fits-well _ f)
+adopt-table-requires c κs = let f = (sym c.before.before.before.before.before.before.before.before.before.lent-fits.ensures ∙ not-false _ c.before.before.before.before.before.before.before.before.if1.false) in (new_epoch_there c.before.before.before.before.before.before.before.before.before.before.before.before.before.before.before.before.before.before.before.before.before.before.before.before.before.args.message.now _ (sym c.before.before.before.before.before.before.before.before.before.before.before.before.before.before.before.decode.ensures ∙ c.before.before.before.before.before.before.before.before.before.before.before.before.before.read.given.1), fits-sized _ f, fits-well _ f)
 
 same-length-5 : tie.Need-same-length-5
 same-length-5 c = search rules
@@ -59,7 +59,7 @@ same-length-6 : tie.Need-same-length-6
 same-length-6 c = search rules
 
 returns-4 : tie.Need-returns-4
-returns-4 c = let a = c.before.before.before.before.before.before.before.before.before.before.before.before.before.before.before.before.before.before.before.before.before.before.before.before.before.before.before.before.before.before.args in adopts_taken a.message.now a.own _ _ _ _ (sym c.before.before.before.before.before.before.before.before.before.before.before.before.before.before.before.before.before.before.before.before.decode.ensures ∙ c.before.before.before.before.before.before.before.before.before.before.before.before.before.before.before.before.before.before.read.given.1) _ _ (sym c.before.before.before.before.before.before.before.before.before.before.before.before.before.before.lent-fits.ensures ∙ not_false _ c.before.before.before.before.before.before.before.before.before.before.before.before.before.if1.false) c.before.before.before.before.before.before.before.before.before.if2.false c.before.before.before.before.adopt-table.ensures
+returns-4 c = let a = c.before.before.before.before.before.before.before.before.before.before.before.before.before.before.before.before.before.before.before.before.before.before.before.before.before.before.before.before.before.before.args in adopts_taken a.message.now a.own _ _ _ _ (sym c.before.before.before.before.before.before.before.before.before.before.before.before.before.before.before.before.before.before.before.before.decode.ensures ∙ c.before.before.before.before.before.before.before.before.before.before.before.before.before.before.before.before.before.before.read.given.1) _ _ (sym c.before.before.before.before.before.before.before.before.before.before.before.before.before.before.lent-fits.ensures ∙ not-false _ c.before.before.before.before.before.before.before.before.before.before.before.before.before.if1.false) c.before.before.before.before.before.before.before.before.before.if2.false c.before.before.before.before.adopt-table.ensures
 
 pub adopt-spec : {M : Type 1} → statement M
 adopt-spec = tie.close (tie.spec decode-requires enum-known-read unchanged-requires returns lent-fits-requires unchanged-requires-2 same_length same-length-2 returns-2 unchanged-requires-3 same-length-3 same-length-4 returns-3 adopt-table-requires same-length-5 same-length-6 returns-4)

@@ -1,6 +1,6 @@
 -- 21, 22, 24, 23, or the operation that was read is pushed. Assumes nothing.
 use borrow.Author.Rules.{rules}
-use borrow.Author.Tests.{not_true, not_false}
+use borrow.Author.Tests.{not-true, not-false}
 use native.Mathlib.Omega.{arith}
 use mathlib.Core.Path.{refl, sym, ◌∙◌}
 use mathlib.Core.List.{[], ◌∷◌}
@@ -31,7 +31,7 @@ unchanged-requires-2 : tie.Need-unchanged-requires-2
 unchanged-requires-2 c κs = search rules
 
 returns-2 : tie.Need-returns-2
-returns-2 c = let a = c.before.before.before.before.before.before.before.before.before.before.before.before.before.before.before.before.args in rw c.unchanged2.ensures (appends_outside a.message.now a.own _ _ _ _ (sym c.before.before.before.before.before.before.decode.ensures ∙ c.before.before.before.before.read.given.1) (sym c.before.before.op-in-domain.ensures ∙ not_true _ c.before.if1.true))
+returns-2 c = let a = c.before.before.before.before.before.before.before.before.before.before.before.before.before.before.before.before.args in rw c.unchanged2.ensures (appends_outside a.message.now a.own _ _ _ _ (sym c.before.before.before.before.before.before.decode.ensures ∙ c.before.before.before.before.read.given.1) (sym c.before.before.op-in-domain.ensures ∙ not-true _ c.before.if1.true))
 
 lent-fits-requires : tie.Need-lent-fits-requires
 lent-fits-requires c κs = search rules
@@ -64,7 +64,7 @@ same-length-8 : tie.Need-same-length-8
 same-length-8 c = search rules
 
 returns-3 : tie.Need-returns-3
-returns-3 c = let a = c.before.before.before.before.before.before.before.before.before.before.before.before.before.before.before.before.before.before.before.before.before.before.before.before.before.before.args in rw c.unchanged3.ensures (appends_malformed a.message.now a.own _ _ _ _ (sym c.before.before.before.before.before.before.before.before.before.before.before.before.before.before.before.before.decode.ensures ∙ c.before.before.before.before.before.before.before.before.before.before.before.before.before.before.read.given.1) (sym c.before.before.before.before.before.before.before.before.before.before.before.before.op-in-domain.ensures ∙ not_false _ c.before.before.before.before.before.before.before.before.before.before.before.if1.false) (sym c.before.before.lent-fits.ensures ∙ not_true _ c.before.if2.true))
+returns-3 c = let a = c.before.before.before.before.before.before.before.before.before.before.before.before.before.before.before.before.before.before.before.before.before.before.before.before.before.before.args in rw c.unchanged3.ensures (appends_malformed a.message.now a.own _ _ _ _ (sym c.before.before.before.before.before.before.before.before.before.before.before.before.before.before.before.before.decode.ensures ∙ c.before.before.before.before.before.before.before.before.before.before.before.before.before.before.read.given.1) (sym c.before.before.before.before.before.before.before.before.before.before.before.before.op-in-domain.ensures ∙ not-false _ c.before.before.before.before.before.before.before.before.before.before.before.if1.false) (sym c.before.before.lent-fits.ensures ∙ not-true _ c.before.if2.true))
 
 unchanged-requires-4 : tie.Need-unchanged-requires-4
 unchanged-requires-4 c κs = search rules
@@ -94,7 +94,7 @@ same-length-16 : tie.Need-same-length-16
 same-length-16 c = search rules
 
 returns-4 : tie.Need-returns-4
-returns-4 c = let a = c.before.before.before.before.before.before.before.before.before.before.before.before.before.before.before.before.before.before.before.before.before.before.before.before.before.before.before.args in rw c.unchanged4.ensures (appends_full a.message.now a.own _ _ _ _ (sym c.before.before.before.before.before.before.before.before.before.before.before.before.before.before.before.before.before.decode.ensures ∙ c.before.before.before.before.before.before.before.before.before.before.before.before.before.before.before.read.given.1) (sym c.before.before.before.before.before.before.before.before.before.before.before.before.before.op-in-domain.ensures ∙ not_false _ c.before.before.before.before.before.before.before.before.before.before.before.before.if1.false) (sym c.before.before.before.lent-fits.ensures ∙ not_false _ c.before.before.if2.false) c.before.if3.true)
+returns-4 c = let a = c.before.before.before.before.before.before.before.before.before.before.before.before.before.before.before.before.before.before.before.before.before.before.before.before.before.before.before.args in rw c.unchanged4.ensures (appends_full a.message.now a.own _ _ _ _ (sym c.before.before.before.before.before.before.before.before.before.before.before.before.before.before.before.before.before.decode.ensures ∙ c.before.before.before.before.before.before.before.before.before.before.before.before.before.before.before.read.given.1) (sym c.before.before.before.before.before.before.before.before.before.before.before.before.before.op-in-domain.ensures ∙ not-false _ c.before.before.before.before.before.before.before.before.before.before.before.before.if1.false) (sym c.before.before.before.lent-fits.ensures ∙ not-false _ c.before.before.if2.false) c.before.if3.true)
 
 slice-aggregate-read-op : tie.Need-slice-aggregate-read-op
 slice-aggregate-read-op c = search rules
@@ -109,13 +109,13 @@ slice-aggregate-push : tie.Need-slice-aggregate-push
 slice-aggregate-push c = sym (length-take-le _ _ (omega (arith, c.before.before.before.before.before.before.before.before.before.before.read-op.ensures.short, c.before.before.before.before.before.before.before.before.before.before.read-op.ensures.column)))
 
 push-requires : tie.Need-push-requires
-push-requires c κs = let f = (sym c.before.before.before.before.before.before.before.before.before.before.before.before.before.before.lent-fits.ensures ∙ not_false _ c.before.before.before.before.before.before.before.before.before.before.before.before.before.if2.false) in (fits-sized _ f, fits-well _ f, count_room _ f c.before.before.before.before.before.before.before.before.before.before.before.before.if3.false, c.before.before.before.before.before.before.before.before.before.before.read-op.ensures.storable (sym c.before.before.before.before.before.before.before.before.before.before.before.before.before.before.before.before.before.before.before.before.before.before.before.before.op-in-domain.ensures ∙ not_false _ c.before.before.before.before.before.before.before.before.before.before.before.before.before.before.before.before.before.before.before.before.before.before.before.if1.false))
+push-requires c κs = let f = (sym c.before.before.before.before.before.before.before.before.before.before.before.before.before.before.lent-fits.ensures ∙ not-false _ c.before.before.before.before.before.before.before.before.before.before.before.before.before.if2.false) in (fits-sized _ f, fits-well _ f, count_room _ f c.before.before.before.before.before.before.before.before.before.before.before.before.if3.false, c.before.before.before.before.before.before.before.before.before.before.read-op.ensures.storable (sym c.before.before.before.before.before.before.before.before.before.before.before.before.before.before.before.before.before.before.before.before.before.before.before.before.op-in-domain.ensures ∙ not-false _ c.before.before.before.before.before.before.before.before.before.before.before.before.before.before.before.before.before.before.before.before.before.before.before.if1.false))
 
 add-t62 : tie.Need-overflow-add-t62
-add-t62 c = omega (arith, count_room _ (sym c.before.before.before.before.before.before.before.before.before.before.before.before.before.before.before.before.before.before.before.before.before.before.before.before.before.before.before.before.before.before.before.lent-fits.ensures ∙ not_false _ c.before.before.before.before.before.before.before.before.before.before.before.before.before.before.before.before.before.before.before.before.before.before.before.before.before.before.before.before.before.before.if2.false) c.before.before.before.before.before.before.before.before.before.before.before.before.before.before.before.before.before.before.before.before.before.before.before.before.before.before.before.before.before.if3.false)
+add-t62 c = omega (arith, count_room _ (sym c.before.before.before.before.before.before.before.before.before.before.before.before.before.before.before.before.before.before.before.before.before.before.before.before.before.before.before.before.before.before.before.lent-fits.ensures ∙ not-false _ c.before.before.before.before.before.before.before.before.before.before.before.before.before.before.before.before.before.before.before.before.before.before.before.before.before.before.before.before.before.before.if2.false) c.before.before.before.before.before.before.before.before.before.before.before.before.before.before.before.before.before.before.before.before.before.before.before.before.before.before.before.before.before.if3.false)
 
 add-t66 : tie.Need-overflow-add-t66
-add-t66 c = omega (arith, count_room _ (sym c.before.before.before.before.before.before.before.before.before.before.before.before.before.before.before.before.before.before.before.before.before.before.before.before.before.before.before.before.before.before.before.lent-fits.ensures ∙ not_false _ c.before.before.before.before.before.before.before.before.before.before.before.before.before.before.before.before.before.before.before.before.before.before.before.before.before.before.before.before.before.before.if2.false) c.before.before.before.before.before.before.before.before.before.before.before.before.before.before.before.before.before.before.before.before.before.before.before.before.before.before.before.before.before.if3.false)
+add-t66 c = omega (arith, count_room _ (sym c.before.before.before.before.before.before.before.before.before.before.before.before.before.before.before.before.before.before.before.before.before.before.before.before.before.before.before.before.before.before.before.lent-fits.ensures ∙ not-false _ c.before.before.before.before.before.before.before.before.before.before.before.before.before.before.before.before.before.before.before.before.before.before.before.before.before.before.before.before.before.before.if2.false) c.before.before.before.before.before.before.before.before.before.before.before.before.before.before.before.before.before.before.before.before.before.before.before.before.before.before.before.before.before.if3.false)
 
 same-length-17 : tie.Need-same-length-17
 same-length-17 c = search rules
@@ -142,7 +142,7 @@ same-length-24 : tie.Need-same-length-24
 same-length-24 c = search rules
 
 returns-5 : tie.Need-returns-5
-returns-5 c = let a = c.before.before.before.before.before.before.before.before.before.before.before.before.before.before.before.before.before.before.before.before.before.before.before.before.before.before.before.before.before.before.before.before.before.before.before.before.before.before.before.before.before.before.before.before.before.before.before.before.before.before.before.before.before.before.before.args in let f = (sym c.before.before.before.before.before.before.before.before.before.before.before.before.before.before.before.before.before.before.before.before.before.before.before.before.before.before.before.before.before.before.before.lent-fits.ensures ∙ not_false _ c.before.before.before.before.before.before.before.before.before.before.before.before.before.before.before.before.before.before.before.before.before.before.before.before.before.before.before.before.before.before.if2.false) in appends_pushed a.message.now a.own _ _ _ _ (sym c.before.before.before.before.before.before.before.before.before.before.before.before.before.before.before.before.before.before.before.before.before.before.before.before.before.before.before.before.before.before.before.before.before.before.before.before.before.before.before.before.before.before.before.before.before.decode.ensures ∙ c.before.before.before.before.before.before.before.before.before.before.before.before.before.before.before.before.before.before.before.before.before.before.before.before.before.before.before.before.before.before.before.before.before.before.before.before.before.before.before.before.before.before.before.read.given.1) (sym c.before.before.before.before.before.before.before.before.before.before.before.before.before.before.before.before.before.before.before.before.before.before.before.before.before.before.before.before.before.before.before.before.before.before.before.before.before.before.before.before.before.op-in-domain.ensures ∙ not_false _ c.before.before.before.before.before.before.before.before.before.before.before.before.before.before.before.before.before.before.before.before.before.before.before.before.before.before.before.before.before.before.before.before.before.before.before.before.before.before.before.before.if1.false) _ _ f (count_room _ f c.before.before.before.before.before.before.before.before.before.before.before.before.before.before.before.before.before.before.before.before.before.before.before.before.before.before.before.before.before.if3.false) c.before.before.before.before.before.before.before.before.before.before.before.before.before.before.before.before.before.before.before.before.before.before.before.before.before.before.before.read-op.ensures.op c.before.before.before.before.before.before.before.before.before.before.before.before.before.before.before.before.push.ensures
+returns-5 c = let a = c.before.before.before.before.before.before.before.before.before.before.before.before.before.before.before.before.before.before.before.before.before.before.before.before.before.before.before.before.before.before.before.before.before.before.before.before.before.before.before.before.before.before.before.before.before.before.before.before.before.before.before.before.before.before.before.args in let f = (sym c.before.before.before.before.before.before.before.before.before.before.before.before.before.before.before.before.before.before.before.before.before.before.before.before.before.before.before.before.before.before.before.lent-fits.ensures ∙ not-false _ c.before.before.before.before.before.before.before.before.before.before.before.before.before.before.before.before.before.before.before.before.before.before.before.before.before.before.before.before.before.before.if2.false) in appends_pushed a.message.now a.own _ _ _ _ (sym c.before.before.before.before.before.before.before.before.before.before.before.before.before.before.before.before.before.before.before.before.before.before.before.before.before.before.before.before.before.before.before.before.before.before.before.before.before.before.before.before.before.before.before.before.before.decode.ensures ∙ c.before.before.before.before.before.before.before.before.before.before.before.before.before.before.before.before.before.before.before.before.before.before.before.before.before.before.before.before.before.before.before.before.before.before.before.before.before.before.before.before.before.before.before.read.given.1) (sym c.before.before.before.before.before.before.before.before.before.before.before.before.before.before.before.before.before.before.before.before.before.before.before.before.before.before.before.before.before.before.before.before.before.before.before.before.before.before.before.before.before.op-in-domain.ensures ∙ not-false _ c.before.before.before.before.before.before.before.before.before.before.before.before.before.before.before.before.before.before.before.before.before.before.before.before.before.before.before.before.before.before.before.before.before.before.before.before.before.before.before.before.if1.false) _ _ f (count_room _ f c.before.before.before.before.before.before.before.before.before.before.before.before.before.before.before.before.before.before.before.before.before.before.before.before.before.before.before.before.before.if3.false) c.before.before.before.before.before.before.before.before.before.before.before.before.before.before.before.before.before.before.before.before.before.before.before.before.before.before.before.read-op.ensures.op c.before.before.before.before.before.before.before.before.before.before.before.before.before.before.before.before.push.ensures
 
 pub append-spec : {M : Type 1} → statement M
 append-spec =

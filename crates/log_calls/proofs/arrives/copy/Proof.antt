@@ -1,6 +1,6 @@
 -- 21, 22, 24, or the batch is stored as crate log_arrive stores it. Assumes nothing.
 use borrow.Author.Rules.{rules}
-use borrow.Author.Tests.{not_true, not_false}
+use borrow.Author.Tests.{not-true, not-false}
 use mathlib.Core.Path.{sym, ◌∙◌}
 use mathlib.Core.List.{[], ◌∷◌}
 use types.Run.{miss}
@@ -29,7 +29,7 @@ unchanged-requires-2 : tie.Need-unchanged-requires-2
 unchanged-requires-2 c κs = search rules
 
 returns-2 : tie.Need-returns-2
-returns-2 c = let a = c.before.before.before.before.before.before.before.before.before.before.before.before.before.before.before.before.before.args in rw c.unchanged2.ensures (copies_outside a.message.now a.own _ _ _ _ (sym c.before.before.before.before.before.before.before.decode.ensures ∙ c.before.before.before.before.before.read.given.1) (sym c.before.before.entries-in-domain.ensures ∙ not_true _ c.before.if1.true))
+returns-2 c = let a = c.before.before.before.before.before.before.before.before.before.before.before.before.before.before.before.before.before.args in rw c.unchanged2.ensures (copies_outside a.message.now a.own _ _ _ _ (sym c.before.before.before.before.before.before.before.decode.ensures ∙ c.before.before.before.before.before.read.given.1) (sym c.before.before.entries-in-domain.ensures ∙ not-true _ c.before.if1.true))
 
 lent-fits-requires : tie.Need-lent-fits-requires
 lent-fits-requires c κs = search rules
@@ -62,10 +62,10 @@ same-length-8 : tie.Need-same-length-8
 same-length-8 c = search rules
 
 returns-3 : tie.Need-returns-3
-returns-3 c = let a = c.before.before.before.before.before.before.before.before.before.before.before.before.before.before.before.before.before.before.before.before.before.before.before.before.before.before.before.args in rw c.unchanged3.ensures (copies_malformed a.message.now a.own _ _ _ _ (sym c.before.before.before.before.before.before.before.before.before.before.before.before.before.before.before.before.before.decode.ensures ∙ c.before.before.before.before.before.before.before.before.before.before.before.before.before.before.before.read.given.1) (sym c.before.before.before.before.before.before.before.before.before.before.before.before.entries-in-domain.ensures ∙ not_false _ c.before.before.before.before.before.before.before.before.before.before.before.if1.false) (sym c.before.before.lent-fits.ensures ∙ not_true _ c.before.if2.true))
+returns-3 c = let a = c.before.before.before.before.before.before.before.before.before.before.before.before.before.before.before.before.before.before.before.before.before.before.before.before.before.before.before.args in rw c.unchanged3.ensures (copies_malformed a.message.now a.own _ _ _ _ (sym c.before.before.before.before.before.before.before.before.before.before.before.before.before.before.before.before.before.decode.ensures ∙ c.before.before.before.before.before.before.before.before.before.before.before.before.before.before.before.read.given.1) (sym c.before.before.before.before.before.before.before.before.before.before.before.before.entries-in-domain.ensures ∙ not-false _ c.before.before.before.before.before.before.before.before.before.before.before.if1.false) (sym c.before.before.lent-fits.ensures ∙ not-true _ c.before.if2.true))
 
 copy-requires : tie.Need-copy-requires
-copy-requires c κs = let f = (sym c.before.before.before.before.before.before.before.before.before.before.lent-fits.ensures ∙ not_false _ c.before.before.before.before.before.before.before.before.before.if2.false) in (fits-sized _ f, fits-well _ f, copy_there c.before.before.before.before.before.before.before.before.before.before.before.before.before.before.before.before.before.before.before.before.before.before.before.before.before.before.before.before.before.before.before.before.before.before.before.args.message.now _ (sym c.before.before.before.before.before.before.before.before.before.before.before.before.before.before.before.before.before.before.before.before.before.before.before.before.before.decode.ensures ∙ c.before.before.before.before.before.before.before.before.before.before.before.before.before.before.before.before.before.before.before.before.before.before.before.read.given.1), (sym c.before.before.before.before.before.before.before.before.before.before.before.before.before.before.before.before.before.before.before.before.entries-in-domain.ensures ∙ not_false _ c.before.before.before.before.before.before.before.before.before.before.before.before.before.before.before.before.before.before.before.if1.false))
+copy-requires c κs = let f = (sym c.before.before.before.before.before.before.before.before.before.before.lent-fits.ensures ∙ not-false _ c.before.before.before.before.before.before.before.before.before.if2.false) in (fits-sized _ f, fits-well _ f, copy_there c.before.before.before.before.before.before.before.before.before.before.before.before.before.before.before.before.before.before.before.before.before.before.before.before.before.before.before.before.before.before.before.before.before.before.before.args.message.now _ (sym c.before.before.before.before.before.before.before.before.before.before.before.before.before.before.before.before.before.before.before.before.before.before.before.before.before.decode.ensures ∙ c.before.before.before.before.before.before.before.before.before.before.before.before.before.before.before.before.before.before.before.before.before.before.before.read.given.1), (sym c.before.before.before.before.before.before.before.before.before.before.before.before.before.before.before.before.before.before.before.before.entries-in-domain.ensures ∙ not-false _ c.before.before.before.before.before.before.before.before.before.before.before.before.before.before.before.before.before.before.before.if1.false))
 
 answer-of-requires : tie.Need-answer-of-requires
 answer-of-requires c κs = search rules
@@ -95,7 +95,7 @@ same-length-16 : tie.Need-same-length-16
 same-length-16 c = search rules
 
 returns-4 : tie.Need-returns-4
-returns-4 c = let a = c.before.before.before.before.before.before.before.before.before.before.before.before.before.before.before.before.before.before.before.before.before.before.before.before.before.before.before.before.before.before.before.before.before.before.before.before.before.before.before.before.before.before.before.before.before.before.before.before.before.before.before.before.before.args in copies-taken a.message.now a.own _ _ _ _ (sym c.before.before.before.before.before.before.before.before.before.before.before.before.before.before.before.before.before.before.before.before.before.before.before.before.before.before.before.before.before.before.before.before.before.before.before.before.before.before.before.before.before.before.before.decode.ensures ∙ c.before.before.before.before.before.before.before.before.before.before.before.before.before.before.before.before.before.before.before.before.before.before.before.before.before.before.before.before.before.before.before.before.before.before.before.before.before.before.before.before.before.read.given.1) (sym c.before.before.before.before.before.before.before.before.before.before.before.before.before.before.before.before.before.before.before.before.before.before.before.before.before.before.before.before.before.before.before.before.before.before.before.before.before.before.entries-in-domain.ensures ∙ not_false _ c.before.before.before.before.before.before.before.before.before.before.before.before.before.before.before.before.before.before.before.before.before.before.before.before.before.before.before.before.before.before.before.before.before.before.before.before.before.if1.false) _ _ _ (sym c.before.before.before.before.before.before.before.before.before.before.before.before.before.before.before.before.before.before.before.before.before.before.before.before.before.before.before.before.lent-fits.ensures ∙ not_false _ c.before.before.before.before.before.before.before.before.before.before.before.before.before.before.before.before.before.before.before.before.before.before.before.before.before.before.before.if2.false) c.answer-of.ensures c.before.before.before.before.before.before.before.before.before.before.before.before.before.before.before.before.before.copy.ensures
+returns-4 c = let a = c.before.before.before.before.before.before.before.before.before.before.before.before.before.before.before.before.before.before.before.before.before.before.before.before.before.before.before.before.before.before.before.before.before.before.before.before.before.before.before.before.before.before.before.before.before.before.before.before.before.before.before.before.before.args in copies-taken a.message.now a.own _ _ _ _ (sym c.before.before.before.before.before.before.before.before.before.before.before.before.before.before.before.before.before.before.before.before.before.before.before.before.before.before.before.before.before.before.before.before.before.before.before.before.before.before.before.before.before.before.before.decode.ensures ∙ c.before.before.before.before.before.before.before.before.before.before.before.before.before.before.before.before.before.before.before.before.before.before.before.before.before.before.before.before.before.before.before.before.before.before.before.before.before.before.before.before.before.read.given.1) (sym c.before.before.before.before.before.before.before.before.before.before.before.before.before.before.before.before.before.before.before.before.before.before.before.before.before.before.before.before.before.before.before.before.before.before.before.before.before.before.entries-in-domain.ensures ∙ not-false _ c.before.before.before.before.before.before.before.before.before.before.before.before.before.before.before.before.before.before.before.before.before.before.before.before.before.before.before.before.before.before.before.before.before.before.before.before.before.if1.false) _ _ _ (sym c.before.before.before.before.before.before.before.before.before.before.before.before.before.before.before.before.before.before.before.before.before.before.before.before.before.before.before.before.lent-fits.ensures ∙ not-false _ c.before.before.before.before.before.before.before.before.before.before.before.before.before.before.before.before.before.before.before.before.before.before.before.before.before.before.before.if2.false) c.answer-of.ensures c.before.before.before.before.before.before.before.before.before.before.before.before.before.before.before.before.before.copy.ensures
 
 pub copy_spec : {M : Type 1} → statement M
 copy_spec = tie.close (tie.spec decode-requires enum-known-read unchanged-requires returns entries-in-domain-requires unchanged-requires-2 returns-2 lent-fits-requires unchanged-requires-3 same_length same-length-2 same-length-3 same-length-4 same-length-5 same-length-6 same-length-7 same-length-8 returns-3 copy-requires answer-of-requires same-length-9 same-length-10 same-length-11 same-length-12 same-length-13 same-length-14 same-length-15 same-length-16 returns-4)

@@ -4,7 +4,7 @@ use mathlib.Core.Path.{◌≡◌, refl, ◌∙◌, ap}
 use Prim.Native.Nat.{◌+◌, ◌-◌}
 use lib.ListN.{length, drop}
 use mathlib.Core.Logic.{⊎_elim}
-use borrow.Author.Tests.{not_true, not_false}
+use borrow.Author.Tests.{not-true, not-false}
 use lib.Ieee.{nan}
 use mathlib.Core.Bool.{Bool}
 use Rattle.spec.specs.Lists.{◌and◌, every}
@@ -46,8 +46,8 @@ loop-again c =
     let h = c.before.before.before.loop-test.true in
     let is = component-is _ _ (c.before.before.shared-slice-known2.given l.i) c.before.in-domain.ensures in
     ⊎_elim
-    (λ w. ap (λ (t : Bool). t and every component (drop (l.i + 1) v)) w.1 ∙ pass_out component v l.i nan l.ok (is ∙ not_true _ w.0.taken) h ∙ l.invariant)
-    (λ w. ap (λ (t : Bool). t and every component (drop (l.i + 1) v)) w.1 ∙ pass_on component v l.i nan l.ok (is ∙ not_false _ w.0.left) h ∙ l.invariant)
+    (λ w. ap (λ (t : Bool). t and every component (drop (l.i + 1) v)) w.1 ∙ pass_out component v l.i nan l.ok (is ∙ not-true _ w.0.taken) h ∙ l.invariant)
+    (λ w. ap (λ (t : Bool). t and every component (drop (l.i + 1) v)) w.1 ∙ pass_on component v l.i nan l.ok (is ∙ not-false _ w.0.left) h ∙ l.invariant)
     c.if1.branch
 
 returns : tie.Need-returns invariant-loop decreases-loop

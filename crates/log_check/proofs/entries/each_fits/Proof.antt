@@ -4,7 +4,7 @@ use native.Mathlib.Omega.{arith}
 use mathlib.Core.Path.{◌≡◌, sym, ◌∙◌}
 use mathlib.Core.List.{List}
 use Prim.Native.Nat.{ℕ, ◌-◌, ◌≤◌, ◌<◌}
-use borrow.Author.Tests.{not_true, not_false}
+use borrow.Author.Tests.{not-true, not-false}
 use mathlib.Core.Bool.{true}
 use Rattle.log_check.proofs.Fitting.{entries_on, entries_stop, entries_end}
 use Rattle.log_check.specs.Entries.{entry_fits}
@@ -26,7 +26,7 @@ entry-fits-requires : tie.Need-entry-fits-requires invariant-loop decreases-loop
 entry-fits-requires c κs = let p = c.before.before.before.before.before.before.requires in (omega (arith, p.0, c.loop-test.true), p.1, p.2, p.3, p.4)
 
 returns : tie.Need-returns invariant-loop decreases-loop
-returns c = λ es is. entries_stop _ _ c.before.before.before.loop.i c.before.before.loop-test.true (sym (c.before.entry-fits.ensures es is) ∙ not_true _ c.if1.true)
+returns c = λ es is. entries_stop _ _ c.before.before.before.loop.i c.before.before.loop-test.true (sym (c.before.entry-fits.ensures es is) ∙ not-true _ c.if1.true)
 
 add-i : tie.Need-overflow-add-i invariant-loop decreases-loop
 add-i c = search rules
@@ -37,7 +37,7 @@ loop-less c = search rules
 loop-again : tie.Need-loop-preserved invariant-loop decreases-loop
 loop-again c = (
   omega arith,
-  λ es is. entries_on (entry_fits _) c.before.before.before.loop.i (c.before.before.before.loop.invariant.1 es is) (sym (c.before.entry-fits.ensures es is) ∙ not_false _ c.if1.false),
+  λ es is. entries_on (entry_fits _) c.before.before.before.loop.i (c.before.before.before.loop.invariant.1 es is) (sym (c.before.entry-fits.ensures es is) ∙ not-false _ c.if1.false),
 )
 
 returns-2 : tie.Need-returns-2 invariant-loop decreases-loop

@@ -3,7 +3,7 @@ use borrow.Author.Rules.{rules}
 use native.Mathlib.Omega.{arith}
 use mathlib.Core.Path.{sym, ◌∙◌}
 use Prim.Native.Nat.{◌-◌, ◌*◌}
-use borrow.Author.Tests.{not_true, not_false}
+use borrow.Author.Tests.{not-true, not-false}
 use Rattle.log_store.specs.View.{columns}
 use Rattle.log_check.proofs.Fitting.{not_numbered, by_shapes}
 use Rattle.log_check.proofs.entries.entries_fit.Statement.{statement}
@@ -36,7 +36,7 @@ numbered-requires c κs = search rules
 returns-2 : tie.Need-returns-2
 returns-2 c =
     let a = c.before.before.before.before.before.before.before.before.before.args in
-    λ es is. not_numbered (columns es a.offsets.now is a.codes.now a.lengths.now a.floats.now) a.count c.before.numbered.result c.before.numbered.ensures (not_true _ c.if2.true)
+    λ es is. not_numbered (columns es a.offsets.now is a.codes.now a.lengths.now a.floats.now) a.count c.before.numbered.result c.before.numbered.ensures (not-true _ c.if2.true)
 
 listed-requires : tie.Need-listed-requires
 listed-requires c κs = search rules
@@ -47,8 +47,8 @@ returns-3 c =
     let p = c.before.before.before.before.before.before.before.before.before.before.requires in
     λ es is.
     by_shapes (columns es a.offsets.now is a.codes.now a.lengths.now a.floats.now) a.count p.0 p.4 (a.count * 32 - 0) (omega arith)
-    (sym c.before.before.before.before.all-in-domain.ensures ∙ not_false _ c.before.before.before.if1.false)
-    (sym c.before.before.numbered.ensures ∙ not_false _ c.before.if2.false)
+    (sym c.before.before.before.before.all-in-domain.ensures ∙ not-false _ c.before.before.before.if1.false)
+    (sym c.before.before.numbered.ensures ∙ not-false _ c.before.if2.false)
     c.listed.result c.listed.ensures
 
 pub entries-fit-spec : {M : Type 1} → statement M

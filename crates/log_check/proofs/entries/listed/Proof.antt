@@ -4,7 +4,7 @@ use native.Mathlib.Omega.{arith}
 use mathlib.Core.Path.{◌≡◌, refl, sym, ◌∙◌, ap}
 use Prim.Native.Nat.{◌-◌, ◌≤◌}
 use mathlib.Core.Logic.{⊎_elim}
-use borrow.Author.Tests.{not_true, not_false}
+use borrow.Author.Tests.{not-true, not-false}
 use Rattle.log_store.specs.Store.{every_below}
 use Rattle.log_check.specs.Entries.{shape_at}
 use Rattle.log_check.proofs.Domain.{column_on, column_out}
@@ -43,8 +43,8 @@ loop-again c =
     let e = c.before.is-listed.ensures in (
       omega arith,
       ⊎_elim
-          (λ w. w.1 ∙ column_out (shape_at a.codes.now a.lengths.now) l.i (sym e ∙ not_true _ w.0.taken))
-          (λ w. w.1 ∙ column_on (shape_at a.codes.now a.lengths.now) l.i l.ok (sym e ∙ not_false _ w.0.left) l.invariant.1)
+          (λ w. w.1 ∙ column_out (shape_at a.codes.now a.lengths.now) l.i (sym e ∙ not-true _ w.0.taken))
+          (λ w. w.1 ∙ column_on (shape_at a.codes.now a.lengths.now) l.i l.ok (sym e ∙ not-false _ w.0.left) l.invariant.1)
           c.if1.branch,
     )
 

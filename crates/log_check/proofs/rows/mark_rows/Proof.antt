@@ -4,7 +4,7 @@ use native.Mathlib.Omega.{arith}
 use mathlib.Core.Path.{◌≡◌, ◌∙◌}
 use Prim.Native.Nat.{◌-◌, ◌≤◌}
 use lib.ListN.{length, get_or, length-set}
-use borrow.Author.Tests.{not_true, not_false}
+use borrow.Author.Tests.{not-true, not-false}
 use Rattle.log_check.specs.Conditions.{Marked, RowsFit}
 use Rattle.log_check.proofs.Walking.{unmarked, mark_on, fit_on, rows_stop, rows_end}
 use Rattle.log_check.proofs.rows.mark_rows.Statement.{statement}
@@ -33,7 +33,7 @@ returns : tie.Need-returns invariant-loop decreases-loop
 returns c =
     let a = c.before.before.before.before.before.before.before.before.before.args in
     let l = c.before.before.before.loop in
-    rows_stop a.ids.now a.codes.now a.keys.now a.places.now a.count l.marks l.j a.stored _ c.before.before.loop-test.true l.invariant.1 l.invariant.2 c.before.row_fits.ensures (not_true _ c.if1.true)
+    rows_stop a.ids.now a.codes.now a.keys.now a.places.now a.count l.marks l.j a.stored _ c.before.before.loop-test.true l.invariant.1 l.invariant.2 c.before.row_fits.ensures (not-true _ c.if1.true)
 
 mul-i : tie.Need-overflow-mul-i invariant-loop decreases-loop
 mul-i c = search rules
@@ -42,11 +42,11 @@ shared-slice-read-i : tie.Need-shared-slice-read-i invariant-loop decreases-loop
 shared-slice-read-i c = search rules
 
 sub-i : tie.Need-overflow-sub-i invariant-loop decreases-loop
-sub-i c = (c.before.before.row_fits.ensures.yes (not_false _ c.before.if1.false)).names.starts
+sub-i c = (c.before.before.row_fits.ensures.yes (not-false _ c.before.if1.false)).names.starts
 
 slice-write-marks : tie.Need-slice-write-marks invariant-loop decreases-loop
 slice-write-marks c =
-    let r = (c.before.before.row_fits.ensures.yes (not_false _ c.before.if1.false)).names in
+    let r = (c.before.before.row_fits.ensures.yes (not-false _ c.before.if1.false)).names in
     let s = r.starts in
     let e = r.ends in
     omega (arith, c.before.before.before.before.before.before.before.before.before.before.requires.0, c.before.before.before.before.loop.invariant.1)
@@ -61,7 +61,7 @@ loop-again : tie.Need-loop-preserved invariant-loop decreases-loop
 loop-again c =
     let a = c.before.before.before.before.before.before.before.before.before.before.args in
     let l = c.before.before.before.before.loop in
-    let r = c.before.before.row_fits.ensures.yes (not_false _ c.before.if1.false) in (
+    let r = c.before.before.row_fits.ensures.yes (not-false _ c.before.if1.false) in (
       omega arith,
       length-set l.marks (get_or a.places.now l.j 0 - 1) 1 ∙ l.invariant.1,
       mark_on a.ids.now a.codes.now a.keys.now a.places.now a.count l.marks l.j r l.invariant.2,

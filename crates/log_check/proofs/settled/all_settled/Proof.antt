@@ -6,7 +6,7 @@ use Prim.Native.Nat.{◌-◌, ◌≤◌}
 use lib.ListN.{length}
 use Rattle.log_check.proofs.Answers.{grant, deny}
 use Rattle.log_check.proofs.Walking.{From, from_on}
-use borrow.Author.Tests.{not_true, not_false}
+use borrow.Author.Tests.{not-true, not-false}
 use Rattle.log_check.proofs.settled.all_settled.Statement.{statement}
 use Rattle.log_check.proofs.settled.all_settled.Tie as tie
 
@@ -32,7 +32,7 @@ same-length-2 : tie.Need-same-length-2 invariant-loop decreases-loop
 same-length-2 c = search rules
 
 returns : tie.Need-returns invariant-loop decreases-loop
-returns c = deny (λ f. c.before.is-settled.ensures.nay (not_true _ c.if1.true) (f (c.before.before.before.before.before.loop.i - 1) (omega (arith, c.before.before.before.before.before.loop.invariant.0, c.before.before.before.before.loop-test.true))))
+returns c = deny (λ f. c.before.is-settled.ensures.nay (not-true _ c.if1.true) (f (c.before.before.before.before.before.loop.i - 1) (omega (arith, c.before.before.before.before.before.loop.invariant.0, c.before.before.before.before.loop-test.true))))
 
 mul-remember : tie.Need-overflow-mul-remember invariant-loop decreases-loop
 mul-remember c = search rules
@@ -53,7 +53,7 @@ loop-again c =
       omega (arith, l.invariant.0),
       c.before.before.before.before.remember.ensures.0,
       c.before.before.before.before.remember.ensures.1,
-      from_on a.ids.now a.codes.now a.keys.now a.places.now a.count a.stored l.i (l.i - 1) (omega (arith, c.before.before.before.before.before.before.before.before.before.before.before.before.loop-test.true)) l.invariant.3 (c.before.before.before.before.before.before.before.before.before.is-settled.ensures.yes (not_false _ c.before.before.before.before.before.before.before.before.if1.false)),
+      from_on a.ids.now a.codes.now a.keys.now a.places.now a.count a.stored l.i (l.i - 1) (omega (arith, c.before.before.before.before.before.before.before.before.before.before.before.before.loop-test.true)) l.invariant.3 (c.before.before.before.before.before.before.before.before.before.is-settled.ensures.yes (not-false _ c.before.before.before.before.before.before.before.before.if1.false)),
     )
 
 same-length-3 : tie.Need-same-length-3 invariant-loop decreases-loop

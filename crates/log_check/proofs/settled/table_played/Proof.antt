@@ -2,7 +2,7 @@
 use borrow.Author.Rules.{rules}
 use native.Mathlib.Omega.{arith}
 use mathlib.Core.Path.{refl}
-use borrow.Author.Tests.{not_true, not_false}
+use borrow.Author.Tests.{not-true, not-false}
 use Rattle.log_check.proofs.Walking.{blank, rows-refused, all-answered}
 use Rattle.log_check.proofs.settled.table_played.Statement.{statement}
 use Rattle.log_check.proofs.settled.table_played.Tie as tie
@@ -17,7 +17,7 @@ returns : tie.Need-returns
 returns c =
     let a = c.before.before.before.before.before.before.before.before.before.args in
     let p = c.before.before.before.before.before.before.before.before.before.requires in
-    rows-refused a.offsets.now a.ids.now a.codes.now a.keys.now a.places.now a.count a.stored (omega (arith, p.1, p.4)) (omega (arith, p.1, p.5)) p.6 _ _ c.before.before.mark-rows.ensures (not_true _ c.if1.true)
+    rows-refused a.offsets.now a.ids.now a.codes.now a.keys.now a.places.now a.count a.stored (omega (arith, p.1, p.4)) (omega (arith, p.1, p.5)) p.6 _ _ c.before.before.mark-rows.ensures (not-true _ c.if1.true)
 
 slice-aggregate-all-settled : tie.Need-slice-aggregate-all-settled
 slice-aggregate-all-settled c = search rules
@@ -40,7 +40,7 @@ all-settled-requires c κs =
         keys = p.4;
         places = p.5;
         size = t.size;
-        rows = t.answer.yes (not_false _ c.before.before.before.if1.false);
+        rows = t.answer.yes (not-false _ c.before.before.before.if1.false);
         marked = t.marked;
       },
       refl,
@@ -51,7 +51,7 @@ returns-2 : tie.Need-returns-2
 returns-2 c =
     let a = c.before.before.before.before.before.before.before.before.before.before.before.before.before.before.before.args in
     let p = c.before.before.before.before.before.before.before.before.before.before.before.before.before.before.before.requires in
-    all-answered a.offsets.now a.ids.now a.codes.now a.keys.now a.places.now a.count a.stored (omega (arith, p.1, p.4)) (omega (arith, p.1, p.5)) p.6 c.before.before.all_settled.result (c.before.before.before.before.before.before.before.before.mark-rows.ensures.answer.yes (not_false _ c.before.before.before.before.before.before.if1.false)) c.before.before.all_settled.ensures
+    all-answered a.offsets.now a.ids.now a.codes.now a.keys.now a.places.now a.count a.stored (omega (arith, p.1, p.4)) (omega (arith, p.1, p.5)) p.6 c.before.before.all_settled.result (c.before.before.before.before.before.before.before.before.mark-rows.ensures.answer.yes (not-false _ c.before.before.before.before.before.before.if1.false)) c.before.before.all_settled.ensures
 
 pub table-played-spec : {M : Type 1} → statement M
 table-played-spec =

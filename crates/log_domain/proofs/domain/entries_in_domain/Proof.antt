@@ -3,7 +3,7 @@ use borrow.Author.Rules.{rules}
 use mathlib.Core.Path.{◌≡◌, sym, ap, ◌∙◌}
 use Prim.Native.Nat.{◌-◌, ◌≤◌}
 use native.Mathlib.Omega.{arith}
-use borrow.Author.Tests.{not_true, not_false}
+use borrow.Author.Tests.{not-true, not-false}
 use Rattle.spec.specs.Lists.{every}
 use Rattle.spec.specs.Node.Wire.{entry_in_domain}
 use Rattle.wire_read.specs.Shown.{part}
@@ -31,7 +31,7 @@ op-in-domain-requires c κs = let l = c.before.before.loop in entry-op c.before.
 returns : tie.Need-returns invariant-loop decreases-loop
 returns c =
     let l = c.before.before.before.before.loop in
-    sym (domain_stop c.before.before.before.before.before.before.args.s.now c.before.before.before.before.before.before.args.p.len l.at l.i c.before.before.before.loop-test.true l.invariant.1 _ c.before.before.entry_at.ensures (sym c.before.op-in-domain.ensures ∙ not_true _ c.if1.true)) ∙ l.invariant.2
+    sym (domain_stop c.before.before.before.before.before.before.args.s.now c.before.before.before.before.before.before.args.p.len l.at l.i c.before.before.before.loop-test.true l.invariant.1 _ c.before.before.entry_at.ensures (sym c.before.op-in-domain.ensures ∙ not-true _ c.if1.true)) ∙ l.invariant.2
 
 add-i : tie.Need-overflow-add-i invariant-loop decreases-loop
 add-i c = search rules
@@ -45,7 +45,7 @@ loop-again c =
     let b = c.before.before.before.before.before.before.args.s.now in
     let n = c.before.before.before.before.before.before.args.p.len in
     let t = c.before.before.before.loop-test.true in
-    (omega arith, entries_rest b n l.at l.i t l.invariant.1 _ c.before.before.entry_at.ensures, sym (domain_on b n l.at l.i t l.invariant.1 _ c.before.before.entry_at.ensures (sym c.before.op-in-domain.ensures ∙ not_false _ c.if1.false)) ∙ l.invariant.2)
+    (omega arith, entries_rest b n l.at l.i t l.invariant.1 _ c.before.before.entry_at.ensures, sym (domain_on b n l.at l.i t l.invariant.1 _ c.before.before.entry_at.ensures (sym c.before.op-in-domain.ensures ∙ not-false _ c.if1.false)) ∙ l.invariant.2)
 
 returns-2 : tie.Need-returns-2 invariant-loop decreases-loop
 returns-2 c = let l = c.before.loop in domain_end c.before.before.before.args.s.now c.before.before.before.args.p.len l.at l.i c.loop-test.false ∙ l.invariant.2

@@ -1,7 +1,7 @@
 -- `log_search::column::four_whole` meets its contract. Assumes nothing.
 use borrow.Author.Rules.{rules}
 use native.Mathlib.Omega.{arith}
-use borrow.Author.Tests.{not_false}
+use borrow.Author.Tests.{not-false}
 use Rattle.log_arrange.proofs.Filling.{never}
 use Rattle.log_search.proofs.column.four_whole.Statement.{statement}
 use Rattle.log_search.proofs.column.four_whole.Tie as tie
@@ -70,9 +70,9 @@ is-whole-requires-4 c κs = search rules
 returns-5 : tie.Need-returns-5
 returns-5 c = λ e. record {
   rows = omega (arith, c.before.before.before.before.before.before.before.before.before.before.before.if1.false);
-  first = c.before.before.before.before.before.before.before.before.before.is_whole.ensures (not_false _ c.before.before.before.before.before.before.before.before.if2.false);
-  second = c.before.before.before.before.before.before.is-whole2.ensures (not_false _ c.before.before.before.before.before.if3.false);
-  third = c.before.before.before.is-whole3.ensures (not_false _ c.before.before.if4.false);
+  first = c.before.before.before.before.before.before.before.before.before.is_whole.ensures (not-false _ c.before.before.before.before.before.before.before.before.if2.false);
+  second = c.before.before.before.before.before.before.is-whole2.ensures (not-false _ c.before.before.before.before.before.if3.false);
+  third = c.before.before.before.is-whole3.ensures (not-false _ c.before.before.if4.false);
   fourth = c.is-whole4.ensures e;
 }
 

@@ -3,7 +3,7 @@ use borrow.Author.Rules.{rules}
 use mathlib.Core.Path.{◌≡◌}
 use Prim.Native.Nat.{◌-◌}
 use lib.ListN.{length, drop}
-use borrow.Author.Tests.{not_true, not_false}
+use borrow.Author.Tests.{not-true, not-false}
 use Rattle.spec.specs.Lists.{every}
 use Rattle.spec.specs.Node.WellFormed.{component, well_formed_vector}
 use Rattle.log_search.proofs.Asked.{query-none, query_long, query-start, query-end, query-on, query_stop}
@@ -38,7 +38,7 @@ returns-3 : tie.Need-returns-3 invariant-loop decreases-loop
 returns-3 c =
     let l = c.before.before.before.before.loop in
     query_stop _ c.before.before.before.before.before.before.if1.false c.before.before.before.before.before.if2.false l.i l.invariant
-    c.before.before.before.loop-test.true (c.before.before.shared-slice-known2.given l.i) _ c.before.in-domain.ensures (not_true _ c.if3.true)
+    c.before.before.before.loop-test.true (c.before.before.shared-slice-known2.given l.i) _ c.before.in-domain.ensures (not-true _ c.if3.true)
 
 add-i : tie.Need-overflow-add-i invariant-loop decreases-loop
 add-i c = search rules
@@ -50,7 +50,7 @@ loop-again : tie.Need-loop-preserved invariant-loop decreases-loop
 loop-again c =
     let l = c.before.before.before.before.loop in
     query-on _ c.before.before.before.before.before.before.if1.false c.before.before.before.before.before.if2.false l.i l.invariant
-    c.before.before.before.loop-test.true (c.before.before.shared-slice-known2.given l.i) _ c.before.in-domain.ensures (not_false _ c.if3.false)
+    c.before.before.before.loop-test.true (c.before.before.shared-slice-known2.given l.i) _ c.before.in-domain.ensures (not-false _ c.if3.false)
 
 returns-4 : tie.Need-returns-4 invariant-loop decreases-loop
 returns-4 c = query-end _ c.before.before.before.if1.false c.before.before.if2.false c.before.loop.i c.loop-test.false c.before.loop.invariant

@@ -2,7 +2,7 @@
 use borrow.Author.Rules.{rules}
 use native.Mathlib.Omega.{arith}
 use Prim.Native.Nat.{◌-◌, ◌≤◌}
-use borrow.Author.Tests.{not_true, not_false}
+use borrow.Author.Tests.{not-true, not-false}
 use Rattle.log_store.proofs.Aligning.{KeptFrom, kept_zero, kept_on, kept_stop, kept-end}
 use Rattle.log_store.specs.Align.{table_of}
 use Rattle.log_store.proofs.align.kept.Statement.{statement}
@@ -33,7 +33,7 @@ agrees-requires : tie.Need-agrees-requires invariant-loop decreases-loop
 agrees-requires c κs = search rules
 
 returns : tie.Need-returns invariant-loop decreases-loop
-returns c = kept_stop _ _ _ _ _ _ c.before.before.before.before.before.loop.invariant.1 _ c.before.agrees.ensures (not_true _ c.if1.true) c.before.before.before.before.loop-test.true
+returns c = kept_stop _ _ _ _ _ _ c.before.before.before.before.before.loop.invariant.1 _ c.before.agrees.ensures (not-true _ c.if1.true) c.before.before.before.before.loop-test.true
 
 add-i : tie.Need-overflow-add-i invariant-loop decreases-loop
 add-i c = search rules
@@ -42,7 +42,7 @@ loop-less : tie.Need-loop-smaller invariant-loop decreases-loop
 loop-less c = search rules
 
 loop-again : tie.Need-loop-preserved invariant-loop decreases-loop
-loop-again c = (omega arith, kept_on _ _ _ _ _ _ c.before.before.before.before.before.loop.invariant.1 _ c.before.agrees.ensures (not_false _ c.if1.false) c.before.before.before.before.loop-test.true)
+loop-again c = (omega arith, kept_on _ _ _ _ _ _ c.before.before.before.before.before.loop.invariant.1 _ c.before.agrees.ensures (not-false _ c.if1.false) c.before.before.before.before.loop-test.true)
 
 returns-2 : tie.Need-returns-2 invariant-loop decreases-loop
 returns-2 c = kept-end _ _ _ _ _ _ c.before.loop.invariant.1 (omega arith)

@@ -1,6 +1,6 @@
 -- 24, 23, or the table of the log, made in columns of its own and copied. Assumes nothing.
 use borrow.Author.Rules.{rules}
-use borrow.Author.Tests.{not_true, not_false}
+use borrow.Author.Tests.{not-true, not-false}
 use native.Mathlib.Omega.{arith}
 use mathlib.Core.Path.{sym, ◌∙◌}
 use Rattle.log_store.proofs.Facts.{facts}
@@ -13,7 +13,7 @@ lent-fits-requires : tie.Need-lent-fits-requires
 lent-fits-requires c κs = search rules
 
 returns : tie.Need-returns
-returns c = ends_malformed _ _ _ (sym c.before.lent-fits.ensures ∙ not_true _ c.if1.true)
+returns c = ends_malformed _ _ _ (sym c.before.lent-fits.ensures ∙ not-true _ c.if1.true)
 
 slice-aggregate-epoch-ends : tie.Need-slice-aggregate-epoch-ends
 slice-aggregate-epoch-ends c = search rules
@@ -23,7 +23,7 @@ slice-aggregate-epoch-ends-2 c = search rules
 
 epoch-ends-requires : tie.Need-epoch-ends-requires
 epoch-ends-requires c κs =
-    let f = sym c.before.before.before.lent-fits.ensures ∙ not_false _ c.before.before.if1.false in
+    let f = sym c.before.before.before.lent-fits.ensures ∙ not-false _ c.before.before.if1.false in
     let z = fits-sized _ f in
     let w = facts _ (fits-well _ f) in
     (omega (arith, z.epochs, w.count), omega (arith, z.offsets, w.count), omega (arith, w.count), omega (arith, w.count))
@@ -31,7 +31,7 @@ epoch-ends-requires c κs =
 returns-2 : tie.Need-returns-2
 returns-2 c =
     let a = c.before.before.before.before.before.before.before.before.before.before.before.before.before.before.before.before.before.before.args in
-    let f = sym c.before.before.before.before.before.before.before.lent-fits.ensures ∙ not_false _ c.before.before.before.before.before.before.if1.false in
+    let f = sym c.before.before.before.before.before.before.before.lent-fits.ensures ∙ not-false _ c.before.before.before.before.before.before.if1.false in
     let e = c.before.before.before.epoch-ends.ensures in
     let w = facts _ (fits-well _ f) in
     ends-short _ _ _ f _ _ _ (omega (arith, w.count, e.0)) (omega (arith, w.count, e.0)) (e.1 a.ids.now a.codes.now a.lengths.now a.floats.now) (omega arith)
@@ -39,7 +39,7 @@ returns-2 c =
 returns-3 : tie.Need-returns-3
 returns-3 c =
     let a = c.before.before.before.before.before.before.before.before.before.before.before.before.before.before.before.before.before.before.before.args in
-    let f = sym c.before.before.before.before.before.before.before.before.lent-fits.ensures ∙ not_false _ c.before.before.before.before.before.before.before.if1.false in
+    let f = sym c.before.before.before.before.before.before.before.before.lent-fits.ensures ∙ not-false _ c.before.before.before.before.before.before.before.if1.false in
     let e = c.before.before.before.before.epoch-ends.ensures in
     let w = facts _ (fits-well _ f) in
     ends-short _ _ _ f _ _ _ (omega (arith, w.count, e.0)) (omega (arith, w.count, e.0)) (e.1 a.ids.now a.codes.now a.lengths.now a.floats.now) (omega arith)
@@ -49,7 +49,7 @@ slice-aggregate-copy-first c = search rules
 
 copy-first-requires : tie.Need-copy-first-requires
 copy-first-requires c κs =
-    let w = facts _ (fits-well _ (sym c.before.before.before.before.before.before.before.before.before.before.lent-fits.ensures ∙ not_false _ c.before.before.before.before.before.before.before.before.before.if1.false)) in
+    let w = facts _ (fits-well _ (sym c.before.before.before.before.before.before.before.before.before.before.lent-fits.ensures ∙ not-false _ c.before.before.before.before.before.before.before.before.before.if1.false)) in
     (omega arith, omega (arith, w.count, c.before.before.before.before.before.before.epoch-ends.ensures.0))
 
 slice-aggregate-copy-first-2 : tie.Need-slice-aggregate-copy-first-2
@@ -57,7 +57,7 @@ slice-aggregate-copy-first-2 c = search rules
 
 copy-first-requires-2 : tie.Need-copy-first-requires-2
 copy-first-requires-2 c κs =
-    let w = facts _ (fits-well _ (sym c.before.before.before.before.before.before.before.before.before.before.before.before.before.before.before.lent-fits.ensures ∙ not_false _ c.before.before.before.before.before.before.before.before.before.before.before.before.before.before.if1.false)) in
+    let w = facts _ (fits-well _ (sym c.before.before.before.before.before.before.before.before.before.before.before.before.before.before.before.lent-fits.ensures ∙ not-false _ c.before.before.before.before.before.before.before.before.before.before.before.before.before.before.if1.false)) in
     (omega arith, omega (arith, w.count, c.before.before.before.before.before.before.before.before.before.before.before.epoch-ends.ensures.0))
 
 same_length : tie.Need-same-length
@@ -69,7 +69,7 @@ same-length-2 c = search rules
 returns-4 : tie.Need-returns-4
 returns-4 c =
     let a = c.before.before.before.before.before.before.before.before.before.before.before.before.before.before.before.before.before.before.before.before.before.before.before.before.before.before.before.before.before.args in
-    let f = sym c.before.before.before.before.before.before.before.before.before.before.before.before.before.before.before.before.before.before.lent-fits.ensures ∙ not_false _ c.before.before.before.before.before.before.before.before.before.before.before.before.before.before.before.before.before.if1.false in
+    let f = sym c.before.before.before.before.before.before.before.before.before.before.before.before.before.before.before.before.before.before.lent-fits.ensures ∙ not-false _ c.before.before.before.before.before.before.before.before.before.before.before.before.before.before.before.before.before.if1.false in
     let e = c.before.before.before.before.before.before.before.before.before.before.before.before.before.before.epoch-ends.ensures in
     let w = facts _ (fits-well _ f) in
     ends-told _ _ _ f _ _ _ (omega (arith, w.count, e.0)) (omega (arith, w.count, e.0)) (e.1 a.ids.now a.codes.now a.lengths.now a.floats.now)

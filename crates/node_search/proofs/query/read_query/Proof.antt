@@ -1,6 +1,6 @@
 -- The components before i lie in the domain and are written; those from i on are still to be tested. Assumes nothing.
 use borrow.Author.Rules.{rules}
-use borrow.Author.Tests.{not_true, not_false}
+use borrow.Author.Tests.{not-true, not-false}
 use native.Mathlib.Omega.{arith}
 use mathlib.Core.Path.{◌≡◌, refl, sym, ◌∙◌}
 use Prim.Native.Nat.{◌-◌, ◌≤◌, ◌<◌}
@@ -40,10 +40,10 @@ returns c =
     let a = c.before.before.before.before.before.before.before.args in
     let l = c.before.before.before.before.loop in
     let h : l.i < a.v.len = omega (arith, l.invariant.0, c.before.before.before.loop-test.true) in
-    query-out (bits_in a.s.now a.v) a.v.len (bits-length a.s.now a.v) l.out l.invariant.2 l.i l.invariant.3 h (bit_in a.s.now a.v l.i h _ _ c.before.before.component.ensures c.before.bits-in-domain.ensures ∙ not_true _ c.if1.true)
+    query-out (bits_in a.s.now a.v) a.v.len (bits-length a.s.now a.v) l.out l.invariant.2 l.i l.invariant.3 h (bit_in a.s.now a.v l.i h _ _ c.before.before.component.ensures c.before.bits-in-domain.ensures ∙ not-true _ c.if1.true)
 
 float-from-bits-out : tie.Need-float-from-bits-out invariant-loop decreases-loop
-float-from-bits-out c = domain_number _ (sym c.before.bits-in-domain.ensures ∙ not_false _ c.if1.false)
+float-from-bits-out c = domain_number _ (sym c.before.bits-in-domain.ensures ∙ not-false _ c.if1.false)
 
 mul-out : tie.Need-overflow-mul-out invariant-loop decreases-loop
 mul-out c = omega (arith, c.before.before.before.before.before.before.before.requires.0.1, c.before.before.before.before.loop.invariant.0, c.before.before.before.before.loop.invariant.2, c.before.before.before.loop-test.true)
@@ -63,7 +63,7 @@ loop-again c =
     let l = c.before.before.before.before.loop in
     let h : l.i < a.v.len = omega (arith, l.invariant.0, c.before.before.before.loop-test.true) in
     let q = c.before.before.component.ensures in
-    (l.invariant.0, omega arith, simp length-set l.invariant.2, query-on (bits_in a.s.now a.v) a.v.len (bits-length a.s.now a.v) l.out l.invariant.2 l.i l.invariant.3 h (bit_in a.s.now a.v l.i h _ _ q c.before.bits-in-domain.ensures ∙ not_false _ c.if1.false), query-write (bits_in a.s.now a.v) a.v.len (bits-length a.s.now a.v) l.out l.invariant.2 l.i l.invariant.3 l.invariant.4 h c.before.before.before.before.before.before.before.requires.0.1 _ (bits_item a.s.now a.v l.i h ∙ sym q))
+    (l.invariant.0, omega arith, simp length-set l.invariant.2, query-on (bits_in a.s.now a.v) a.v.len (bits-length a.s.now a.v) l.out l.invariant.2 l.i l.invariant.3 h (bit_in a.s.now a.v l.i h _ _ q c.before.bits-in-domain.ensures ∙ not-false _ c.if1.false), query-write (bits_in a.s.now a.v) a.v.len (bits-length a.s.now a.v) l.out l.invariant.2 l.i l.invariant.3 l.invariant.4 h c.before.before.before.before.before.before.before.requires.0.1 _ (bits_item a.s.now a.v l.i h ∙ sym q))
 
 same-length-2 : tie.Need-same-length-2 invariant-loop decreases-loop
 same-length-2 c = c.before.loop.invariant.2 ∙ sym c.before.before.before.before.requires.1

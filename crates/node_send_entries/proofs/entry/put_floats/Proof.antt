@@ -3,7 +3,7 @@ use native.Mathlib.Omega.{arith}
 use mathlib.Core.Path.{◌≡◌, refl, sym, ◌∙◌, ap}
 use Prim.Native.Nat.{ℕ, ◌+◌, ◌-◌, ◌*◌, ◌≤◌, ◌<◌}
 use mathlib.Core.List.{map}
-use native.Mathlib.Nat.{add_zero}
+use native.Mathlib.Nat.{add-zero}
 use lib.Ieee.{nan}
 use lib.ListN.{length, get_or, drop, length-map}
 use lib.Seq.{sets, drop-length}
@@ -24,7 +24,7 @@ abbrev decreases-loop : tie.decreases-loop
 decreases-loop out₀ at v i₀ out i = length v - i
 
 loop-holds : tie.Need-loop-init invariant-loop decreases-loop
-loop-holds c = (omega arith, refl, (rw add_zero))
+loop-holds c = (omega arith, refl, (rw add-zero))
 
 mul-put4 : tie.Need-overflow-mul-put4 invariant-loop decreases-loop
 mul-put4 c = omega arith

@@ -7,7 +7,7 @@ use Prim.Native.Nat.{ℕ, ◌+◌, ◌-◌, ◌*◌, ◌≤◌, ◌<◌}
 use lib.ListN.{length, get_or, take, drop, set}
 use mathlib.Core.Path.{subst}
 use mathlib.Core.List.{map}
-use borrow.Author.Tests.{not_true, not_false}
+use borrow.Author.Tests.{not-true, not-false}
 use Rattle.spec.specs.Map.Calls.{Line}
 use Rattle.test_lines.specs.Words.{view_line}
 use Rattle.thm_map_never_malformed.specs.Calls.{Intact}
@@ -34,11 +34,11 @@ same_length c = search rules
 
 returns : tie.Need-returns invariant-loop decreases-loop
 returns c = let l = c.before.before.before.loop in let a = c.before.before.before.before.before.before.args in let r = c.before.before.request-at in
-    let e = ended a.s.now (map_in a.map.now) (map_in l.map) _ l.at l.invariant.5 (not_there a.s.now l.at r.result r.ensures (not_true _ c.if1.true)) in
+    let e = ended a.s.now (map_in a.map.now) (map_in l.map) _ l.at l.invariant.5 (not_there a.s.now l.at r.result r.ensures (not-true _ c.if1.true)) in
     record { intact = l.invariant.0; count = omega (arith, l.invariant.1, l.invariant.2, l.invariant.3); lines = e.lines; map = e.map; place = e.place; inside = l.invariant.1 }
 
 step-requires : tie.Need-step-requires invariant-loop decreases-loop
-step-requires c κs = (c.before.before.before.before.before.loop.invariant.0, c.before.before.before.before.request-at.ensures.within (not_false _ c.before.before.if1.false))
+step-requires c κs = (c.before.before.before.before.before.loop.invariant.0, c.before.before.before.before.request-at.ensures.within (not-false _ c.before.before.if1.false))
 
 mul-items : tie.Need-overflow-mul-items invariant-loop decreases-loop
 mul-items c = let l = c.before.before.before.before.before.before.before.before.loop in let h : l.n < 328 = omega (arith, l.invariant.1, l.invariant.2, l.invariant.3) in search rules
@@ -50,10 +50,10 @@ add-n : tie.Need-overflow-add-n invariant-loop decreases-loop
 add-n c = let l = c.before.before.before.before.before.before.before.before.loop in let h : l.n < 328 = omega (arith, l.invariant.1, l.invariant.2, l.invariant.3) in search rules
 
 loop-less : tie.Need-loop-smaller invariant-loop decreases-loop
-loop-less c = let found = not_false _ c.before.before.before.before.before.if1.false in let r = c.before.before.before.before.before.before.before.request-at in omega (arith, r.ensures.passes found, r.ensures.inside found)
+loop-less c = let found = not-false _ c.before.before.before.before.before.if1.false in let r = c.before.before.before.before.before.before.before.request-at in omega (arith, r.ensures.passes found, r.ensures.inside found)
 
 loop-again : tie.Need-loop-preserved invariant-loop decreases-loop
-loop-again c = let found = not_false _ c.before.before.before.before.before.if1.false in let l = c.before.before.before.before.before.before.before.before.loop in let a = c.before.before.before.before.before.before.before.before.before.before.before.args in let r = c.before.before.before.before.before.before.before.request-at in let d = c.before.before.step in
+loop-again c = let found = not-false _ c.before.before.before.before.before.if1.false in let l = c.before.before.before.before.before.before.before.before.loop in let a = c.before.before.before.before.before.before.before.before.before.before.before.args in let r = c.before.before.before.before.before.before.before.request-at in let d = c.before.before.step in
     let h : l.n < 328 = omega (arith, l.invariant.1, l.invariant.2, l.invariant.3) in
     let g = stepped-on a.s.now l.at r.result r.ensures (map_in a.map.now) l.map d.new.0 _ d.result found l.invariant.5 d.ensures in
     (d.ensures.intact, r.ensures.inside found, omega (arith, r.ensures.passes found, l.invariant.2), l.invariant.3, search rules, subst (λ (ls : List Line). Going a.s.now (map_in a.map.now) (map_in d.new.0) r.result.next ls) (sym (copied_on view_line l.items l.n d.result (omega (arith, h, l.invariant.4)))) g, search rules)

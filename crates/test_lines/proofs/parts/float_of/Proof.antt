@@ -1,6 +1,6 @@
 -- Bits of the domain are no NaN.
 use borrow.Author.Rules.{rules}
-use borrow.Author.Tests.{not_false}
+use borrow.Author.Tests.{not-false}
 use mathlib.Core.Path.{sym, ◌∙◌}
 use Rattle.log_store.proofs.Bits.{domain_number}
 use Rattle.test_lines.proofs.parts.float_of.Statement.{statement}
@@ -13,7 +13,7 @@ returns : tie.Need-returns
 returns c = search rules
 
 float-from-bits-result : tie.Need-float-from-bits-result
-float-from-bits-result c = domain_number _ (sym c.before.bits-in-domain.ensures ∙ not_false _ c.if1.false)
+float-from-bits-result c = domain_number _ (sym c.before.bits-in-domain.ensures ∙ not-false _ c.if1.false)
 
 returns-2 : tie.Need-returns-2
 returns-2 c = search rules

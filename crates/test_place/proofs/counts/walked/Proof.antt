@@ -1,6 +1,6 @@
 -- `counts::walked` meets its contract. Assumes nothing.
 use Rattle.std.proofs.Common.{◌≡◌, ℕ, ◌+◌, ◌-◌, ◌*◌, ◌<◌, ◌≤◌, List, [], ◌∷◌, ◌++◌, length, get_or, take, drop, set, sym, refl, ap, ◌∙◌, arith, rules}
-use borrow.Author.Tests.{not_true, not_false}
+use borrow.Author.Tests.{not-true, not-false}
 use Rattle.image_map_loads.proofs.Rows.{lent_long}
 use Rattle.test_place.proofs.counts.walked.Statement.{statement}
 use Rattle.test_place.proofs.counts.walked.Tie as tie
@@ -18,16 +18,16 @@ returns-2 : tie.Need-returns-2
 returns-2 c = search rules
 
 is-formed-requires : tie.Need-is-formed-requires
-is-formed-requires c κs = lent_long c.before.before.before.before.before.before.before.args.map.now (sym c.before.is-lent.ensures ∙ not_false _ c.if2.false)
+is-formed-requires c κs = lent_long c.before.before.before.before.before.before.before.args.map.now (sym c.before.is-lent.ensures ∙ not-false _ c.if2.false)
 
 returns-3 : tie.Need-returns-3
 returns-3 c = search rules
 
 key-named-requires : tie.Need-key-named-requires
-key-named-requires c κs = sym c.before.before.before.before.before.text-fits.ensures ∙ not_false _ c.before.before.before.before.if1.false
+key-named-requires c κs = sym c.before.before.before.before.before.text-fits.ensures ∙ not-false _ c.before.before.before.before.if1.false
 
 walk-requires : tie.Need-walk-requires
-walk-requires c κs = record { lent = sym c.before.before.before.before.is-lent.ensures ∙ not_false _ c.before.before.before.if2.false; formed = sym c.before.before.is-formed.ensures ∙ not_false _ c.before.if3.false }
+walk-requires c κs = record { lent = sym c.before.before.before.before.is-lent.ensures ∙ not-false _ c.before.before.before.if2.false; formed = sym c.before.before.is-formed.ensures ∙ not-false _ c.before.if3.false }
 
 slice-aggregate-word : tie.Need-slice-aggregate-word
 slice-aggregate-word c = search rules

@@ -5,7 +5,7 @@ use native.Mathlib.Omega.{arith}
 use native.Mathlib.Nat.{sub-zero}
 use borrow.Author.Rules.{rules}
 use Rattle.spec_laws.proofs.Wire.Tests.{and_true, and_false}
-use borrow.Author.Tests.{not_true, not_false}
+use borrow.Author.Tests.{not-true, not-false}
 use Rattle.wire_put.specs.Rows.{rows_fit}
 use Rattle.wire_put.proofs.Rows.{fit-step}
 use Rattle.wire_put.proofs.columns.rows_fit.Statement.{statement}
@@ -34,7 +34,7 @@ returns c =
     let l = c.before.before.before.before.before.loop in
     let a = c.before.before.before.before.before.before.before.before.args in
     let h : l.i < a.n = omega arith in
-    sym (l.invariant.1 ∙ fit-step a.codes.now a.lens.now a.n l.i h ∙ (rw (sym c.before.row_fits.ensures ∙ not_true _ c.if1.true) (and_false _)))
+    sym (l.invariant.1 ∙ fit-step a.codes.now a.lens.now a.n l.i h ∙ (rw (sym c.before.row_fits.ensures ∙ not-true _ c.if1.true) (and_false _)))
 
 add-i : tie.Need-overflow-add-i invariant-loop decreases-loop
 add-i c = omega arith
@@ -47,7 +47,7 @@ loop-again c =
     let l = c.before.before.before.before.before.loop in
     let a = c.before.before.before.before.before.before.before.before.args in
     let h : l.i < a.n = omega arith in
-    (omega arith, l.invariant.1 ∙ fit-step a.codes.now a.lens.now a.n l.i h ∙ (rw (sym c.before.row_fits.ensures ∙ not_false _ c.if1.false) (and_true _)))
+    (omega arith, l.invariant.1 ∙ fit-step a.codes.now a.lens.now a.n l.i h ∙ (rw (sym c.before.row_fits.ensures ∙ not-false _ c.if1.false) (and_true _)))
 
 returns-2 : tie.Need-returns-2 invariant-loop decreases-loop
 returns-2 c =

@@ -2,7 +2,7 @@
 use Prim.Native.Nat.{ℕ, ◌+◌, ◌-◌, ◌≤◌, ◌<◌}
 use mathlib.Core.Path.{◌≡◌, refl, sym, ap, ◌∙◌}
 use native.Mathlib.Omega.{arith}
-use native.Mathlib.Nat.{add_zero, sub-zero, sub_self}
+use native.Mathlib.Nat.{add-zero, sub-zero, sub_self}
 use lib.ListN.{length, replicate, length-set}
 use lib.Seq.{sets}
 use Rattle.wire_put.proofs.Writes.{zeros-step}
@@ -16,7 +16,7 @@ abbrev decreases-loop : tie.decreases-loop
 decreases-loop out₀ at n i₀ out i = n - i
 
 loop-holds : tie.Need-loop-init invariant-loop decreases-loop
-loop-holds c = (omega arith, refl, rw (add_zero, sub-zero))
+loop-holds c = (omega arith, refl, rw (add-zero, sub-zero))
 
 add-out : tie.Need-overflow-add-out invariant-loop decreases-loop
 add-out c = omega arith

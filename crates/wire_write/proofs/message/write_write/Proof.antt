@@ -8,7 +8,7 @@ use Rattle.spec.specs.Layout.Parts.{op_f}
 use Rattle.spec_laws.proofs.Wire.Tests.{and_intro}
 use Rattle.wire_write.specs.Written.{text_fits, op_fits, wire_of}
 use Rattle.wire_write.proofs.Writes.{unfit, short, wrote}
-use borrow.Author.Tests.{not_true, not_false}
+use borrow.Author.Tests.{not-true, not-false}
 use Rattle.spec.specs.Layout.Parts.{op_value}
 use Rattle.spec.specs.Layout.Message.{encode_write}
 use Rattle.wire_write.specs.Written.{write_given}
@@ -20,29 +20,29 @@ text-fits-requires : tie.Need-text-fits-requires
 text-fits-requires c κs = search rules
 
 returns : tie.Need-returns
-returns c = unfit (encode_write (write_given c.before.before.before.before.before.args.name.now c.before.before.before.before.before.args.shard c.before.before.before.before.before.args.epoch (wire_of c.before.before.before.before.before.args.upsert c.before.before.before.before.before.args.id c.before.before.before.before.before.args.bits.now))) c.before.before.before.before.before.args.out.now ((text_fits 32 c.before.before.before.before.before.args.name.now) and op_fits c.before.before.before.before.before.args.upsert (length c.before.before.before.before.before.args.bits.now)) (no_first _ _ (sym c.before.text-fits.ensures ∙ not_true _ c.if1.true))
+returns c = unfit (encode_write (write_given c.before.before.before.before.before.args.name.now c.before.before.before.before.before.args.shard c.before.before.before.before.before.args.epoch (wire_of c.before.before.before.before.before.args.upsert c.before.before.before.before.before.args.id c.before.before.before.before.before.args.bits.now))) c.before.before.before.before.before.args.out.now ((text_fits 32 c.before.before.before.before.before.args.name.now) and op_fits c.before.before.before.before.before.args.upsert (length c.before.before.before.before.before.args.bits.now)) (no_first _ _ (sym c.before.text-fits.ensures ∙ not-true _ c.if1.true))
 
 op-fits-requires : tie.Need-op-fits-requires
 op-fits-requires c κs = search rules
 
 returns-2 : tie.Need-returns-2
-returns-2 c = unfit (encode_write (write_given c.before.before.before.before.before.before.before.args.name.now c.before.before.before.before.before.before.before.args.shard c.before.before.before.before.before.before.before.args.epoch (wire_of c.before.before.before.before.before.before.before.args.upsert c.before.before.before.before.before.before.before.args.id c.before.before.before.before.before.before.before.args.bits.now))) c.before.before.before.before.before.before.before.args.out.now ((text_fits 32 c.before.before.before.before.before.before.before.args.name.now) and op_fits c.before.before.before.before.before.before.before.args.upsert (length c.before.before.before.before.before.before.before.args.bits.now)) (no_second _ _ (sym c.before.op_fits.ensures ∙ not_true _ c.if2.true))
+returns-2 c = unfit (encode_write (write_given c.before.before.before.before.before.before.before.args.name.now c.before.before.before.before.before.before.before.args.shard c.before.before.before.before.before.before.before.args.epoch (wire_of c.before.before.before.before.before.before.before.args.upsert c.before.before.before.before.before.before.before.args.id c.before.before.before.before.before.before.before.args.bits.now))) c.before.before.before.before.before.before.before.args.out.now ((text_fits 32 c.before.before.before.before.before.before.before.args.name.now) and op_fits c.before.before.before.before.before.before.before.args.upsert (length c.before.before.before.before.before.before.before.args.bits.now)) (no_second _ _ (sym c.before.op_fits.ensures ∙ not-true _ c.if2.true))
 
 op-size-requires : tie.Need-op-size-requires
-op-size-requires c κs = (sym c.before.op_fits.ensures ∙ not_false _ c.if2.false)
+op-size-requires c κs = (sym c.before.op_fits.ensures ∙ not-false _ c.if2.false)
 
 add-size : tie.Need-overflow-add-size
-add-size c = omega (arith, op_small c.before.before.before.before.before.before.before.before.args.upsert (length c.before.before.before.before.before.before.before.before.args.bits.now) (sym c.before.before.op_fits.ensures ∙ not_false _ c.before.if2.false), c.op-size.ensures)
+add-size c = omega (arith, op_small c.before.before.before.before.before.before.before.before.args.upsert (length c.before.before.before.before.before.before.before.before.args.bits.now) (sym c.before.before.op_fits.ensures ∙ not-false _ c.before.if2.false), c.op-size.ensures)
 
 returns-3 : tie.Need-returns-3
 unfolding encode_write
-returns-3 c = short (encode_write (write_given c.before.before.before.before.before.before.before.before.before.args.name.now c.before.before.before.before.before.before.before.before.before.args.shard c.before.before.before.before.before.before.before.before.before.args.epoch (wire_of c.before.before.before.before.before.before.before.before.before.args.upsert c.before.before.before.before.before.before.before.before.before.args.id c.before.before.before.before.before.before.before.before.before.args.bits.now))) c.before.before.before.before.before.before.before.before.before.args.out.now ((text_fits 32 c.before.before.before.before.before.before.before.before.before.args.name.now) and op_fits c.before.before.before.before.before.before.before.before.before.args.upsert (length c.before.before.before.before.before.before.before.before.before.args.bits.now)) (and_intro (sym c.before.before.before.before.before.text-fits.ensures ∙ not_false _ c.before.before.before.before.if1.false) (sym c.before.before.before.op_fits.ensures ∙ not_false _ c.before.before.if2.false)) (omega (arith, message-length 0x23 c.before.before.before.before.before.before.before.before.before.args.name.now c.before.before.before.before.before.before.before.before.before.args.shard c.before.before.before.before.before.before.before.before.before.args.epoch.0 (op_f) (op_value (wire_of c.before.before.before.before.before.before.before.before.before.args.upsert c.before.before.before.before.before.before.before.before.before.args.id c.before.before.before.before.before.before.before.before.before.args.bits.now)) (text-short 32 c.before.before.before.before.before.before.before.before.before.args.name.now (sym c.before.before.before.before.before.text-fits.ensures ∙ not_false _ c.before.before.before.before.if1.false)), op-size c.before.before.before.before.before.before.before.before.before.args.upsert c.before.before.before.before.before.before.before.before.before.args.id c.before.before.before.before.before.before.before.before.before.args.bits.now, c.before.op-size.ensures))
+returns-3 c = short (encode_write (write_given c.before.before.before.before.before.before.before.before.before.args.name.now c.before.before.before.before.before.before.before.before.before.args.shard c.before.before.before.before.before.before.before.before.before.args.epoch (wire_of c.before.before.before.before.before.before.before.before.before.args.upsert c.before.before.before.before.before.before.before.before.before.args.id c.before.before.before.before.before.before.before.before.before.args.bits.now))) c.before.before.before.before.before.before.before.before.before.args.out.now ((text_fits 32 c.before.before.before.before.before.before.before.before.before.args.name.now) and op_fits c.before.before.before.before.before.before.before.before.before.args.upsert (length c.before.before.before.before.before.before.before.before.before.args.bits.now)) (and_intro (sym c.before.before.before.before.before.text-fits.ensures ∙ not-false _ c.before.before.before.before.if1.false) (sym c.before.before.before.op_fits.ensures ∙ not-false _ c.before.before.if2.false)) (omega (arith, message-length 0x23 c.before.before.before.before.before.before.before.before.before.args.name.now c.before.before.before.before.before.before.before.before.before.args.shard c.before.before.before.before.before.before.before.before.before.args.epoch.0 (op_f) (op_value (wire_of c.before.before.before.before.before.before.before.before.before.args.upsert c.before.before.before.before.before.before.before.before.before.args.id c.before.before.before.before.before.before.before.before.before.args.bits.now)) (text-short 32 c.before.before.before.before.before.before.before.before.before.args.name.now (sym c.before.before.before.before.before.text-fits.ensures ∙ not-false _ c.before.before.before.before.if1.false)), op-size c.before.before.before.before.before.before.before.before.before.args.upsert c.before.before.before.before.before.before.before.before.before.args.id c.before.before.before.before.before.before.before.before.before.args.bits.now, c.before.op-size.ensures))
 
 put-head-requires : tie.Need-put-head-requires
-put-head-requires c κs = (omega arith, (text-short 32 c.before.before.before.before.before.before.before.before.before.before.args.name.now (sym c.before.before.before.before.before.before.text-fits.ensures ∙ not_false _ c.before.before.before.before.before.if1.false)))
+put-head-requires c κs = (omega arith, (text-short 32 c.before.before.before.before.before.before.before.before.before.before.args.name.now (sym c.before.before.before.before.before.before.text-fits.ensures ∙ not-false _ c.before.before.before.before.before.if1.false)))
 
 put-op-requires : tie.Need-put-op-requires
-put-op-requires c κs = (omega (arith, op-size c.before.before.before.before.before.before.before.before.before.before.before.before.before.before.args.upsert c.before.before.before.before.before.before.before.before.before.before.before.before.before.before.args.id c.before.before.before.before.before.before.before.before.before.before.before.before.before.before.args.bits.now, c.before.before.before.before.before.before.op-size.ensures), (sym c.before.before.before.before.before.before.before.before.op_fits.ensures ∙ not_false _ c.before.before.before.before.before.before.before.if2.false))
+put-op-requires c κs = (omega (arith, op-size c.before.before.before.before.before.before.before.before.before.before.before.before.before.before.args.upsert c.before.before.before.before.before.before.before.before.before.before.before.before.before.before.args.id c.before.before.before.before.before.before.before.before.before.before.before.before.before.before.args.bits.now, c.before.before.before.before.before.before.op-size.ensures), (sym c.before.before.before.before.before.before.before.before.op_fits.ensures ∙ not-false _ c.before.before.before.before.before.before.before.if2.false))
 
 same_length : tie.Need-same-length
 same_length c = search rules
@@ -50,8 +50,8 @@ same_length c = search rules
 returns-4 : tie.Need-returns-4
 unfolding encode_write
 returns-4 c =
-    wrote (encode_write (write_given c.before.before.before.before.before.before.before.before.before.before.before.before.before.before.before.before.before.args.name.now c.before.before.before.before.before.before.before.before.before.before.before.before.before.before.before.before.before.args.shard c.before.before.before.before.before.before.before.before.before.before.before.before.before.before.before.before.before.args.epoch (wire_of c.before.before.before.before.before.before.before.before.before.before.before.before.before.before.before.before.before.args.upsert c.before.before.before.before.before.before.before.before.before.before.before.before.before.before.before.before.before.args.id c.before.before.before.before.before.before.before.before.before.before.before.before.before.before.before.before.before.args.bits.now))) c.before.before.before.before.before.before.before.before.before.before.before.before.before.before.before.before.before.args.out.now ((text_fits 32 c.before.before.before.before.before.before.before.before.before.before.before.before.before.before.before.before.before.args.name.now) and op_fits c.before.before.before.before.before.before.before.before.before.before.before.before.before.before.before.before.before.args.upsert (length c.before.before.before.before.before.before.before.before.before.before.before.before.before.before.before.before.before.args.bits.now)) _ _ (and_intro (sym c.before.before.before.before.before.before.before.before.before.before.before.before.before.text-fits.ensures ∙ not_false _ c.before.before.before.before.before.before.before.before.before.before.before.before.if1.false) (sym c.before.before.before.before.before.before.before.before.before.before.before.op_fits.ensures ∙ not_false _ c.before.before.before.before.before.before.before.before.before.before.if2.false)) (omega (arith, message-length 0x23 c.before.before.before.before.before.before.before.before.before.before.before.before.before.before.before.before.before.args.name.now c.before.before.before.before.before.before.before.before.before.before.before.before.before.before.before.before.before.args.shard c.before.before.before.before.before.before.before.before.before.before.before.before.before.before.before.before.before.args.epoch.0 (op_f) (op_value (wire_of c.before.before.before.before.before.before.before.before.before.before.before.before.before.before.before.before.before.args.upsert c.before.before.before.before.before.before.before.before.before.before.before.before.before.before.before.before.before.args.id c.before.before.before.before.before.before.before.before.before.before.before.before.before.before.before.before.before.args.bits.now)) (text-short 32 c.before.before.before.before.before.before.before.before.before.before.before.before.before.before.before.before.before.args.name.now (sym c.before.before.before.before.before.before.before.before.before.before.before.before.before.text-fits.ensures ∙ not_false _ c.before.before.before.before.before.before.before.before.before.before.before.before.if1.false)), op-size c.before.before.before.before.before.before.before.before.before.before.before.before.before.before.before.before.before.args.upsert c.before.before.before.before.before.before.before.before.before.before.before.before.before.before.before.before.before.args.id c.before.before.before.before.before.before.before.before.before.before.before.before.before.before.before.before.before.args.bits.now, c.before.before.before.before.before.before.before.before.before.op-size.ensures)) (omega (arith, message-length 0x23 c.before.before.before.before.before.before.before.before.before.before.before.before.before.before.before.before.before.args.name.now c.before.before.before.before.before.before.before.before.before.before.before.before.before.before.before.before.before.args.shard c.before.before.before.before.before.before.before.before.before.before.before.before.before.before.before.before.before.args.epoch.0 (op_f) (op_value (wire_of c.before.before.before.before.before.before.before.before.before.before.before.before.before.before.before.before.before.args.upsert c.before.before.before.before.before.before.before.before.before.before.before.before.before.before.before.before.before.args.id c.before.before.before.before.before.before.before.before.before.before.before.before.before.before.before.before.before.args.bits.now)) (text-short 32 c.before.before.before.before.before.before.before.before.before.before.before.before.before.before.before.before.before.args.name.now (sym c.before.before.before.before.before.before.before.before.before.before.before.before.before.text-fits.ensures ∙ not_false _ c.before.before.before.before.before.before.before.before.before.before.before.before.if1.false)), op-size c.before.before.before.before.before.before.before.before.before.before.before.before.before.before.before.before.before.args.upsert c.before.before.before.before.before.before.before.before.before.before.before.before.before.before.before.before.before.args.id c.before.before.before.before.before.before.before.before.before.before.before.before.before.before.before.before.before.args.bits.now, c.before.before.before.before.before.before.before.before.before.op-size.ensures))
-    (c.before.before.put-op.ensures ∙ (rw c.before.before.before.before.before.before.put-head.ensures (message-put 0x23 c.before.before.before.before.before.before.before.before.before.before.before.before.before.before.before.before.before.args.name.now c.before.before.before.before.before.before.before.before.before.before.before.before.before.before.before.before.before.args.shard c.before.before.before.before.before.before.before.before.before.before.before.before.before.before.before.before.before.args.epoch.0 (op_f) (op_value (wire_of c.before.before.before.before.before.before.before.before.before.before.before.before.before.before.before.before.before.args.upsert c.before.before.before.before.before.before.before.before.before.before.before.before.before.before.before.before.before.args.id c.before.before.before.before.before.before.before.before.before.before.before.before.before.before.before.before.before.args.bits.now)) c.before.before.before.before.before.before.before.before.before.before.before.before.before.before.before.before.before.args.out.now (text-short 32 c.before.before.before.before.before.before.before.before.before.before.before.before.before.before.before.before.before.args.name.now (sym c.before.before.before.before.before.before.before.before.before.before.before.before.before.text-fits.ensures ∙ not_false _ c.before.before.before.before.before.before.before.before.before.before.before.before.if1.false)))))
+    wrote (encode_write (write_given c.before.before.before.before.before.before.before.before.before.before.before.before.before.before.before.before.before.args.name.now c.before.before.before.before.before.before.before.before.before.before.before.before.before.before.before.before.before.args.shard c.before.before.before.before.before.before.before.before.before.before.before.before.before.before.before.before.before.args.epoch (wire_of c.before.before.before.before.before.before.before.before.before.before.before.before.before.before.before.before.before.args.upsert c.before.before.before.before.before.before.before.before.before.before.before.before.before.before.before.before.before.args.id c.before.before.before.before.before.before.before.before.before.before.before.before.before.before.before.before.before.args.bits.now))) c.before.before.before.before.before.before.before.before.before.before.before.before.before.before.before.before.before.args.out.now ((text_fits 32 c.before.before.before.before.before.before.before.before.before.before.before.before.before.before.before.before.before.args.name.now) and op_fits c.before.before.before.before.before.before.before.before.before.before.before.before.before.before.before.before.before.args.upsert (length c.before.before.before.before.before.before.before.before.before.before.before.before.before.before.before.before.before.args.bits.now)) _ _ (and_intro (sym c.before.before.before.before.before.before.before.before.before.before.before.before.before.text-fits.ensures ∙ not-false _ c.before.before.before.before.before.before.before.before.before.before.before.before.if1.false) (sym c.before.before.before.before.before.before.before.before.before.before.before.op_fits.ensures ∙ not-false _ c.before.before.before.before.before.before.before.before.before.before.if2.false)) (omega (arith, message-length 0x23 c.before.before.before.before.before.before.before.before.before.before.before.before.before.before.before.before.before.args.name.now c.before.before.before.before.before.before.before.before.before.before.before.before.before.before.before.before.before.args.shard c.before.before.before.before.before.before.before.before.before.before.before.before.before.before.before.before.before.args.epoch.0 (op_f) (op_value (wire_of c.before.before.before.before.before.before.before.before.before.before.before.before.before.before.before.before.before.args.upsert c.before.before.before.before.before.before.before.before.before.before.before.before.before.before.before.before.before.args.id c.before.before.before.before.before.before.before.before.before.before.before.before.before.before.before.before.before.args.bits.now)) (text-short 32 c.before.before.before.before.before.before.before.before.before.before.before.before.before.before.before.before.before.args.name.now (sym c.before.before.before.before.before.before.before.before.before.before.before.before.before.text-fits.ensures ∙ not-false _ c.before.before.before.before.before.before.before.before.before.before.before.before.if1.false)), op-size c.before.before.before.before.before.before.before.before.before.before.before.before.before.before.before.before.before.args.upsert c.before.before.before.before.before.before.before.before.before.before.before.before.before.before.before.before.before.args.id c.before.before.before.before.before.before.before.before.before.before.before.before.before.before.before.before.before.args.bits.now, c.before.before.before.before.before.before.before.before.before.op-size.ensures)) (omega (arith, message-length 0x23 c.before.before.before.before.before.before.before.before.before.before.before.before.before.before.before.before.before.args.name.now c.before.before.before.before.before.before.before.before.before.before.before.before.before.before.before.before.before.args.shard c.before.before.before.before.before.before.before.before.before.before.before.before.before.before.before.before.before.args.epoch.0 (op_f) (op_value (wire_of c.before.before.before.before.before.before.before.before.before.before.before.before.before.before.before.before.before.args.upsert c.before.before.before.before.before.before.before.before.before.before.before.before.before.before.before.before.before.args.id c.before.before.before.before.before.before.before.before.before.before.before.before.before.before.before.before.before.args.bits.now)) (text-short 32 c.before.before.before.before.before.before.before.before.before.before.before.before.before.before.before.before.before.args.name.now (sym c.before.before.before.before.before.before.before.before.before.before.before.before.before.text-fits.ensures ∙ not-false _ c.before.before.before.before.before.before.before.before.before.before.before.before.if1.false)), op-size c.before.before.before.before.before.before.before.before.before.before.before.before.before.before.before.before.before.args.upsert c.before.before.before.before.before.before.before.before.before.before.before.before.before.before.before.before.before.args.id c.before.before.before.before.before.before.before.before.before.before.before.before.before.before.before.before.before.args.bits.now, c.before.before.before.before.before.before.before.before.before.op-size.ensures))
+    (c.before.before.put-op.ensures ∙ (rw c.before.before.before.before.before.before.put-head.ensures (message-put 0x23 c.before.before.before.before.before.before.before.before.before.before.before.before.before.before.before.before.before.args.name.now c.before.before.before.before.before.before.before.before.before.before.before.before.before.before.before.before.before.args.shard c.before.before.before.before.before.before.before.before.before.before.before.before.before.before.before.before.before.args.epoch.0 (op_f) (op_value (wire_of c.before.before.before.before.before.before.before.before.before.before.before.before.before.before.before.before.before.args.upsert c.before.before.before.before.before.before.before.before.before.before.before.before.before.before.before.before.before.args.id c.before.before.before.before.before.before.before.before.before.before.before.before.before.before.before.before.before.args.bits.now)) c.before.before.before.before.before.before.before.before.before.before.before.before.before.before.before.before.before.args.out.now (text-short 32 c.before.before.before.before.before.before.before.before.before.before.before.before.before.before.before.before.before.args.name.now (sym c.before.before.before.before.before.before.before.before.before.before.before.before.before.text-fits.ensures ∙ not-false _ c.before.before.before.before.before.before.before.before.before.before.before.before.if1.false)))))
 
 pub write-write-spec : {M : Type 1} → statement M
 write-write-spec =
