@@ -1,6 +1,8 @@
 // Numbers in bytes, least significant first (paper 01, 'Bytes on the wire'), and the source's `wrapping_mul`.
 // Reading is a flat sum of products and writing one store a byte: the compiler makes a single load or store of
 // either. The laws are stated over every width in proofs/Words.antt. Internal: a caller shows that the bytes are there.
+#![tactic(auto)]
+
 ghost use Rattle.std.specs.Prelude.{◌≡◌, ◌+◌, ◌*◌, ◌%◌, ◌^◌, ◌<◌, ◌≤◌, length};
 ghost use Rattle.std.proofs.lemmas.List.Edits.{sets};
 ghost use Rattle.spec.specs.Layout.Format.{number_at, bytes_of};
