@@ -3,31 +3,31 @@
 // table is the same thing in both.
 
 // The source's three kinds of number, kept apart: an epoch, a data node's id, a place in a log (from 1).
-#[derive(Drop)]
+#[derive(Clone, Copy)]
 pub struct Epoch(pub u64);
 
-#[derive(Drop)]
+#[derive(Clone, Copy)]
 pub struct DataNodeId(pub u64);
 
-#[derive(Drop)]
+#[derive(Clone, Copy)]
 pub struct Offset(pub u64);
 
 // How a collection measures distance (wire code 0 and 1).
-#[derive(Drop)]
+#[derive(Clone, Copy)]
 pub enum Metric {
     Euclidean,
     Angular,
 }
 
 // An id with its distance to the query.
-#[derive(Drop)]
+#[derive(Clone, Copy)]
 pub struct Neighbor {
     pub id: u64,
     pub distance: f32,
 }
 
 // One copy of a shard: the node that holds it, under the incarnation it had.
-#[derive(Drop)]
+#[derive(Clone, Copy)]
 pub struct Replica {
     pub node: DataNodeId,
     pub incarnation: u64,
@@ -35,7 +35,7 @@ pub struct Replica {
 
 // What a primary tracks of one started worker's peer. `acked` is 0 while nothing is known; `since` means
 // something only while `behind`; `member` says whether the peer is in the ack set.
-#[derive(Drop)]
+#[derive(Clone, Copy)]
 pub struct Peer {
     pub node: DataNodeId,
     pub acked: Offset,
@@ -47,7 +47,7 @@ pub struct Peer {
 }
 
 // `Option<Primary>` of the source, as an enum of numbers beside the arrays.
-#[derive(Drop)]
+#[derive(Clone, Copy)]
 pub enum Role {
     Backup,
     Primary { epoch: Epoch, end: Offset },
