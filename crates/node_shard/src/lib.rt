@@ -1,6 +1,8 @@
 // One held shard of a data node (paper 01, 'The node'; node.rs), as the type in which contracts speak of it, and functions on its rows. What
 // the calls do to a row is in crates of its own: `node_acks`, `node_waits`, `node_outcomes`, `node_show_shard`, and `node_admit`,
 // `node_log_write` and `node_log_backup`. What a held shard is read as stands in specs/View.antt; what a call does, in `spec`'s Node.
+#![tactic(auto)]
+
 use spec::{DataNodeId, Epoch, Metric, Peer, Replica, Role};
 
 pub mod rows;
@@ -10,7 +12,7 @@ pub const LAST_TIME: u64 = 4611686018427387904;
 
 // One held shard without its key and its log. `last` is the log's length, `holders` and `count` say how many replicas and rows are in use;
 // what lies past them is free.
-#[derive(Drop)]
+#[derive(Clone, Copy)]
 pub struct Held {
     pub epoch: Epoch,
     pub metric: Metric,
@@ -24,14 +26,14 @@ pub struct Held {
 }
 
 // A list of nodes; what lies past `count` is free.
-#[derive(Drop)]
+#[derive(Clone, Copy)]
 pub struct Nodes {
     pub items: [DataNodeId; 32],
     pub count: usize,
 }
 
 // Waiting for acks: 18 with the own epoch, or another refusal's number.
-#[derive(Drop)]
+#[derive(Clone, Copy)]
 pub enum WaitAnswer {
     Done,
     Waiting,
@@ -40,7 +42,7 @@ pub enum WaitAnswer {
 }
 
 // The answer, the peers to propose a Shrink for, by rising node, and the shard after.
-#[derive(Drop)]
+#[derive(Clone, Copy)]
 pub struct Waited {
     pub answer: WaitAnswer,
     pub shrink: Nodes,
@@ -48,20 +50,20 @@ pub struct Waited {
 }
 
 // The outcome of a proposal is taken note of, or refused by a number.
-#[derive(Drop)]
+#[derive(Clone, Copy)]
 pub enum OutcomeAnswer {
     Noted,
     Refused(u8),
 }
 
-#[derive(Drop)]
+#[derive(Clone, Copy)]
 pub struct Settled {
     pub answer: OutcomeAnswer,
     pub held: Held,
 }
 
 // The step that a reply answers.
-#[derive(Drop)]
+#[derive(Clone, Copy)]
 pub enum Sent {
     Align,
     Replicate,
@@ -69,7 +71,7 @@ pub enum Sent {
 }
 
 // A reply, 30 to 33.
-#[derive(Drop)]
+#[derive(Clone, Copy)]
 pub enum Reply {
     Stored(u64),
     Gap(u64),
@@ -78,7 +80,7 @@ pub enum Reply {
 }
 
 // What a reply brings about.
-#[derive(Drop)]
+#[derive(Clone, Copy)]
 pub enum Deed {
     Nothing,
     StepDown,
@@ -87,21 +89,21 @@ pub enum Deed {
 }
 
 // Nothing to do, an Expand to propose for the peer, or a refusal's number.
-#[derive(Drop)]
+#[derive(Clone, Copy)]
 pub enum AckAnswer {
     Noted,
     Expand,
     Refused(u8),
 }
 
-#[derive(Drop)]
+#[derive(Clone, Copy)]
 pub struct Acked {
     pub answer: AckAnswer,
     pub held: Held,
 }
 
 // The primary that a map lists for a shard.
-#[derive(Drop)]
+#[derive(Clone, Copy)]
 pub enum Leader {
     Nobody,
     At(u64),
