@@ -31,6 +31,7 @@ module _ {A B : Type 0} (p : A → Bool) (f : A → B) where
   unfolding collect
   has-collect x (y ∷ ys) e (inl q) = rw (← q, e) (inl refl)
   has-collect x (y ∷ ys) e (inr h) = by-test (Has (f x)) (p y) (λ t. inr (has-collect x ys e h)) (λ t. has-collect x ys e h)
+  has-collect x [] e x3 = elim x3 [ ]
 
   pub collect-has : (v : B) (l : List A) → Has v (collect p f l) → (x : A) × Has x l × (p x ≡ true) × (v ≡ f x)
   unfolding collect
