@@ -4,14 +4,14 @@ pub mod admission;
 pub mod lease;
 
 // When the lease ends.
-#[derive(Drop)]
+#[derive(Clone, Copy)]
 pub enum Expiry {
     Never,
     At(u64),
 }
 
 // Whether a client's call goes on: 18 with the own epoch, 19, 20, 23 otherwise.
-#[derive(Drop)]
+#[derive(Clone, Copy)]
 pub enum Admit {
     Yes,
     NotPrimary(u64),
@@ -21,7 +21,7 @@ pub enum Admit {
 }
 
 // The worker's step; Send names its first offset and how many entries.
-#[derive(Drop)]
+#[derive(Clone, Copy)]
 pub enum Step {
     Stop,
     Wait,
@@ -30,7 +30,7 @@ pub enum Step {
 }
 
 // Whether a NewEpoch is taken, or the own epoch that turns it down.
-#[derive(Drop)]
+#[derive(Clone, Copy)]
 pub enum Epochs {
     Taken,
     Stale(u64),

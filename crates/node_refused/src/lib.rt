@@ -1,10 +1,12 @@
 // The one count of refused Write and Search calls (paper 01, 'The node'). It is lent apart from a node's state, so that a call refused for a
 // malformed state counts too.
+#![tactic(auto)]
+
 ghost use Rattle.std.specs.Prelude.{◌≡◌};
 ghost use Rattle.node_refused.specs.Count.{bumped};
 
 // How many Write and Search calls were refused; it stops at the largest u32.
-#[derive(Drop)]
+#[derive(Clone, Copy)]
 pub struct Refused {
     pub count: u32,
 }
