@@ -1,5 +1,7 @@
 // Below the reader, crate `wire_read`: whether a value of a format stands at a position, and where it ends. Each function is
 // the shape test of one format of `spec`'s Layout, as specs/Skip.antt says it. Internal: hosts call `wire_read::decode`.
+#![tactic(auto)]
+
 ghost use Rattle.std.specs.Prelude.{◌≡◌, ◌+◌, ◌≤◌, length};
 ghost use Rattle.spec.specs.Layout.Format.{all_within, word, text, below, many, ◌▸◌};
 ghost use Rattle.spec.specs.Layout.Parts.{u64, op_f, placement_f, entry_f, entries_f};

@@ -1,0 +1,28 @@
+use Prim.Native.Nat.{ℕ, ◌-◌, ◌<◌}
+use mathlib.Core.Path.{◌≡◌, sym, ap, ◌∙◌}
+use native.Mathlib.Omega.{arith}
+use Rattle.spec.specs.Layout.Parts.{entry_f}
+use Rattle.wire_shape.specs.Skip.{skip_n}
+use Rattle.wire_shape.proofs.Skips.{skip_n-none, skip_n-next, skip_n_bad}
+use Rattle.wire_shape.proofs.skip_entries_n.Goals as goal
+
+pub returns-in_default : goal.returns-in_default
+returns-in_default c =
+    let a = c.args in
+    let l = c.loop-i in
+    let h : l.i < a.n = omega arith in
+    sym (l.invariant.1 ∙ skip_n_bad entry_f a.s.now a.n l.i l.p h (sym c.skip_entry.ensures ∙ c.in_default.is))
+
+pub loop-i-preserved : goal.loop-i-preserved
+loop-i-preserved c =
+    let a = c.args in
+    let l = c.loop-i in
+    let h : l.i < a.n = omega arith in
+    (omega arith, l.invariant.1 ∙ skip_n-next entry_f a.s.now a.n l.i l.p _ h (sym c.skip_entry.ensures ∙ c.in-Next.is))
+
+pub returns : goal.returns
+returns c =
+    let a = c.args in
+    let l = c.loop-i in
+    let z : a.n - l.i ≡ 0 = omega arith in
+    skip_n-none entry_f a.s.now l.p ∙ sym (l.invariant.1 ∙ ap (λ (m : ℕ). skip_n entry_f a.s.now m l.p) z)

@@ -1,0 +1,15 @@
+use mathlib.Core.Path.{sym, ◌∙◌}
+use Rattle.spec.specs.Layout.Format.{◌▸◌}
+use Rattle.spec.specs.Layout.Parts.{u64, address_f}
+use Rattle.wire_shape.proofs.Skips.{pair-next, pair_bad}
+use Rattle.wire_shape.proofs.skip_register.Goals as goal
+
+pub returns-in_default : goal.returns-in_default
+returns-in_default c =
+    let a = c.args in
+    pair_bad u64 (address_f ▸ u64) a.s.now a.at (sym c.skip_word.ensures ∙ c.in_default.is)
+
+pub returns : goal.returns
+returns c =
+    let a = c.args in
+    c.skip_text.ensures ∙ pair-next u64 (address_f ▸ u64) a.s.now a.at _ (sym c.skip_word.ensures ∙ c.in-Next.is)
