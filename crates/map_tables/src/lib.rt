@@ -1,5 +1,7 @@
 // The shard map (the source's StateMachine, `place` and `replacement`): its rows and tables as structs, a request, and an answer. What each is read
 // as stands in specs/View.antt; what a command does, in `spec`'s Map. Code works on rows: the tables stand in a map's image.
+#![tactic(auto)]
+
 ghost use Rattle.std.specs.Prelude.{◌≡◌};
 
 use spec::{DataNodeId, Epoch, Metric, Replica};
@@ -9,27 +11,27 @@ pub mod holders_of;
 pub mod names;
 
 // A collection's name; bytes past `len` are free.
-#[derive(Drop)]
+#[derive(Clone, Copy)]
 pub struct Name {
     pub bytes: [u8; 32],
     pub len: usize,
 }
 
 // Where a node serves requests; bytes past `len` are free.
-#[derive(Drop)]
+#[derive(Clone, Copy)]
 pub struct Address {
     pub bytes: [u8; 64],
     pub len: usize,
 }
 
-#[derive(Drop)]
+#[derive(Clone, Copy)]
 pub struct ShardKey {
     pub collection: Name,
     pub shard: u32,
 }
 
 // The source's DataNodeInfo, with its id.
-#[derive(Drop)]
+#[derive(Clone, Copy)]
 pub struct NodeRow {
     pub node: DataNodeId,
     pub address: Address,
@@ -38,7 +40,7 @@ pub struct NodeRow {
 }
 
 // The source's CollectionSpec.
-#[derive(Drop)]
+#[derive(Clone, Copy)]
 pub struct Spec {
     pub dimension: u32,
     pub metric: Metric,
@@ -46,35 +48,35 @@ pub struct Spec {
     pub replication: u32,
 }
 
-#[derive(Drop)]
+#[derive(Clone, Copy)]
 pub struct CollectionRow {
     pub name: Name,
     pub spec: Spec,
 }
 
 // `Option<DataNodeId>` of the source.
-#[derive(Drop)]
+#[derive(Clone, Copy)]
 pub enum Primary {
     Nobody,
     At(DataNodeId),
 }
 
 // The copies of a shard in their order; places past `count` are free.
-#[derive(Drop)]
+#[derive(Clone, Copy)]
 pub struct Holders {
     pub items: [Replica; 8],
     pub count: usize,
 }
 
 // The source's in_sync, by rising id; places past `count` are free.
-#[derive(Drop)]
+#[derive(Clone, Copy)]
 pub struct InSync {
     pub items: [DataNodeId; 8],
     pub count: usize,
 }
 
 // The source's ShardInfo, with its key.
-#[derive(Drop)]
+#[derive(Clone, Copy)]
 pub struct ShardRow {
     pub key: ShardKey,
     pub replicas: Holders,
@@ -84,7 +86,7 @@ pub struct ShardRow {
 }
 
 // Why a command is rejected, 1 to 16, with the numbers among its operands. A name or a key among them stands beside it.
-#[derive(Drop)]
+#[derive(Clone, Copy)]
 pub enum Rejection {
     Older,
     Exists,
@@ -104,14 +106,14 @@ pub enum Rejection {
     AlreadyInSync(DataNodeId),
 }
 
-#[derive(Drop)]
+#[derive(Clone, Copy)]
 pub enum Outcome {
     Applied,
     Rejected(Rejection),
 }
 
 // Why a call is refused: 21, 23, 24, 25.
-#[derive(Drop)]
+#[derive(Clone, Copy)]
 pub enum Refusal {
     Undecodable,
     NoRoom,
@@ -119,21 +121,21 @@ pub enum Refusal {
     LastEpoch,
 }
 
-#[derive(Drop)]
+#[derive(Clone, Copy)]
 pub enum Answer {
     Done(Outcome),
     Refused(Refusal),
 }
 
 // An answer, with the name or key among its operands; where it has none, the key is free.
-#[derive(Drop)]
+#[derive(Clone, Copy)]
 pub struct Verdict {
     pub answer: Answer,
     pub key: ShardKey,
 }
 
 // What is remembered of a client: its last sequence number and that command's outcome.
-#[derive(Drop)]
+#[derive(Clone, Copy)]
 pub struct SessionRow {
     pub client: u64,
     pub seq: u64,
@@ -177,14 +179,14 @@ pub struct ShardMap {
 }
 
 // The nodes of one shard to be, the primary first.
-#[derive(Drop)]
+#[derive(Clone, Copy)]
 pub struct NodeList {
     pub nodes: [DataNodeId; 8],
     pub count: usize,
 }
 
 // with_shard's closure as an enum of changes.
-#[derive(Drop)]
+#[derive(Clone, Copy)]
 pub enum Change {
     Add(DataNodeId, u64),
     Remove(DataNodeId),
@@ -194,7 +196,7 @@ pub enum Change {
 }
 
 // The commands 10 to 19. The name or key, the address and the placement stand beside it, in the request.
-#[derive(Drop)]
+#[derive(Clone, Copy)]
 pub enum Command {
     Create(Spec),
     Drop,
@@ -205,7 +207,7 @@ pub enum Command {
 }
 
 // A request as it is read. Operands that its command does not have are free.
-#[derive(Drop)]
+#[derive(Clone, Copy)]
 pub struct Request {
     pub index: u64,
     pub client: u64,
@@ -217,14 +219,14 @@ pub struct Request {
 }
 
 // How the walk over a placement ends.
-#[derive(Drop)]
+#[derive(Clone, Copy)]
 pub enum Walked {
     All,
     NotAlive(DataNodeId),
 }
 
 // One list for each shard of a new collection.
-#[derive(Drop)]
+#[derive(Clone, Copy)]
 pub struct Placement {
     pub lists: [NodeList; 16],
     pub count: usize,
