@@ -19,8 +19,8 @@ loop-i-init c = (search rules, search rules, long (goal.at.loop-i-init c).Start,
 
 pub loop-i-preserved-then-row-node : goal.loop-i-preserved-then-row-node
 loop-i-preserved-then-row-node c =
-        (search rules, search rules, c.loop-i.invariant.2, skip-row (λ r. not (is_on c.args.node.0 r)) c.args.h.items c.loop-i.out c.loop-i.n c.loop-i.i _ (omega (arith, long (goal.at.loop-i-preserved-then-row-node c).Start, c.requires)) c.loop-i.invariant.3 (ap not (eq-eqb _ _ c.if-row-node.true)))
+    (search rules, search rules, c.loop-i.invariant.2, skip-row (λ r. not (is_on c.args.node.0 r)) c.args.h.items c.loop-i.out c.loop-i.n c.loop-i.i _ (omega (arith, long (goal.at.loop-i-preserved-then-row-node c).Start, c.requires)) c.loop-i.invariant.3 (ap not (eq-eqb _ _ c.if-row-node.true)))
 
 pub loop-i-preserved : goal.loop-i-preserved
 loop-i-preserved c =
-        (search rules, search rules, search rules, keep_row (λ r. not (is_on c.args.node.0 r)) c.args.h.items c.loop-i.out c.loop-i.n c.loop-i.i _ (omega (arith, long (goal.at.loop-i-preserved c).Start, c.requires)) c.loop-i.invariant.3 (omega (arith, c.requires)) (ap not (ne_eqb _ _ c.if-row-node.false)))
+    (search rules, search rules, search rules, keep_row (λ r. not (is_on c.args.node.0 r)) c.args.h.items c.loop-i.out c.loop-i.n c.loop-i.i _ (omega (arith, long (goal.at.loop-i-preserved c).Start, c.requires)) c.loop-i.invariant.3 (omega (arith, c.requires)) (ap not (ne_eqb _ _ c.if-row-node.false)))

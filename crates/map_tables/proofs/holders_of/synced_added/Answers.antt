@@ -4,20 +4,18 @@ use mathlib.Core.Path.{◌≡◌, refl, sym, ◌∙◌}
 use Prim.Native.Nat.{◌≤◌}
 use lib.ListN.{length}
 use mathlib.Core.Bool.{true}
-use mathlib.Core.Logic.{⊎_elim}
 use borrow.Author.Tests.{lt-ltb, le-ltb}
 use Rattle.spec.specs.Map.Change.{id_below}
 use Rattle.spec_laws.proofs.Map.Orders.{numbers}
 use Rattle.map_tables.proofs.Tables.{put_self, insert_self, room_self, place-most, carried, of_field}
 use Rattle.map_tables.proofs.holders_of.synced_added.Goals as goal
-use Rattle.map_tables.proofs.holders_of.synced_added.Goals.{Start}
+use Rattle.map_tables.proofs.holders_of.synced_added.Goals.{Start, then-at-count+else-row-node, else-at-count}
 
 fits : (c : Start) → c.args.s.count ≤ length c.args.s.items
 fits c = let h : length c.args.s.items ≡ 8 = search (rules, of_field) in omega (arith, c.requires.0)
 
 pub returns-then-row-node : goal.returns-then-row-node
-returns-then-row-node c =
-    (
+returns-then-row-node c = (
   put_self c.args.s.items c.args.s.count (fits (goal.at.returns-then-row-node c).Start) id_below c.args.node
       (λ y. numbers.apart y.0 c.args.node.0) c.synced_place-at.result c.synced_place-at.ensures
       _ c.if-at-count.true (le-ltb _ _ c.if-row-node.true),
@@ -30,7 +28,7 @@ loop-i-init c =
       omega (arith, c.synced_place-at.ensures),
       room_self c.args.s.items c.args.s.count (fits (goal.at.loop-i-init c).Start) id_below c.args.node
           (λ y. numbers.apart y.0 c.args.node.0) c.synced_place-at.result c.synced_place-at.ensures
-          _ 8 (λ h. ⊎_elim (λ w. lt-ltb _ _ w.4.left) (λ w. let l = w.left in absurd (omega arith)) c.if-at-count.branch) c.requires.1,
+          _ 8 (λ h. elim c.if-at-count.branch [ then-at-count+else-row-node w ↦ lt-ltb _ _ w.if-row-node.false | else-at-count w ↦ absurd (omega (arith, w.if-at-count.false)) ]) c.requires.1,
       search (rules, of_field),
       refl,
     )
@@ -42,6 +40,6 @@ returns c =
           c.loop-i.invariant.3 (search rules) (omega (arith, c.synced_place-at.ensures)) (search rules) (fits (goal.at.returns c).Start)
           ∙ sym (insert_self c.args.s.items c.args.s.count (fits (goal.at.returns c).Start) id_below c.args.node
           (λ y. numbers.apart y.0 c.args.node.0) c.synced_place-at.result c.synced_place-at.ensures
-          _ (λ h. ⊎_elim (λ w. lt-ltb _ _ w.4.left) (λ w. let l = w.left in absurd (omega arith)) c.if-at-count.branch)),
+          _ (λ h. elim c.if-at-count.branch [ then-at-count+else-row-node w ↦ lt-ltb _ _ w.if-row-node.false | else-at-count w ↦ absurd (omega (arith, w.if-at-count.false)) ])),
       search rules,
     )

@@ -4,7 +4,7 @@ use Rattle.map_tables.proofs.NameLaws.{other-shard, equal_shard}
 use Rattle.map_tables.proofs.names.same_key.Goals as goal
 
 pub returns-then-a-b : goal.returns-then-a-b
-returns-then-a-b c =     sym (other-shard (view_key c.args.a) (view_key c.args.b) c.if-a-b.true)
+returns-then-a-b c = sym (other-shard (view_key c.args.a) (view_key c.args.b) c.if-a-b.true)
 
 pub returns : goal.returns
-returns c =     c.same_name.ensures ∙ sym (equal_shard (view_key c.args.a) (view_key c.args.b) c.if-a-b.false)
+returns c = c.same_name.ensures ∙ sym (equal_shard (view_key c.args.a) (view_key c.args.b) c.if-a-b.false)
