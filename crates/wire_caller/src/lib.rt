@@ -1,5 +1,7 @@
 // The layout's second edition (paper 02, 2.8): who calls, and the message of the first edition that 28 and 29 are with a caller. Below the entry points of Write
 // and Search, which read no other message of it.
+#![tactic(auto)]
+
 ghost use mathlib.Core.Path.{◌≡◌};
 ghost use mathlib.Core.Bool.{true};
 ghost use Prim.Native.Nat.{◌≤◌};
