@@ -2,6 +2,8 @@
 // or not at all: a buffer that is too short is answered so and left as it was, and so is a value that the layout
 // cannot carry (specs/Written.antt). What is written is `spec`'s `encode` of the kind. The lists of 10, the table of 21
 // and the entries of 22 are handed over as columns. What fits, and the stores of the fields, are crate `wire_put`.
+#![tactic(auto)]
+
 use spec::{Epoch, Offset};
 
 pub mod copy;
@@ -13,7 +15,7 @@ pub mod request;
 pub mod table;
 
 // How many bytes were written from the buffer's start, or why none were.
-#[derive(Drop)]
+#[derive(Clone, Copy)]
 pub enum Wrote {
     Bytes(usize),
     Short,
@@ -21,7 +23,7 @@ pub enum Wrote {
 }
 
 // 30 to 33.
-#[derive(Drop)]
+#[derive(Clone, Copy)]
 pub enum Reply {
     Stored(Offset),
     Gap(Offset),
@@ -30,7 +32,7 @@ pub enum Reply {
 }
 
 // 15 to 18.
-#[derive(Drop)]
+#[derive(Clone, Copy)]
 pub enum Change {
     Remove,
     Promote,
