@@ -1,5 +1,7 @@
 // What a peer's reply makes of one row (paper 01, 'Who is turned down', Ack; node.rs: record_ack, unalign, step_down), and laws of the reply at a
 // held shard.
+#![tactic(auto)]
+
 ghost use Rattle.std.specs.Prelude.{◌≡◌, false};
 ghost use Rattle.spec.specs.Node.Ack.{bad_reply, acked_through, joins, ack_row};
 ghost use Rattle.node_shard.specs.Acks.{reply_of};

@@ -1,5 +1,7 @@
 // What a node decides before it touches a log (paper 01, 'The node'; node.rs: heartbeats, write, search, on_new_epoch, replicate_to): the
 // lease, whether Write and Search are admitted, the worker's step, whether a NewEpoch is taken. Of one held shard.
+#![tactic(auto)]
+
 pub mod admission;
 pub mod lease;
 
