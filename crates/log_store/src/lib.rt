@@ -1,5 +1,6 @@
 // One replica of one shard (paper 01, 'The log'; shard.rs): its log and the table of its vectors, over lent columns and
 // lent floats.
+#![tactic(auto)]
 
 pub mod align;
 mod log;
