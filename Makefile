@@ -39,7 +39,7 @@ export ENGINE_STREAMS ?= target/bin/test_map
 programs: need-rt need-target ## the engine's programs, proved, built and run on their stored input (target/bin)
 	@make/prove.sh target/programs.log $(PROGRAMS)
 
-# Wrong programs beyond those of the gate, proofs from their short forms, unused dependencies, the gate's time.
+# Wrong programs beyond those of the gate, sizes that hosts are told, unused dependencies.
 include tools/gate.mk
 
 # What an operator asks of a file of requests.
