@@ -15,7 +15,7 @@ use spec::{DataNodeId, Epoch, Replica};
 
 // Internal: whether the node is the primary.
 pub fn is_primary(p: Primary, node: DataNodeId) -> bool
-    ensures { result ≡ change.isPrimary node.0 (view_primary p) }
+    ensures { result ≡ change.is_primary node.0 (view_primary p) }
 {
     match p {
         Primary::Nobody => false,
@@ -31,7 +31,7 @@ pub fn is_primary(p: Primary, node: DataNodeId) -> bool
 // Internal: Add's answer: 11, 23.
 pub fn add_answer(s: ShardRow, node: DataNodeId, incarnation: u64) -> Verdict
     requires { Sized s }
-    ensures { answer_of result ≡ change.decideChange (view_shard s) (change.add node.0 incarnation) }
+    ensures { answer_of result ≡ change.decide_change (view_shard s) (change.add node.0 incarnation) }
 {
     if has_holder(s.replicas, node) {
         return rejected(Rejection::AlreadyHeld(node), no_key());
@@ -65,7 +65,7 @@ fn leave_answer(
 // Internal: Remove's answer: 12, 13.
 pub fn remove_answer(s: ShardRow, node: DataNodeId) -> Verdict
     requires { Sized s }
-    ensures { answer_of result ≡ change.decideChange (view_shard s) (change.remove node.0) }
+    ensures { answer_of result ≡ change.decide_change (view_shard s) (change.remove node.0) }
 {
     let p = s.primary;
     let primary = is_primary(p, node);
@@ -82,7 +82,7 @@ pub fn remove_answer(s: ShardRow, node: DataNodeId) -> Verdict
 // Internal: Promote's answer: 14, 25.
 pub fn promote_answer(s: ShardRow, node: DataNodeId) -> Verdict
     requires { Sized s }
-    ensures { answer_of result ≡ change.decideChange (view_shard s) (change.promote node.0) }
+    ensures { answer_of result ≡ change.decide_change (view_shard s) (change.promote node.0) }
 {
     if has_synced(s.insync, node) {
         let epoch = s.epoch.0;
@@ -97,7 +97,7 @@ pub fn promote_answer(s: ShardRow, node: DataNodeId) -> Verdict
 // Internal: Shrink's answer: 15, 14.
 pub fn shrink_answer(s: ShardRow, node: DataNodeId) -> Verdict
     requires { Sized s }
-    ensures { answer_of result ≡ change.decideChange (view_shard s) (change.shrink node.0) }
+    ensures { answer_of result ≡ change.decide_change (view_shard s) (change.shrink node.0) }
 {
     let p = s.primary;
     let primary = is_primary(p, node);
@@ -114,7 +114,7 @@ pub fn shrink_answer(s: ShardRow, node: DataNodeId) -> Verdict
 // Internal: Expand's answer: 13, 16.
 pub fn expand_answer(s: ShardRow, node: DataNodeId) -> Verdict
     requires { Sized s }
-    ensures { answer_of result ≡ change.decideChange (view_shard s) (change.expand node.0) }
+    ensures { answer_of result ≡ change.decide_change (view_shard s) (change.expand node.0) }
 {
     if has_holder(s.replicas, node) {
         if has_synced(s.insync, node) {
@@ -203,7 +203,7 @@ pub fn without_synced(s: ShardRow, node: DataNodeId) -> ShardRow
 
 // Internal: Expand.
 pub fn with_synced(s: ShardRow, node: DataNodeId) -> ShardRow
-    requires { (Sized s) × (length (put change.idBelow node (view_in_sync s.insync)) ≤ 8) }
+    requires { (Sized s) × (length (put change.id_below node (view_in_sync s.insync)) ≤ 8) }
     ensures { (view_shard result ≡ change.changed (view_shard s) (change.expand node.0)) × (Sized result) }
 {
     let synced = synced_added(s.insync, node);
