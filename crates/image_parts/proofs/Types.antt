@@ -48,8 +48,8 @@ ids_field = array_field (field ofId.the_type) 8
 
 -- ---- bytes, names, addresses, keys, copies of a shard, ids
 
-bytes_good : (n : ℕ) (bs : List ℕ) (vs : List Val) → shadow (in_array ℕ (UInt w8).own_val n (map (λ (v : ℕ). v) bs) vs) → Good (rep n byte) bs
-bytes_good n bs vs p = subst (λ (l : List ℕ). Good (rep n byte) l) (map-id bs) (array_good (UInt w8).own_val (λ (v : ℕ). v) byte (λ (v : ℕ). v) (λ x us q. q.1) n bs vs p)
+bytes_good : (n : ℕ) (bs : List ℕ) (vs : List Val) → shadow (in_array ℕ (UInt w8).own_val n bs vs) → Good (rep n byte) bs
+bytes_good n bs vs p = subst (λ (l : List ℕ). Good (rep n byte) l) (map-id bs) (array_good (UInt w8).own_val (λ (v : ℕ). v) byte (λ (v : ℕ). v) (λ x us q. q.1) n bs vs (subst (λ (l : List ℕ). shadow (in_array ℕ (UInt w8).own_val n l vs)) (sym (map-id bs)) p))
 
 pub name_good : (n : Name) (vs : List Val) → Is (row ofName.the_type) n vs → Good name_f (name_value n)
 name_good n vs p = (p.1.1.1.0.1, bytes_good 32 n.bytes _ p.1.1.0)
