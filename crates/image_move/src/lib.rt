@@ -1,4 +1,6 @@
 // Words of 8 bytes moved within an image, where the two places may overlap: up from the back, down from the front. Internal.
+#![tactic(auto)]
+
 ghost use Rattle.std.specs.Prelude.{◌≡◌, ◌+◌, ◌*◌, ◌≤◌, length};
 ghost use Rattle.image_move.specs.Moved.{Moved};
 

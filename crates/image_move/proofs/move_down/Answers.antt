@@ -1,0 +1,26 @@
+use native.Mathlib.Omega.{arith}
+use Rattle.image_move.proofs.Moves.{down_start, down_step, down_end}
+use Rattle.image_move.proofs.move_down.Goals as goal
+
+pub loop-i-init : goal.loop-i-init
+loop-i-init c =
+    (down_start c.args.out.now c.args.from c.args.to c.args.words, omega arith, c.requires.0, c.requires.1, λ k. omega (arith, c.slice_known-1.given k))
+
+pub get8-word-requires : goal.get8-word-requires
+get8-word-requires c =
+    let l = c.loop-i.invariant.0.long in let a = c.loop-i.invariant.1 in let b = c.loop-i.invariant.2 in let d = c.loop-i.invariant.3 in let t = c.loop-i-test.true in omega arith
+
+pub put8-requires : goal.put8-requires
+put8-requires c =
+    let l = c.loop-i.invariant.0.long in let a = c.loop-i.invariant.1 in let b = c.loop-i.invariant.2 in let d = c.loop-i.invariant.3 in let t = c.loop-i-test.true in omega arith
+
+pub loop-i-preserved : goal.loop-i-preserved
+loop-i-preserved c =
+    let a = c.loop-i.invariant.1 in let b = c.loop-i.invariant.2 in let d = c.loop-i.invariant.3 in let t = c.loop-i-test.true in (down_step c.args.out.now c.args.from c.args.to c.args.words c.loop-i.out _ c.loop-i.i _ c.loop-i.invariant.4 c.get8-word.ensures c.put8.ensures b (omega arith) c.loop-i.invariant.0, omega arith, b, d, λ k. omega (arith, c.type_inv.out k))
+
+pub shape_of-out : goal.shape_of-out
+shape_of-out c = c.loop-i.invariant.0.long
+
+pub returns : goal.returns
+returns c =
+    let a = c.loop-i.invariant.1 in let t = c.loop-i-test.false in down_end c.args.out.now c.args.from c.args.to c.args.words c.loop-i.out c.loop-i.i (omega arith) c.loop-i.invariant.0
