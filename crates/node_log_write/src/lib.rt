@@ -1,5 +1,7 @@
 // Write on one held shard with its lent store (paper 01, 'Who is turned down', Write; node.rs, write), past the checks of the message and of
 // the lent state: the header's decision, then the log and its vectors. Definitions and laws.
+#![tactic(auto)]
+
 use node_admit::Admit;
 use node_shard::Held;
 
