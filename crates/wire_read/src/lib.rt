@@ -2,6 +2,8 @@
 // tables, lists and entries stay in the message, and the enum carries their places. What the numbers mean is
 // `spec`'s Layout; specs/Shown.antt says how a value is shown as this enum. The shape tests are crate `wire_shape`, the
 // writer is crate `wire_write`.
+#![tactic(auto)]
+
 ghost use Rattle.std.specs.Prelude.{◌≡◌};
 ghost use Rattle.wire_read.specs.Shown.{message_of, request_read_of};
 
