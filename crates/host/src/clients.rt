@@ -2,8 +2,7 @@
 ghost use Rattle.calls_client.specs.Searched.{SearchesImages};
 ghost use Rattle.calls_client.specs.Written.{buffers, WritesImages};
 
-#[unsafe(no_mangle)]
-pub extern "C" fn catalogue_write(
+pub fn catalogue_write(
     header: &mut [u8],
     stores: &mut [u8],
     refused: &mut [u8],
@@ -20,8 +19,7 @@ pub extern "C" fn catalogue_write(
     calls_write::write(header, stores, refused, clock, least, message, answer)
 }
 
-#[unsafe(no_mangle)]
-pub extern "C" fn catalogue_search(
+pub fn catalogue_search(
     header: &[u8],
     stores: &[u8],
     refused: &mut [u8],

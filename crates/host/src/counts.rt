@@ -1,8 +1,7 @@
 // How many placements pass (paper 02, 2.14).
 ghost use Rattle.calls_count.specs.Calls.{spec_given, Tallies};
 
-#[unsafe(no_mangle)]
-pub extern "C" fn catalogue_count_placements(
+pub fn catalogue_count_placements(
     map: &[u8],
     name: &[u8],
     dimension: u32,

@@ -6,15 +6,13 @@ ghost use Rattle.calls_header.specs.Outcomes.{Outcomes};
 ghost use Rattle.calls_header.specs.Shows.{Shows};
 ghost use Rattle.calls_header.specs.Waits.{Waits};
 
-#[unsafe(no_mangle)]
-pub extern "C" fn catalogue_fresh_node(header: &mut [u8], id: u64, incarnation: u64) -> u32
+pub fn catalogue_fresh_node(header: &mut [u8], id: u64, incarnation: u64) -> u32
     ensures { Freshens header.old header.new id incarnation result }
 {
     calls_show::fresh::fresh_node(header, id, incarnation)
 }
 
-#[unsafe(no_mangle)]
-pub extern "C" fn catalogue_show_map(
+pub fn catalogue_show_map(
     header: &mut [u8],
     map: &[u8],
     fresh: u64,
@@ -27,15 +25,13 @@ pub extern "C" fn catalogue_show_map(
     calls_show::show::show_map(header, map, fresh, starts, answer)
 }
 
-#[unsafe(no_mangle)]
-pub extern "C" fn catalogue_grant(header: &mut [u8], incarnation: u64, sent: u64, lease: u64) -> u32
+pub fn catalogue_grant(header: &mut [u8], incarnation: u64, sent: u64, lease: u64) -> u32
     ensures { Grants header.old header.new incarnation sent lease result }
 {
     calls_grant::grant(header, incarnation, sent, lease)
 }
 
-#[unsafe(no_mangle)]
-pub extern "C" fn catalogue_wait(
+pub fn catalogue_wait(
     header: &mut [u8],
     name: &[u8],
     shard: u32,
@@ -54,8 +50,7 @@ pub extern "C" fn catalogue_wait(
     )
 }
 
-#[unsafe(no_mangle)]
-pub extern "C" fn catalogue_ack(
+pub fn catalogue_ack(
     header: &mut [u8],
     name: &[u8],
     shard: u32,
@@ -69,8 +64,7 @@ pub extern "C" fn catalogue_ack(
     calls_ack::ack::ack(header, name, shard, epoch, peer, step, reply)
 }
 
-#[unsafe(no_mangle)]
-pub extern "C" fn catalogue_outcome(
+pub fn catalogue_outcome(
     header: &mut [u8],
     name: &[u8],
     shard: u32,

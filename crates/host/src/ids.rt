@@ -2,8 +2,7 @@
 ghost use Rattle.std.specs.Prelude.{◌≡◌};
 ghost use Rattle.spec.specs.Layout.ShardOf.{shard_of};
 
-#[unsafe(no_mangle)]
-pub extern "C" fn catalogue_shard_of(id: u64, shards: u32) -> u32
+pub fn catalogue_shard_of(id: u64, shards: u32) -> u32
     ensures { result ≡ shard_of id shards }
 {
     wire_read::placed::shard_of(id, shards)

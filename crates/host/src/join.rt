@@ -1,8 +1,7 @@
 // Searching a whole collection (paper 02, 2.2).
 ghost use Rattle.calls_join.specs.Calls.{JoinsFor};
 
-#[unsafe(no_mangle)]
-pub extern "C" fn catalogue_join(
+pub fn catalogue_join(
     shards: u32,
     k: u32,
     answers: &[u8],

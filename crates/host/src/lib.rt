@@ -1,5 +1,7 @@
 // The engine's entry points for hosts in C and C++ (include/catalogue.h; paper 01, 'What changes shape'): numbers and byte slices, and the state in
-// byte images that the host owns (docs/IMAGES.md). Each is the call of the crate that its contract cites, under a name for the linker.
+// byte images that the host owns (docs/IMAGES.md). Each is the call of the crate that its contract cites. Crate host_c gives them to the linker.
+#![tactic(auto)]
+
 pub mod clients;
 pub mod counts;
 pub mod headers;

@@ -1,8 +1,7 @@
 // What a primary sends to a node.
 ghost use Rattle.calls_peer.specs.PeerCalls.{buffers, ReplicatesImage, NewEpochsImage, CopiesImage};
 
-#[unsafe(no_mangle)]
-pub extern "C" fn catalogue_replicate(
+pub fn catalogue_replicate(
     header: &mut [u8],
     stores: &mut [u8],
     message: &[u8],
@@ -15,8 +14,7 @@ pub extern "C" fn catalogue_replicate(
     calls_replicate::replicate(header, stores, message, reply)
 }
 
-#[unsafe(no_mangle)]
-pub extern "C" fn catalogue_new_epoch(
+pub fn catalogue_new_epoch(
     header: &mut [u8],
     stores: &mut [u8],
     message: &[u8],
@@ -29,13 +27,7 @@ pub extern "C" fn catalogue_new_epoch(
     calls_epoch::new_epoch(header, stores, message, reply)
 }
 
-#[unsafe(no_mangle)]
-pub extern "C" fn catalogue_copy(
-    header: &mut [u8],
-    stores: &mut [u8],
-    message: &[u8],
-    reply: &mut [u8],
-) -> u32
+pub fn catalogue_copy(header: &mut [u8], stores: &mut [u8], message: &[u8], reply: &mut [u8]) -> u32
     ensures { CopiesImage message.now
         (buffers header.old stores.old reply.old)
         (buffers header.new stores.new reply.new) result }

@@ -1,8 +1,7 @@
 // Positions in hours and degrees (paper 02, 2.7).
 ghost use Rattle.calls_position.specs.Calls.{Divides, Places, Vectors};
 
-#[unsafe(no_mangle)]
-pub extern "C" fn catalogue_position(
+pub fn catalogue_position(
     hours: u32,
     minutes: u32,
     thousandths: u32,
@@ -26,15 +25,13 @@ pub extern "C" fn catalogue_position(
     )
 }
 
-#[unsafe(no_mangle)]
-pub extern "C" fn catalogue_position_fields(ra: i64, dec: i64, fields: &mut [u8]) -> u32
+pub fn catalogue_position_fields(ra: i64, dec: i64, fields: &mut [u8]) -> u32
     ensures { Divides ra dec fields.old fields.new result }
 {
     calls_position::position_fields(ra, dec, fields)
 }
 
-#[unsafe(no_mangle)]
-pub extern "C" fn catalogue_position_vector(ra: i64, dec: i64, vector: &mut [u8]) -> u32
+pub fn catalogue_position_vector(ra: i64, dec: i64, vector: &mut [u8]) -> u32
     ensures { Vectors ra dec vector.old vector.new result }
 {
     calls_position::position_vector(ra, dec, vector)

@@ -2,8 +2,7 @@
 ghost use Rattle.std.specs.Prelude.{◌≡◌};
 ghost use Rattle.host.specs.Version.{version_number};
 
-#[unsafe(no_mangle)]
-pub extern "C" fn catalogue_version() -> u32
+pub fn catalogue_version() -> u32
     ensures { result ≡ version_number }
 {
     3000

@@ -1,8 +1,7 @@
 // Rejections in words (paper 02, 2.1).
 ghost use Rattle.calls_apply_words.specs.Calls.{AppliesInWordsTo};
 
-#[unsafe(no_mangle)]
-pub extern "C" fn catalogue_apply_words(
+pub fn catalogue_apply_words(
     map: &mut [u8],
     request: &[u8],
     text: &mut [u8],

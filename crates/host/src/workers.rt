@@ -1,8 +1,7 @@
 // A node's workers.
 ghost use Rattle.calls_worker.specs.Steps.{asking, outputs, StepsImage};
 
-#[unsafe(no_mangle)]
-pub extern "C" fn catalogue_step(
+pub fn catalogue_step(
     header: &[u8],
     stores: &[u8],
     name: &[u8],

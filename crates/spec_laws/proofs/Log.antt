@@ -5,4 +5,5 @@ pub mod Play
 pub mod Store
 pub mod Ids
 pub mod Edits
+pub mod EditsSearched
 pub mod EditsMet

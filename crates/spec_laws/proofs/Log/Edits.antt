@@ -1,6 +1,6 @@
 -- Paper 02, 2.10: the order of two edits. An edit is an operation of a log. Of different ids either may come first, of one id the
 -- later alone counts, and the logs differ all the same. Assumes nothing; the computed cases are in crate spec, Cases/Edits.antt,
--- the laws met by them in EditsMet.antt.
+-- what searches answer is in EditsSearched.antt, the laws met by them in EditsMet.antt.
 use Prim.Native.Nat.{ℕ, ◌+◌}
 use mathlib.Core.Path.{◌≡◌, refl, sym, ap, ◌∙◌}
 use mathlib.Core.Bool.{true, false, cond}
@@ -11,9 +11,8 @@ use lib.Dec.{eqb}
 use lib.Ieee.{Float}
 use lib.ListN.{length, length-append}
 use borrow.Author.Tests.{ltb-true, ltb-false, le-ltb, eq-eqb, ne_eqb}
-use Rattle.spec.specs.declared.Metric.{Metric}
 use Rattle.spec.specs.Lists.{nth, filter, rising}
-use Rattle.spec.specs.Nearest.Search.{Vector, hits}
+use Rattle.spec.specs.Nearest.Search.{Vector}
 use Rattle.spec.specs.Log.{Entry, Log, Op, upsert, delete, Vectors, vector_below, other_id, apply_op, play_from, play, ShardReplica, last_offset, push, append}
 use Rattle.spec_laws.proofs.Lists.{some_same, nth-append, nth_last, nth_past}
 use Rattle.spec_laws.proofs.Rising.{filter-filter, filter-again, put-put, put_over, put-filter, put_away, filter-put}
@@ -90,21 +89,6 @@ swap_edits l a b n = play-two l a b ∙ swap_ops (play l) a.op b.op (play-rising
 pub later_counts : (l : Log) (a b : Entry) → op_id a.op ≡ op_id b.op → play (l ++ (a ∷ b ∷ [])) ≡ play (l ++ (b ∷ []))
 later_counts l a b q =
     play-two l a b ∙ later_op (play l) a.op b.op (play-rising l) q ∙ sym (played.play_snoc l b)
-
--- the same vectors give every search the same answer, so the laws above are of every search too
-pub search_alike : (metric : Metric) (query : List Float) (vs ws : Vectors) (k : ℕ) → vs ≡ ws
-    → hits metric query vs k ≡ hits metric query ws k
-search_alike metric query vs ws k q = ap (λ (v : Vectors). hits metric query v k) q
-
-pub swap_search : (metric : Metric) (query : List Float) (k : ℕ) (l : Log) (a b : Entry) → (op_id a.op ≡ op_id b.op → ⊥)
-    → hits metric query (play (l ++ (a ∷ b ∷ []))) k ≡ hits metric query (play (l ++ (b ∷ a ∷ []))) k
-swap_search metric query k l a b n =
-    search_alike metric query (play (l ++ (a ∷ b ∷ []))) (play (l ++ (b ∷ a ∷ []))) k (swap_edits l a b n)
-
-pub later_search : (metric : Metric) (query : List Float) (k : ℕ) (l : Log) (a b : Entry) → op_id a.op ≡ op_id b.op
-    → hits metric query (play (l ++ (a ∷ b ∷ []))) k ≡ hits metric query (play (l ++ (b ∷ []))) k
-later_search metric query k l a b q =
-    search_alike metric query (play (l ++ (a ∷ b ∷ []))) (play (l ++ (b ∷ []))) k (later_counts l a b q)
 
 -- the logs differ by order whenever the edits differ: a log keeps what was written, not only what it comes to
 pub same-logs : (l : Log) (a b : Entry) → l ++ (a ∷ b ∷ []) ≡ l ++ (b ∷ a ∷ []) → a ≡ b

@@ -8,7 +8,8 @@ use Rattle.spec.specs.declared.Metric.TheVariants.{Euclidean}
 use Rattle.spec.specs.Nearest.Search.{hits}
 use Rattle.spec.specs.Log.{Entry, upsert, delete, play, ShardReplica, empty_replica, append}
 use Rattle.spec_laws.proofs.Log.Play.{InStep, in_step_empty, in_step_append}
-use Rattle.spec_laws.proofs.Log.Edits.{swap_edits, later_counts, swap_search, logs_differ, swap_appends, later_append, appends_differ}
+use Rattle.spec_laws.proofs.Log.Edits.{swap_edits, later_counts, logs_differ, swap_appends, later_append, appends_differ}
+use Rattle.spec_laws.proofs.Log.EditsSearched.{swap_search}
 use Rattle.spec.proofs.Cases.Edits.{one, two, entry, set-five}
 
 abbrev sets-three : Entry
