@@ -1,4 +1,6 @@
 // Outcome of a proposal (node.rs, after `propose`, and done_proposing).
+#![tactic(auto)]
+
 ghost use Rattle.std.specs.Prelude.{◌≡◌, not, eqb};
 ghost use Rattle.spec.specs.Lists.{◌and◌};
 ghost use Rattle.spec.specs.Node.Ack.{settled_row};

@@ -1,4 +1,6 @@
 // What a map says of one shard and of the peers that this node tracks for it (node.rs, on_map). Internal.
+#![tactic(auto)]
+
 ghost use Rattle.std.specs.Prelude.{◌≡◌};
 ghost use Rattle.spec.specs.Node.Shown.{new_row};
 ghost use Rattle.node_shard.specs.Shows.{leader_is, rises};

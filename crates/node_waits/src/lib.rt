@@ -1,4 +1,6 @@
 // Waiting for acks (node.rs, check_acks).
+#![tactic(auto)]
+
 ghost use Rattle.std.specs.Prelude.{◌≡◌, ◌-◌};
 ghost use Rattle.spec.specs.Node.Client.{lacks, behind_since, to_shrink, wait_row};
 
