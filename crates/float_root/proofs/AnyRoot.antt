@@ -56,6 +56,8 @@ minus-none (fin true zero e) a c p h =
     absurd (lt_irrefl 0 (subst (λ (y : ℕ). 0 < y) (sym h.1 ∙ ap (λ (y : ℕ). y * c) (zero-mul (up e)) ∙ zero-mul c) (mul-pos p (down_pos e))))
 minus-none (fin true (suc m) e) a c p h = refl
 minus-none (fin false m e) a c p h = absurd (subst T (sym h.0) tt)
+minus-none nan a c p h = elim h [ ]
+minus-none (inf _) a c p h = elim h [ ]
 
 fields_none : (s : Bool) (e t : ℕ) → (s ≡ true → e ≡ 0 → 0 < t) → (s ≡ false → (e ≡ 255) × (t ≡ 0 → ⊥))
     → sqrt binary32 (of_fields binary32 s e t) ≡ nan

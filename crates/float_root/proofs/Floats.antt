@@ -20,11 +20,15 @@ use Rattle.float_root.proofs.Roots.{root_24, near_up, near_down, root_units_lem}
 pub no_nan : (x : Float) → T (rootable x) → T (not (is_nan x))
 unfolding is_nan
 no_nan (fin s m e) t = tt
+no_nan nan t = elim t [ ]
+no_nan (inf _) t = elim t [ ]
 
 -- ---- what is read from a pattern
 sign-is : (v : Float) (s : Bool) (a c : ℕ) → T (rootable v) → HasValue v s a c → s ≡ false
 sign-is (fin true m e) s a c t h = absurd t
 sign-is (fin false m e) s a c t h = sym h.0
+sign-is nan s a c t h = elim t [ ]
+sign-is (inf _) s a c t h = elim t [ ]
 
 record Read (v : Float) (s : Bool) (e u : ℕ) : Type 0 where
   plus : s ≡ false
@@ -133,10 +137,14 @@ to_bits_value (fin false m e) a h =
     ap (λ (n : ℕ). 0 + (size n - 24) * 2 ^ 23 + n / 2 ^ (size n - 24)) (ap (λ (y : ℕ). y / down e) h.1
     ∙ mul-div_cancel a (down_pos e))
     ∙ ap (λ (y : ℕ). y + a / 2 ^ (size a - 24)) (zero-add ((size a - 24) * 2 ^ 23))
+to_bits_value nan a h = elim h [ ]
+to_bits_value (inf _) a h = elim h [ ]
 
 value_no_nan : (v : Float) (a c : ℕ) → HasValue v false a c → is_nan v ≡ false
 unfolding is_nan
 value_no_nan (fin s m e) a c h = refl
+value_no_nan nan a c h = elim h [ ]
+value_no_nan (inf _) a c h = elim h [ ]
 
 pub record Written (q K : ℕ) : Type 0 where
   pub float : of_bits binary32 (K * 8388608 + q) ≡ units binary32 false q K

@@ -1,6 +1,8 @@
 // Paper 01, 'Nearest objects': the f32 nearest the exact root, worked out in whole numbers.
 // A positive float is 24 binary digits times a power of two. The digits, with one bit more where the power is odd, are
 // a number of 47 or 48 bits; the whole number nearest its root has 24 bits again, those of the answer.
+#![tactic(auto)]
+
 ghost use Rattle.std.specs.Prelude.{◌≡◌, ◌+◌, ◌*◌, ◌^◌, ◌<◌, ◌≤◌, T, to_bits};
 ghost use Rattle.std.specs.Float.{binary32};
 ghost use Rattle.spec.specs.Nearest.Order.{units_of};
