@@ -1,6 +1,8 @@
 // What a primary's worker sends (paper 01, 'The node', the worker's step; 'Rules of a run', Messages; node.rs, replicate_to): the request of
 // a step, written from the lent store of one held shard into a lent output, whole or not at all. The store has passed the test (24).
 // The stores of its entries are crate `node_send_entries`.
+#![tactic(auto)]
+
 pub mod entries;
 pub mod worker;
 

@@ -6,7 +6,7 @@ use spec::{Offset, Role};
 
 // Internal: the last offset when this node became primary.
 pub fn end_of(role: Role) -> Offset
-    ensures { result.0 ≡ worker.endOffset role }
+    ensures { result.0 ≡ worker.end_offset role }
 {
     match role {
         Role::Backup => Offset(0),
