@@ -1,5 +1,7 @@
 // Paper 01, 'Nearest objects': the tests for the domain, totalOrder by IEEE 754's classes, and the order of neighbours. All
 // comparisons of neighbours go through `nearer`.
+#![tactic(auto)]
+
 ghost use Rattle.std.specs.Prelude.{◌≡◌, not, T};
 ghost use Rattle.std.specs.Float.Ieee.{is_nan};
 ghost use Rattle.spec.specs.Nearest.Order.{class, before, in_domain, bits_in_domain};
