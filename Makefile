@@ -13,7 +13,7 @@ help: ## what can be made
 	@sed -n 's/^\([a-z-]*\):[^#]*## \(.*\)/\1\t\2/p' $(MAKEFILE_LIST) | expand -t 18
 
 # ---- what the targets below link and run. Nothing is built that is not proved, so the first time takes a while.
-ENGINE_SOURCES := crates.txt $(shell find crates \( -name must-fail -o -name wrong -o -name short \) -prune -o -type f -print) $(shell command -v rt)
+ENGINE_SOURCES := crates.txt $(shell find crates \( -name must-fail -o -name wrong -o -name out \) -prune -o -type f -print) $(shell command -v rt)
 
 # One crate as a static library. What it stands on is proved first, as many crates at once as there are processors.
 target/staticlib/lib%.a: $(ENGINE_SOURCES) | need-rt need-target

@@ -16,7 +16,7 @@ include/ and lib/ may be copied below any prefix: nothing in them names its plac
 END
 echo "commit     $commit$state"
 echo "toolchain  $(rt version)"
-echo "proved     every function in the library, against the contracts of that commit (\`rt staticlib\` builds nothing else)"
+echo "proved     every function in the library, against the contracts of that commit (\`rt lib\` builds nothing else)"
 for file in "$@"; do
     echo "sha256     $(sha256sum "$file" | cut -d' ' -f1)  $(basename "$file")"
 done

@@ -5,7 +5,5 @@ loadsheet: target/bin/loadsheet ## the load sheet of FILE, requests that follow 
 	@test -n "$(FILE)" || { echo "loadsheet: FILE=.. names a file of requests" >&2; exit 1; }
 	@target/bin/loadsheet <$(FILE)
 
-target/bin/loadsheet: $(ENGINE_SOURCES)
-	@mkdir -p target
-	@echo "proving and building program loadsheet: the first time this takes minutes (target/loadsheet.log says how far it is)" >&2
-	@rt check loadsheet >target/loadsheet.log 2>&1 || { tail -n 20 target/loadsheet.log >&2; exit 1; }
+target/bin/loadsheet: $(ENGINE_SOURCES) | need-rt need-target
+	@make/prove.sh target/loadsheet.log loadsheet >&2
