@@ -19,28 +19,28 @@ pub mod parts;
 pub mod placed;
 
 // Where a part of a message begins, and how many bytes or items it has.
-#[derive(Drop)]
+#[derive(Clone, Copy)]
 pub struct Part {
     pub at: usize,
     pub len: usize,
 }
 
 // A shard's key: the place of its collection's name, and its number.
-#[derive(Drop)]
+#[derive(Clone, Copy)]
 pub struct KeyPart {
     pub name: Part,
     pub shard: u32,
 }
 
 // An operation; an Upsert's components are u32 bits at a place.
-#[derive(Drop)]
+#[derive(Clone, Copy)]
 pub enum OpPart {
     Upsert { id: u64, vector: Part },
     Delete { id: u64 },
 }
 
 // One entry of a CopyShard, and the place after it.
-#[derive(Drop)]
+#[derive(Clone, Copy)]
 pub struct EntryPart {
     pub epoch: Epoch,
     pub offset: Offset,
@@ -49,14 +49,14 @@ pub struct EntryPart {
 }
 
 // One pair of an epoch table.
-#[derive(Drop)]
+#[derive(Clone, Copy)]
 pub struct EndPart {
     pub epoch: Epoch,
     pub end: Offset,
 }
 
 // 10: a placement's `len` lists stand one after the other from its place on.
-#[derive(Drop)]
+#[derive(Clone, Copy)]
 pub struct CreatePart {
     pub name: Part,
     pub dimension: u32,
@@ -67,7 +67,7 @@ pub struct CreatePart {
 }
 
 // 12
-#[derive(Drop)]
+#[derive(Clone, Copy)]
 pub struct RegisterPart {
     pub node: DataNodeId,
     pub address: Part,
@@ -75,14 +75,14 @@ pub struct RegisterPart {
 }
 
 // 13
-#[derive(Drop)]
+#[derive(Clone, Copy)]
 pub struct DeadPart {
     pub node: DataNodeId,
     pub incarnation: u64,
 }
 
 // 14
-#[derive(Drop)]
+#[derive(Clone, Copy)]
 pub struct AddPart {
     pub key: KeyPart,
     pub node: DataNodeId,
@@ -91,7 +91,7 @@ pub struct AddPart {
 }
 
 // 15 to 18
-#[derive(Drop)]
+#[derive(Clone, Copy)]
 pub struct ChangePart {
     pub key: KeyPart,
     pub node: DataNodeId,
@@ -99,7 +99,7 @@ pub struct ChangePart {
 }
 
 // The commands 10 to 19; Drop has its name, Bench its bytes.
-#[derive(Drop)]
+#[derive(Clone, Copy)]
 pub enum CommandPart {
     Create(CreatePart),
     Drop(Part),
@@ -114,7 +114,7 @@ pub enum CommandPart {
 }
 
 // 01
-#[derive(Drop)]
+#[derive(Clone, Copy)]
 pub struct RequestPart {
     pub index: u64,
     pub client: u64,
@@ -123,7 +123,7 @@ pub struct RequestPart {
 }
 
 // 20
-#[derive(Drop)]
+#[derive(Clone, Copy)]
 pub struct ReplicatePart {
     pub key: KeyPart,
     pub epoch: Epoch,
@@ -132,7 +132,7 @@ pub struct ReplicatePart {
 }
 
 // 21: the table's pairs have 16 bytes each.
-#[derive(Drop)]
+#[derive(Clone, Copy)]
 pub struct NewEpochPart {
     pub key: KeyPart,
     pub epoch: Epoch,
@@ -142,7 +142,7 @@ pub struct NewEpochPart {
 }
 
 // 22: the entries stand one after the other.
-#[derive(Drop)]
+#[derive(Clone, Copy)]
 pub struct CopyPart {
     pub key: KeyPart,
     pub epoch: Epoch,
@@ -150,7 +150,7 @@ pub struct CopyPart {
 }
 
 // 23
-#[derive(Drop)]
+#[derive(Clone, Copy)]
 pub struct WritePart {
     pub key: KeyPart,
     pub epoch: Epoch,
@@ -158,7 +158,7 @@ pub struct WritePart {
 }
 
 // 24
-#[derive(Drop)]
+#[derive(Clone, Copy)]
 pub struct SearchPart {
     pub key: KeyPart,
     pub epoch: Epoch,
@@ -167,7 +167,7 @@ pub struct SearchPart {
 }
 
 // A message: 01, 20 to 24, 30 to 33, or bytes that are none of these.
-#[derive(Drop)]
+#[derive(Clone, Copy)]
 pub enum Message {
     Undecodable,
     Request(RequestPart),
@@ -183,7 +183,7 @@ pub enum Message {
 }
 
 // A request that was read at a position, and the position after it; where none stands, that position again.
-#[derive(Drop)]
+#[derive(Clone, Copy)]
 pub struct RequestRead {
     pub message: Message,
     pub next: usize,
