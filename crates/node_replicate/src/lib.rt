@@ -4,7 +4,7 @@ use node_header::Node;
 use spec::{Epoch, Offset};
 
 // The reply that goes back to the primary, 30 to 33, or a refusal's number.
-#[derive(Drop)]
+#[derive(Clone, Copy)]
 pub enum PeerReply {
     Stored(Offset),
     Gap(Offset),
@@ -13,7 +13,7 @@ pub enum PeerReply {
     Refused(u8),
 }
 
-#[derive(Drop)]
+#[derive(Clone, Copy)]
 pub struct PeerAnswer {
     pub answer: PeerReply,
     pub node: Node,

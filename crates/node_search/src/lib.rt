@@ -6,7 +6,7 @@ use spec::Epoch;
 pub mod query;
 
 // How many neighbours were found, 18 with the shard's own epoch, or the number of another refusal.
-#[derive(Drop)]
+#[derive(Clone, Copy)]
 pub enum SearchAnswer {
     Found(usize),
     NotPrimary(Epoch),
@@ -14,7 +14,7 @@ pub enum SearchAnswer {
 }
 
 // The answer, and the count of refused calls then.
-#[derive(Drop)]
+#[derive(Clone, Copy)]
 pub struct NodeSearched {
     pub answer: SearchAnswer,
     pub refused: u32,

@@ -6,7 +6,7 @@ use node_shard::Nodes;
 use spec::{Epoch, Metric};
 
 // The workers to start for one shard, by rising node: what each is started with, and its peers.
-#[derive(Drop)]
+#[derive(Clone, Copy)]
 pub struct Start {
     pub key: ShardKey,
     pub epoch: Epoch,
@@ -15,14 +15,14 @@ pub struct Start {
 }
 
 // The map is taken note of, or refused by a number.
-#[derive(Drop)]
+#[derive(Clone, Copy)]
 pub enum ShownAnswer {
     Shown,
     Refused(u8),
 }
 
 // The answer, the workers to start by shard key and then node (the first `count` of `starts`), and the node after.
-#[derive(Drop)]
+#[derive(Clone, Copy)]
 pub struct NodeShown {
     pub answer: ShownAnswer,
     pub starts: [Start; 8],

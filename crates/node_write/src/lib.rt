@@ -5,7 +5,7 @@ use node_header::Node;
 use spec::{Epoch, Offset};
 
 // Where the write was accepted; 18 with the own epoch, or another refusal's number.
-#[derive(Drop)]
+#[derive(Clone, Copy)]
 pub enum WriteReply {
     Accepted(Offset),
     NotPrimary(Epoch),
@@ -13,14 +13,14 @@ pub enum WriteReply {
 }
 
 // Before the call is counted.
-#[derive(Drop)]
+#[derive(Clone, Copy)]
 pub struct NodeWritten {
     pub answer: WriteReply,
     pub node: Node,
 }
 
 // `refused` is the count after the call.
-#[derive(Drop)]
+#[derive(Clone, Copy)]
 pub struct WriteAnswer {
     pub answer: WriteReply,
     pub node: Node,
