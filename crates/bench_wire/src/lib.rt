@@ -1,5 +1,7 @@
 // For bench/layout: the reader of crate wire_read behind one C function. Its answer is made of every number and place that a
 // message decodes to, so that nothing of the reading can be left out. It says nothing of the layout; that is wire_read's.
+#![tactic(auto)]
+
 use spec::Metric;
 use wire_read::{
     AddPart, ChangePart, CommandPart, CopyPart, CreatePart, DeadPart, KeyPart, Message,
