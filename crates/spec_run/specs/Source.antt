@@ -24,7 +24,7 @@ sending k epoch (e ∷ d ∷ es) = some (copy_of k epoch (e ∷ d ∷ es))
 
 -- the request of a step, at the shard
 abbrev pub request_at : (epoch : ℕ) → Metric → Step → Option Held → Option Message
-request_at epoch metric step none = none
+request_at epoch metric _ none = none
 request_at epoch metric stop (some h) = none
 request_at epoch metric wait (some h) = none
 request_at epoch metric align (some h) = some (new_epoch_message (alignment h epoch metric))

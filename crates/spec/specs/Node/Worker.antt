@@ -104,7 +104,7 @@ request_held epoch metric h (send first count e) =
 
 -- no request without the shard
 abbrev pub request_at : (epoch : ℕ) → Metric → Step → Option Held → Option Message
-request_at epoch metric step none = none
+request_at epoch metric _ none = none
 request_at epoch metric step (some h) = request_held epoch metric h step
 
 -- the request of a step that the node answered
