@@ -1,6 +1,8 @@
 // Replays the oracle's stored shard numbers: an id of eight bytes and a count of four on standard input, and a line with
 // the shard that holds the id on standard output. stdin and stdout are oracle/stored/shardof/all.in and all.out, the
 // answers of the Rust's shard_of.
+#![tactic(auto)]
+
 fn print(r: u32) {
     io::print_decimal(1, r as u64);
     io::write_all(1, b"\n");
