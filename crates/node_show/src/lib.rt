@@ -1,5 +1,7 @@
 // A map shown to a node (paper 01, 'The node', 'Map shown'; node.rs, on_map): what it promises, and the laws of a walk over the map's shards. What
 // its rows say, and the slots after it, are crates `node_show_row` and `node_show_slots`; the walk is crate `calls_show_walk`'s.
+#![tactic(auto)]
+
 use map_tables::ShardKey;
 use node_header::Node;
 use node_shard::Nodes;
