@@ -16,7 +16,7 @@ use wire_read::Part;
 use wire_read::parts::entry_at;
 
 // How many entries the log and how many rows the table has.
-#[derive(Drop)]
+#[derive(Clone, Copy)]
 pub struct Stock {
     pub count: usize,
     pub stored: usize,

@@ -8,7 +8,7 @@ use wire_read::parts::component;
 use wire_read::{OpPart, Part};
 
 // 1 is an Upsert of n components, 2 a Delete.
-#[derive(Drop)]
+#[derive(Clone, Copy)]
 pub struct OpRead {
     pub code: u8,
     pub id: u64,

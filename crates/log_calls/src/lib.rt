@@ -14,7 +14,7 @@ pub mod reads;
 pub mod searches;
 
 // What a call answers: shard.rs's own answers with their values, or the number of a refusal.
-#[derive(Drop)]
+#[derive(Clone, Copy)]
 pub enum Answer {
     Appended(Offset),
     Stored(Offset),
@@ -25,7 +25,7 @@ pub enum Answer {
 }
 
 // The answer, the replica's epoch then, and how many entries and rows its store has then.
-#[derive(Drop)]
+#[derive(Clone, Copy)]
 pub struct Done {
     pub answer: Answer,
     pub epoch: Epoch,

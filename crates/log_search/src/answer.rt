@@ -9,7 +9,7 @@ ghost use Rattle.log_search.specs.Search.{search_store, Searched};
 use spec::Metric;
 
 // What a search found: how many neighbours, or the number of its refusal.
-#[derive(Drop)]
+#[derive(Clone, Copy)]
 pub enum Found {
     Hits(usize),
     Refused(u8),

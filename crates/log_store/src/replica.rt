@@ -9,7 +9,7 @@ ghost use Rattle.log_store.specs.Align.{table_of, Aligned};
 use spec::{Epoch, Offset};
 
 // shard.rs, Stored: what became of an entry that arrived; Full where it would be number 1,025 (23).
-#[derive(Drop)]
+#[derive(Clone, Copy)]
 pub enum Outcome {
     Through(Offset),
     Gap(Offset),
@@ -18,7 +18,7 @@ pub enum Outcome {
 }
 
 // The outcome, with how many entries the log and how many rows the table has then.
-#[derive(Drop)]
+#[derive(Clone, Copy)]
 pub struct Taken {
     pub outcome: Outcome,
     pub count: usize,
@@ -136,14 +136,14 @@ pub fn store(
 }
 
 // shard.rs, adopt: the own epoch is newer, or the log is kept up to an offset.
-#[derive(Drop)]
+#[derive(Clone, Copy)]
 pub enum Adoption {
     Older(Epoch),
     Kept(Offset),
 }
 
 // The answer, with how many entries the log and how many rows the table has then.
-#[derive(Drop)]
+#[derive(Clone, Copy)]
 pub struct Adopted {
     pub answer: Adoption,
     pub count: usize,

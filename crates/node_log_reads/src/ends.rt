@@ -7,7 +7,7 @@ ghost use Rattle.node_log_reads.specs.Ends.{EndsAnswered};
 use log_calls::fits::lent_fits;
 
 // How many pairs the table has, or the number of the refusal.
-#[derive(Drop)]
+#[derive(Clone, Copy)]
 pub enum EndsAnswer {
     Pairs(usize),
     Refused(u8),

@@ -9,7 +9,7 @@ use log_store::table::{is_at, place};
 use spec::Offset;
 
 // Where the vector of an id stands: the offset of the entry that set it; or the number of the refusal.
-#[derive(Drop)]
+#[derive(Clone, Copy)]
 pub enum Standing {
     At(Offset),
     Missing,
@@ -17,14 +17,14 @@ pub enum Standing {
 }
 
 // How many vectors there are, or the number of the refusal.
-#[derive(Drop)]
+#[derive(Clone, Copy)]
 pub enum Count {
     Vectors(usize),
     Refused(u8),
 }
 
 // Whether there are none, or the number of the refusal.
-#[derive(Drop)]
+#[derive(Clone, Copy)]
 pub enum Emptiness {
     Empty,
     Filled,

@@ -8,7 +8,7 @@ pub mod worker;
 
 // Nothing to send (Stop, Wait), how many bytes were written from the output's start, or the number of a refusal: 24, which `node_step` tells, or
 // 23 where the output is short of the request. Refused, the output stays as it was.
-#[derive(Drop)]
+#[derive(Clone, Copy)]
 pub enum Request {
     Unsent,
     Written(usize),
