@@ -1,5 +1,7 @@
 // What Create asks of a spec and of a placement's lists, and what a list makes of a new shard (paper 01, 'The shard map'; `spec`'s Map.Create).
 // Internal: the calls over a map's image are crate `image_map_create`.
+#![tactic(auto)]
+
 ghost use Rattle.std.specs.Prelude.{◌≡◌, [], ◌≤◌, length};
 ghost use Rattle.spec.specs.Lists.{every, nth};
 ghost use Rattle.spec.specs.Map.Create.{add_all, list_matches, zero_in};
