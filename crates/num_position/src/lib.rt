@@ -2,6 +2,8 @@
 // degrees, arcminutes and thousandths of arcseconds become whole milliarcseconds, and back; and milliarcseconds become the four floats of a vector.
 // A search measures these floats as they are: nothing wraps around at 24 hours. What an answer says stands in specs/Positions.antt of crate
 // spec_position, and specs/Answers.antt here reads it off each case.
+#![tactic(auto)]
+
 ghost use Rattle.std.specs.Prelude.{◌≡◌};
 ghost use Rattle.spec_position.specs.Positions.{to_position, to_fields, to_vector};
 ghost use Rattle.num_position.specs.Answers.{placed, fielded, vectored};

@@ -2,7 +2,7 @@
 // definitions share; the code stands in num_position, the calls for hosts in calls_position.
 
 // What an editor types. `minus` is 0 for a plus and 1 for a minus.
-#[derive(Drop)]
+#[derive(Clone, Copy)]
 pub struct Fields {
     pub hours: u32,
     pub minutes: u32,
@@ -14,7 +14,7 @@ pub struct Fields {
 }
 
 // Milliarcseconds.
-#[derive(Drop)]
+#[derive(Clone, Copy)]
 pub struct Position {
     pub ra: i64,
     pub dec: i64,
