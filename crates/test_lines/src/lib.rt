@@ -1,4 +1,6 @@
 // What the programs read and print alike. Here: the line of a request on the shard map (paper 01, 'Program applymap').
+#![tactic(auto)]
+
 ghost use Rattle.test_lines.specs.Words.{WordFor, LineFor};
 
 pub mod parts;
