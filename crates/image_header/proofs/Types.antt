@@ -32,6 +32,12 @@ use Rattle.image_header_row.specs.Rows.{weigh, peer_flags, peer_f, peer_value, r
 use Rattle.image_header.proofs.Tidy.{HeldRowFits}
 use Rattle.image_header.proofs.Back.{Fits}
 
+-- an array of a type that the code copies: its elements stand in it as they are
+rows_good : {B : Type 0} (own : B → List Val → Fml) (f : Shape) (val : B → Value f) → ((x : B) (vs : List Val) → shadow (own x vs) → Good f (val x)) →
+  (n : ℕ) (xs : List B) (vs : List Val) → shadow (in_array B own n xs vs) → Good (rep n f) (map val xs)
+rows_good {B} own f val law n xs vs p =
+    array_good own (λ (x : B). x) f val law n xs vs (subst (λ (l : List B). shadow (in_array B own n l vs)) (sym (map-id xs)) p)
+
 weigh-most : (b : Bool) (w : ℕ) → weigh b w ≤ w
 weigh-most false w = omega arith
 weigh-most true w = omega arith
@@ -52,7 +58,7 @@ held_good : (h : Held) (vs : List Val) → Is (row ofHeld.the_type) h vs → Goo
 held_good h vs p =
     let m = metric_below h.metric in
     let o = flag_small h.own in
-    let peers = array_good (field ofPeer.the_type).row.own_val (ofPeer.the_type).to peer_f peer_value peer_good 32 h.peers _ p.1.1.1.1.1.1.1.1.1.0 in (
+    let peers = rows_good (ofPeer.the_row).own_val peer_f peer_value peer_good 32 h.peers _ p.1.1.1.1.1.1.1.1.1.0 in (
       (
         (
           ((((((p.1.1.0.1.1.0.1, p.1.1.1.1.0.1), p.1.1.1.1.1.1.1.1.0.1), p.1.1.1.1.1.1.1.1.1.1.0.1), omega arith), omega arith), omega arith),

@@ -2,6 +2,8 @@
 // image, or with a code that is not listed, lends no header (24); whether the header that it lends is well formed, counts above their
 // arrays included, is for `image_header_check`. Bytes past the image, and shards past the count, are neither read nor written. A shard in use is
 // written in the canonical form: zeros in the free places of its row, so that the bytes are those of what it is read as.
+#![tactic(auto)]
+
 ghost use Rattle.std.specs.Prelude.{◌≡◌, ◌≤◌, length};
 ghost use Rattle.image_header_row.specs.Rows.{expiry_of, expiry_code, expiry_time};
 ghost use Rattle.image_header.specs.Image.{shard_codes, flags_listed, codes_listed, header_lent};
