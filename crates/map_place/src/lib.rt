@@ -1,5 +1,7 @@
 // Where new replicas go (the source's `place` and `replacement`), of the nodes that may be chosen with their loads: on the one with the fewest
 // replicas, of level ones the lowest id. What an answer says of a map stands in specs/Answers.antt; the loads are counted in crate `image_map_loads`.
+#![tactic(auto)]
+
 use map_tables::{Placement, Refusal};
 use spec::DataNodeId;
 
@@ -8,14 +10,14 @@ mod lists;
 pub mod placed;
 
 // A node that may be chosen, with the number of replicas it has.
-#[derive(Drop)]
+#[derive(Clone, Copy)]
 pub struct Load {
     pub node: DataNodeId,
     pub count: u64,
 }
 
 // The loads in use are the first `count` ids with the counts at the same places; the rest is free.
-#[derive(Drop)]
+#[derive(Clone, Copy)]
 pub struct Loads {
     pub ids: [u64; 32],
     pub counts: [u64; 32],
@@ -23,14 +25,14 @@ pub struct Loads {
 }
 
 // The lightest node seen so far.
-#[derive(Drop)]
+#[derive(Clone, Copy)]
 pub enum Best {
     Nobody,
     At(Load),
 }
 
 // How `place` ends: none, a placement, or 23 and 24.
-#[derive(Drop)]
+#[derive(Clone, Copy)]
 pub enum Placing {
     Nowhere,
     Placed,
@@ -38,14 +40,14 @@ pub enum Placing {
 }
 
 // Unless `how` is `Placed`, `placement` has no list.
-#[derive(Drop)]
+#[derive(Clone, Copy)]
 pub struct PlaceAnswer {
     pub how: Placing,
     pub placement: Placement,
 }
 
 // How `replacement` ends: none, a node, or 24.
-#[derive(Drop)]
+#[derive(Clone, Copy)]
 pub enum Replaced {
     Nobody,
     By(DataNodeId),

@@ -1,0 +1,24 @@
+use native.Mathlib.Omega.{arith}
+use mathlib.Core.Path.{refl, sym, ◌∙◌, ap}
+use mathlib.Core.Bool.{not}
+use Rattle.map_tables.specs.View.{view_list}
+use Rattle.map_place.specs.Read.{best_of, unlisted}
+use Rattle.map_place.proofs.Pairs.{turn_on, turn_past, turn_end}
+use Rattle.map_place.proofs.choose.lightest_of.Goals as goal
+
+pub loop-i-init : goal.loop-i-init
+loop-i-init c = (omega arith, refl)
+
+pub loop-i-preserved-then-is_listed : goal.loop-i-preserved-then-is_listed
+loop-i-preserved-then-is_listed c =
+    let lt = c.loop-i-test.true in
+    (omega arith, turn_past c.args.ids.now c.args.counts.now c.args.count c.requires.0 (unlisted (view_list c.args.taken)) c.loop-i.i (best_of c.loop-i.best) _ c.loop-i.invariant.1 lt (ap not (sym c.is_listed.ensures ∙ c.if-is_listed.true)))
+
+pub loop-i-preserved : goal.loop-i-preserved
+loop-i-preserved c =
+    let lt = c.loop-i-test.true in
+    (omega arith, turn_on c.args.ids.now c.args.counts.now c.args.count c.requires.0 (unlisted (view_list c.args.taken)) c.loop-i.i (best_of c.loop-i.best) _ c.loop-i.invariant.1 lt _ (ap not (sym c.is_listed.ensures ∙ c.if-is_listed.false)) c.lighter_of-next.ensures)
+
+pub returns : goal.returns
+returns c =
+    turn_end c.args.ids.now c.args.counts.now c.args.count c.requires.0 (unlisted (view_list c.args.taken)) c.loop-i.i (best_of c.loop-i.best) _ c.loop-i.invariant.1 c.loop-i-test.false
