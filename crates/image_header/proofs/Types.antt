@@ -26,17 +26,11 @@ use Rattle.node_header.specs.contracts.HeldRow as ofHeldRow
 use Rattle.node_header.specs.contracts.Node as of_node
 use Rattle.image_parts.specs.Shape.{Good}
 use Rattle.image_parts.proofs.CodeLaws.{flag_small}
-use Rattle.image_parts.proofs.Types.{array_good, key_good, replicas_good}
+use Rattle.image_parts.proofs.Types.{rows_good, key_good, replicas_good}
 use Rattle.image_parts.proofs.Tidied.{all_take, all_mapped}
 use Rattle.image_header_row.specs.Rows.{weigh, peer_flags, peer_f, peer_value, role_f, role_value, held_f, held_value, held_row_f, held_row_value, expiry_time}
 use Rattle.image_header.proofs.Tidy.{HeldRowFits}
 use Rattle.image_header.proofs.Back.{Fits}
-
--- an array of a type that the code copies: its elements stand in it as they are
-rows_good : {B : Type 0} (own : B → List Val → Fml) (f : Shape) (val : B → Value f) → ((x : B) (vs : List Val) → shadow (own x vs) → Good f (val x)) →
-  (n : ℕ) (xs : List B) (vs : List Val) → shadow (in_array B own n xs vs) → Good (rep n f) (map val xs)
-rows_good {B} own f val law n xs vs p =
-    array_good own (λ (x : B). x) f val law n xs vs (subst (λ (l : List B). shadow (in_array B own n l vs)) (sym (map-id xs)) p)
 
 weigh-most : (b : Bool) (w : ℕ) → weigh b w ≤ w
 weigh-most false w = omega arith
@@ -79,7 +73,7 @@ expiry_good (At t) vs p = p.1.1.1.1.0.1
 
 pub node-fits : (n : Node) (vs : List Val) → Is (row of_node.the_type) n vs → Fits n
 node-fits n vs p =
-    let rows = array_good (field ofHeldRow.the_type).row.own_val (ofHeldRow.the_type).to held_row_f held_row_value kept_good 8 n.held _ p.1.1.1.1.1.1.0 in
+    let rows = rows_good (ofHeldRow.the_row).own_val held_row_f held_row_value kept_good 8 n.held _ p.1.1.1.1.1.1.0 in
     record {
       id = p.1.1.0.1.1.0.1;
       incarnation = p.1.1.1.0.1;

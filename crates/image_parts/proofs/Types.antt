@@ -9,8 +9,7 @@ use base.Fml.{Fml}
 use denote.Shadow.{shadow}
 use denote.Laws.{Is}
 use denote.Array.{each, in_array}
-use denote.Struct.Declared.{row, field}
-use denote.Struct.Field.{Field, array_field}
+use denote.Struct.Declared.{row}
 use denote.Plain.{UInt}
 use mir.Syntax.{w8}
 use Rattle.spec.specs.Layout.Format.{All}
@@ -39,17 +38,16 @@ module _ {B d : Type 0} (own : d → List Val → Fml) (into : B → d) (f : Sha
   pub array_good : (n : ℕ) (xs : List B) (vs : List Val) → shadow (in_array d own n (map into xs) vs) → Good (rep n f) (map val xs)
   array_good n xs vs p = (length-map xs val ∙ sym (length-map xs into) ∙ p.1.0.1, each_good xs p.0 p.1.1)
 
--- the types of the arrays of copies and of ids, as fields of a struct
-abbrev replicas_field : Field
-replicas_field = array_field (field ofReplica.the_type) 8
-
-abbrev ids_field : Field
-ids_field = array_field (field ofId.the_type) 8
+-- an array of a type that the code copies: its elements stand in it as they are
+pub rows_good : {B : Type 0} (own : B → List Val → Fml) (f : Shape) (val : B → Value f) → ((x : B) (vs : List Val) → shadow (own x vs) → Good f (val x)) →
+  (n : ℕ) (xs : List B) (vs : List Val) → shadow (in_array B own n xs vs) → Good (rep n f) (map val xs)
+rows_good {B} own f val law n xs vs p =
+    array_good own (λ (x : B). x) f val law n xs vs (subst (λ (l : List B). shadow (in_array B own n l vs)) (sym (map-id xs)) p)
 
 -- ---- bytes, names, addresses, keys, copies of a shard, ids
 
 bytes_good : (n : ℕ) (bs : List ℕ) (vs : List Val) → shadow (in_array ℕ (UInt w8).own_val n bs vs) → Good (rep n byte) bs
-bytes_good n bs vs p = subst (λ (l : List ℕ). Good (rep n byte) l) (map-id bs) (array_good (UInt w8).own_val (λ (v : ℕ). v) byte (λ (v : ℕ). v) (λ x us q. q.1) n bs vs (subst (λ (l : List ℕ). shadow (in_array ℕ (UInt w8).own_val n l vs)) (sym (map-id bs)) p))
+bytes_good n bs vs p = subst (λ (l : List ℕ). Good (rep n byte) l) (map-id bs) (rows_good (UInt w8).own_val byte (λ (v : ℕ). v) (λ x us q. q.1) n bs vs p)
 
 pub name_good : (n : Name) (vs : List Val) → Is (row ofName.the_type) n vs → Good name_f (name_value n)
 name_good n vs p = (p.1.1.1.0.1, bytes_good 32 n.bytes _ p.1.1.0)
@@ -63,11 +61,11 @@ key_good k vs p = (name_good k.collection _ p.1.1.0, p.1.1.1.0.1)
 pub replica_good : (r : Replica) (vs : List Val) → Is (row ofReplica.the_type) r vs → Good replica_f (replica_value r)
 replica_good r vs p = (p.1.1.0.1.1.0.1, p.1.1.1.0.1)
 
-pub replicas_good : (rs : List Replica) (vs : List Val) → Is replicas_field.row (replicas_field.into rs) vs → Good (rep 8 replica_f) (map replica_value rs)
-replicas_good rs vs p = array_good (field ofReplica.the_type).row.own_val (ofReplica.the_type).to replica_f replica_value replica_good 8 rs vs p
+pub replicas_good : (rs : List Replica) (vs : List Val) → shadow (in_array Replica (ofReplica.the_row).own_val 8 rs vs) → Good (rep 8 replica_f) (map replica_value rs)
+replicas_good rs vs p = rows_good (ofReplica.the_row).own_val replica_f replica_value replica_good 8 rs vs p
 
 pub id_good : (n : DataNodeId) (vs : List Val) → Is (row ofId.the_type) n vs → Good u64 (id_value n)
 id_good n vs p = p.1.1.0.1
 
-pub ids_good : (ns : List DataNodeId) (vs : List Val) → Is ids_field.row (ids_field.into ns) vs → Good (rep 8 u64) (map id_value ns)
-ids_good ns vs p = array_good (field ofId.the_type).row.own_val (ofId.the_type).to u64 id_value id_good 8 ns vs p
+pub ids_good : (ns : List DataNodeId) (vs : List Val) → shadow (in_array DataNodeId (ofId.the_row).own_val 8 ns vs) → Good (rep 8 u64) (map id_value ns)
+ids_good ns vs p = rows_good (ofId.the_row).own_val u64 id_value id_good 8 ns vs p
