@@ -1,5 +1,7 @@
 // The text of an answer (paper 02, 2.1; the strings of the source's state.rs): written into 108 bytes, which hold any. What each text is
 // stands in crate spec_words.
+#![tactic(auto)]
+
 ghost use Rattle.std.specs.Prelude.{◌≡◌, ◌≤◌, length, take};
 ghost use Rattle.std.proofs.lemmas.List.Edits.{sets};
 ghost use Rattle.spec_words.specs.Words.{text_of};
