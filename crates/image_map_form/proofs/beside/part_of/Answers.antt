@@ -1,0 +1,6 @@
+use mathlib.Core.Path.{◌∙◌}
+use Rattle.image_map_form.proofs.Canon.{none-key}
+use Rattle.image_map_form.proofs.beside.part_of.Goals as goal
+
+pub returns-in-Nothing : goal.returns-in-Nothing
+returns-in-Nothing c = c.no_key.ensures ∙ none-key ∙ rw c.in-Nothing.is
