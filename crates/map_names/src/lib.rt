@@ -1,5 +1,7 @@
 // Names, addresses and the keys of shards, copied out of the message in which they stand (paper 01, 'Bytes on the wire'). Bytes past a
 // length are zero. Internal: what the readers of a message share.
+#![tactic(auto)]
+
 ghost use Rattle.std.specs.Prelude.{◌≡◌, ◌+◌, ◌≤◌, length, take};
 ghost use Rattle.map_tables.specs.Names.{view_name, view_address, view_key};
 ghost use Rattle.map_names.specs.Texts.{Text, bytes_at, KeyThere, key_in};
