@@ -1,6 +1,7 @@
 // The test of a lent store (paper 01, 'Who is turned down', 24): each clause that speaks of a store, and nothing else. Every call
 // that touches a log makes it first, so it takes time in proportion to the log: the floats are tested several at once, and the
 // table is compared with the log without playing it.
+#![tactic(auto)]
 
 mod entries;
 mod hints;
