@@ -7,7 +7,7 @@ ghost use Rattle.std.specs.Float.Ieee.{mul};
 ghost use Rattle.spec.specs.Nearest.Distance.{square};
 ghost use Rattle.float_distance.specs.Lanes.{Places, FourSums, FourOwn, Measurable, FourDistances};
 
-#[derive(Drop)]
+#[derive(Clone, Copy)]
 pub struct Four {
     pub a: f32,
     pub b: f32,
@@ -16,7 +16,7 @@ pub struct Four {
 }
 
 // What an angular distance is made of: the products with the query, and each vector's own.
-#[derive(Drop)]
+#[derive(Clone, Copy)]
 pub struct Products {
     pub query: Four,
     pub own: Four,

@@ -58,7 +58,7 @@ pub fn angle(product: f32, qnorm: f32, own: f32) -> f32
 }
 
 // What is made of a vector before its distance is asked for: the sum whose root that is, or the distance itself.
-#[derive(Drop)]
+#[derive(Clone, Copy)]
 pub enum Kind {
     Sums,
     Distances,
