@@ -3,6 +3,8 @@
 // does not. What decodes is also written again and compared: `unlike` stands after a line where the bytes differ, which
 // none has. stdin is oracle/stored/decode/kinds.in and long.in one after the other, stdout their .out: the lines that
 // the oracle's decoder made. What is decoded is crate wire_read's; this program shows it.
+#![tactic(auto)]
+
 use kinds::message;
 
 mod again;
