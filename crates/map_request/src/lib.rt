@@ -1,6 +1,8 @@
 // Requests as the shard map takes them (paper 01, 'Bytes on the wire', 01): what crate wire_read reads, with names,
 // address and placement copied out of the message into the struct of crate `map_tables`. What is read is `spec`'s
 // `request_at` and `decode_request`.
+#![tactic(auto)]
+
 ghost use Rattle.map_request.specs.Read.{LoadedAt, LoadedAll};
 
 use load::{blank, load};
@@ -12,7 +14,7 @@ mod lists;
 pub mod load;
 
 // A request that was read, and the position after it. Where none was, the request is free.
-#[derive(Drop)]
+#[derive(Clone, Copy)]
 pub struct Loaded {
     pub found: bool,
     pub request: Request,
@@ -21,7 +23,7 @@ pub struct Loaded {
 
 // A command as crate `map_tables` has it, and where its operands stand in the message; those that it does not have are
 // empty parts.
-#[derive(Drop)]
+#[derive(Clone, Copy)]
 pub struct Operands {
     pub command: Command,
     pub name: Part,
