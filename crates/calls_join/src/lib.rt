@@ -1,6 +1,8 @@
 // The answers of a collection's shards to one query, joined into the first k of the same order (paper 02, 2.2), straight from the lent bytes: each
 // is read where it stands, and what is joined is copied once, into the output. What is refused: 21, 28 and 29, all before joining, then 23. What the
 // calls answer stands in specs/Calls.antt, and what it is in crate `spec_join`.
+#![tactic(auto)]
+
 ghost use Rattle.calls_join.specs.Calls.{Joins, JoinsFor};
 
 use crate::checks::{Checked, check};

@@ -1,6 +1,8 @@
 // Positions as a host asks for them (paper 02, 2.7): numbers in, and the answer in one lent buffer, least significant byte first. 30 comes first,
 // then 31, and 23 last, where the buffer is too short. A refused call leaves every byte; what lies behind an answer stays. What an answer says
 // stands in specs/Calls.antt.
+#![tactic(auto)]
+
 ghost use Rattle.calls_position.specs.Calls.{Divides, Places, Vectors};
 
 use crate::stored::{put_fields, put_position, put_vector};
