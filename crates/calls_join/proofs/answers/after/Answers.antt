@@ -23,4 +23,4 @@ overflow_add-result-2 c =
     let b = h.ends in omega (arith, c.count_at.ensures)
 
 pub returns : goal.returns
-returns c =     omega (arith, c.count_at.ensures)
+returns c = omega (arith, c.count_at.ensures)

@@ -8,7 +8,7 @@ use Rattle.calls_join.proofs.Bytes.{stands_says, leads-size, leads_snoc, broken_
 use Rattle.calls_join.proofs.answers.count_answers.Goals as goal
 
 pub loop-p-init : goal.loop-p-init
-loop-p-init c =     (omega arith, refl)
+loop-p-init c = (omega arith, refl)
 
 pub returns-then-not-stands : goal.returns-then-not-stands
 returns-then-not-stands c =
@@ -16,7 +16,7 @@ returns-then-not-stands c =
     broken_in c.args.s.now loop.n loop.p loop.invariant.1 (λ e. omega arith) (sym c.stands.ensures ∙ c.if-not-stands.true)
 
 pub after-p-requires : goal.after-p-requires
-after-p-requires c =     sym c.stands.ensures ∙ c.if-not-stands.false
+after-p-requires c = sym c.stands.ensures ∙ c.if-not-stands.false
 
 pub overflow_add-n : goal.overflow_add-n
 overflow_add-n c =
@@ -25,7 +25,7 @@ overflow_add-n c =
 
 pub loop-p-smaller : goal.loop-p-smaller
 loop-p-smaller c =
-        let l = (stands_says _ _ (sym c.stands.ensures ∙ c.if-not-stands.false)).ends in omega (arith, c.after-p.ensures)
+    let l = (stands_says _ _ (sym c.stands.ensures ∙ c.if-not-stands.false)).ends in omega (arith, c.after-p.ensures)
 
 pub loop-p-preserved : goal.loop-p-preserved
 loop-p-preserved c =

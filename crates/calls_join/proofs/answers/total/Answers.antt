@@ -13,7 +13,7 @@ loop-left-init c =
 
 pub count_at-sum-requires : goal.count_at-sum-requires
 count_at-sum-requires c =
-        let h = (stands_says _ _ (stand_first _ _ _ c.loop-left-test.true c.loop-left.invariant.2)).begins in omega arith
+    let h = (stands_says _ _ (stand_first _ _ _ c.loop-left-test.true c.loop-left.invariant.2)).begins in omega arith
 
 pub overflow_add-sum : goal.overflow_add-sum
 overflow_add-sum c =
@@ -23,7 +23,7 @@ overflow_add-sum c =
     let b = loop.invariant.1 in omega (arith, c.count_at-sum.ensures)
 
 pub after-p-requires : goal.after-p-requires
-after-p-requires c =     stand_first _ _ _ c.loop-left-test.true c.loop-left.invariant.2
+after-p-requires c = stand_first _ _ _ c.loop-left-test.true c.loop-left.invariant.2
 
 pub loop-left-preserved : goal.loop-left-preserved
 loop-left-preserved c =

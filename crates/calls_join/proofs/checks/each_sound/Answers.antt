@@ -10,7 +10,7 @@ use Rattle.calls_join.proofs.Calls.{order_wrong, apart_wrong, answer-sound}
 use Rattle.calls_join.proofs.checks.each_sound.Goals as goal
 
 pub loop-left-init : goal.loop-left-init
-loop-left-init c =     (c.requires, refl)
+loop-left-init c = (c.requires, refl)
 
 pub count_at-count-requires : goal.count_at-count-requires
 count_at-count-requires c =

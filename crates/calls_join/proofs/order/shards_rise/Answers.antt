@@ -10,7 +10,7 @@ use Rattle.calls_join.proofs.Walks.{rise_stop, rise-on, rise-end}
 use Rattle.calls_join.proofs.order.shards_rise.Goals as goal
 
 pub loop-left-init : goal.loop-left-init
-loop-left-init c =     (c.requires, refl)
+loop-left-init c = (c.requires, refl)
 
 pub after-q-requires : goal.after-q-requires
 after-q-requires c =
@@ -45,4 +45,4 @@ loop-left-preserved c =
     (subst (Stand s (loop.left - 1)) (sym after.ensures) (stand_rest s loop.left loop.p (omega arith) loop.invariant.0), subst (λ (z : ℕ). rising shard_below (answers_at s (loop.left - 1) z) ≡ rising shard_below (answers_at s args.n 0)) (sym after.ensures) (sym (rise-on s loop.left loop.p c.loop-left-test.true (subst (λ (z : ℕ). number_at 4 s loop.p < number_at 4 s z) after.ensures (omega (arith, c.get4.ensures, c.get4-in-loop-left.ensures)))) ∙ loop.invariant.1))
 
 pub returns : goal.returns
-returns c =     sym (sym c.loop-left.invariant.1 ∙ rise-end _ _ _ (omega arith))
+returns c = sym (sym c.loop-left.invariant.1 ∙ rise-end _ _ _ (omega arith))

@@ -9,7 +9,7 @@ use Rattle.calls_join.proofs.Walks.{answers_stop, answers-on, answers-end}
 use Rattle.calls_join.proofs.owners.all_owned.Goals as goal
 
 pub loop-left-init : goal.loop-left-init
-loop-left-init c =     (c.requires, refl)
+loop-left-init c = (c.requires, refl)
 
 pub overflow_add-p : goal.overflow_add-p
 overflow_add-p c =

@@ -9,7 +9,7 @@ use Rattle.calls_join.proofs.Walks.{hits_stop, hits-on, hits-end}
 use Rattle.calls_join.proofs.owners.owns.Goals as goal
 
 pub loop-left-init : goal.loop-left-init
-loop-left-init c =     (c.requires, refl)
+loop-left-init c = (c.requires, refl)
 
 pub returns-then-shard_of-shard : goal.returns-then-shard_of-shard
 returns-then-shard_of-shard c =

@@ -9,13 +9,13 @@ use Rattle.calls_join.proofs.repeats.apart.Goals as goal
 
 pub loop-i-init : goal.loop-i-init
 loop-i-init c =
-        (omega arith, length-replicate {A = ℕ} 2048 0, length-replicate {A = ℕ} 1024 0, kept-none _ _ _ _ (zeros 2048))
+    (omega arith, length-replicate {A = ℕ} 2048 0, length-replicate {A = ℕ} 1024 0, kept-none _ _ _ _ (zeros 2048))
 
 pub overflow_mul-i : goal.overflow_mul-i
-overflow_mul-i c =     let q = c.requires.0 in omega arith
+overflow_mul-i c = let q = c.requires.0 in omega arith
 
 pub overflow_add-p : goal.overflow_add-p
-overflow_add-p c =     let q = c.requires.0 in omega arith
+overflow_add-p c = let q = c.requires.0 in omega arith
 
 pub get8-id-requires : goal.get8-id-requires
 get8-id-requires c =

@@ -5,10 +5,10 @@ use Rattle.calls_join.proofs.Buckets.{reaches_none, reaches_on}
 use Rattle.calls_join.proofs.repeats.listed.Goals as goal
 
 pub loop-c-init : goal.loop-c-init
-loop-c-init c =     (c.requires.2, λ i r e. r)
+loop-c-init c = (c.requires.2, λ i r e. r)
 
 pub overflow_sub-c : goal.overflow_sub-c
-overflow_sub-c c =     let l = c.loop-c-test.true in omega arith
+overflow_sub-c c = let l = c.loop-c-test.true in omega arith
 
 pub overflow_mul-c : goal.overflow_mul-c
 overflow_mul-c c =
@@ -38,7 +38,7 @@ returns-then-get8-id c =
     )
 
 pub overflow_sub-c-in-loop-c : goal.overflow_sub-c-in-loop-c
-overflow_sub-c-in-loop-c c =     let l = c.loop-c-test.true in omega arith
+overflow_sub-c-in-loop-c c = let l = c.loop-c-test.true in omega arith
 
 pub offset_bounds-next-c : goal.offset_bounds-next-c
 offset_bounds-next-c c =
@@ -52,7 +52,7 @@ bounds-next-c c =
     let t = c.loop-c-test.true in omega arith
 
 pub overflow_cast-c : goal.overflow_cast-c
-overflow_cast-c c =     omega (arith, c.type_inv.next (c.loop-c.c - 1))
+overflow_cast-c c = omega (arith, c.type_inv.next (c.loop-c.c - 1))
 
 pub loop-c-smaller : goal.loop-c-smaller
 loop-c-smaller c =
