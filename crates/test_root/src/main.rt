@@ -1,6 +1,8 @@
 // Replays the oracle's stored roots: bit patterns of four bytes each on standard input, and a line with the bits of each
 // root on standard output. stdin and stdout are oracle/stored/roots/all.in and all.out, the answers of a second root
 // routine and of the machine.
+#![tactic(auto)]
+
 ghost use Rattle.std.specs.Prelude.{◌≡◌, ◌<◌};
 ghost use Rattle.std.specs.Float.{binary32};
 ghost use Rattle.std.specs.Float.Ieee.{to_bits, of_bits};
