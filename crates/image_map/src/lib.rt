@@ -3,6 +3,8 @@
 // arrays included, is `map_check`'s. Bytes past the image, and rows past a count, are neither read nor written; a row in use is written whole. One
 // row, read and stored, is crate `image_map_row`; the form in which it is written, crate `image_map_form`. Definitions and laws: no code makes a map
 // by value.
+#![tactic(auto)]
+
 use map_tables::ShardMap;
 
 // The map that a buffer lends; without one, `map` has no rows.
