@@ -1,0 +1,18 @@
+use Prim.Native.Nat.{◌-◌, ◌≤◌}
+use Rattle.spec.specs.Keys.{name_below}
+use Rattle.spec.specs.Layout.Format.{number_at}
+use Rattle.map_tables.specs.Names.{view_name}
+use Rattle.map_tables.specs.View.{view_collection}
+use Rattle.image_map_row.specs.Rows.{collection_at}
+use Rattle.image_map.specs.Image.{no_collection}
+use Rattle.image_map_check.proofs.RowLaws.{Scan}
+use Rattle.spec.specs.Map.Tables as tables
+use Rattle.image_map_check.proofs.room.collection_room.Given as goal
+
+abbrev pub invariant-loop-i : goal.invariant-loop-i
+invariant-loop-i l =
+    (l.i ≤ l.count) × Scan 16 56 3112 (collection_at l.s) no_collection (number_at 8 l.s 16) view_collection (λ (y : tables.Collection). name_below y.name (view_name l.name)) l.i
+
+abbrev pub decreases-loop-i : goal.decreases-loop-i
+decreases-loop-i l =
+    l.count - l.i
