@@ -8,7 +8,7 @@ pub mod walk;
 
 // One shard of the map: it is not held after (`skip`), a ninth shard or a 33rd worker would be needed (`full`), or its row and its workers
 // stand in their buffers. `workers` counts all that do.
-#[derive(Drop)]
+#[derive(Clone, Copy)]
 pub struct RowMade {
     pub skip: bool,
     pub full: bool,
@@ -16,7 +16,7 @@ pub struct RowMade {
 }
 
 // How many shards are held after, and how many workers are to start; or `full`.
-#[derive(Drop)]
+#[derive(Clone, Copy)]
 pub struct RowsMade {
     pub full: bool,
     pub count: usize,
