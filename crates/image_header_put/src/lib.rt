@@ -1,4 +1,6 @@
 // A node's header written back in place (docs/IMAGES.md): its first 48 bytes, and every row in use in the canonical form. Internal.
+#![tactic(auto)]
+
 ghost use Rattle.std.specs.Prelude.{◌≡◌, map, ◌+◌, ◌≤◌, length};
 ghost use Rattle.std.proofs.lemmas.List.Edits.{sets};
 ghost use Rattle.spec.specs.Layout.Format.{concat_map};
