@@ -1,6 +1,8 @@
 // Replays the oracle's stored comparisons: pairs of bit patterns of four bytes each on standard input, NaNs among them,
 // and a line with the answer for each pair on standard output. stdin and stdout are oracle/stored/order/finite.in,
 // nan.in and classes.in, and their .out, one after the other; classes has every pair of the patterns at the classes' edges.
+#![tactic(auto)]
+
 fn compare(a: u32, b: u32) {
     if float_distance::order::before_bits(a, b) {
         io::write_all(1, b"less\n");
