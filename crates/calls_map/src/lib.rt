@@ -1,6 +1,8 @@
 // The calls on a shard map as a host makes them: the map is a byte image that the host owns (docs/IMAGES.md), a request is bytes. A call
 // answers a number; a refused one leaves every byte as it was. What an answer says stands in specs/Calls.antt. place and replacement are crate
 // `calls_place`: their answers as bytes, and what these say, are here (specs/Places.antt).
+#![tactic(auto)]
+
 ghost use Rattle.std.specs.Prelude.{◌≡◌, ◌≤◌, length};
 ghost use Rattle.spec.specs.Map.Tables.{empty_map};
 ghost use Rattle.image_map.specs.Image.{map_stored};

@@ -1,0 +1,18 @@
+use mathlib.Core.Path.{◌≡◌}
+use Prim.Native.Nat.{◌+◌, ◌-◌, ◌*◌, ◌≤◌}
+use lib.ListN.{length, take, drop}
+use lib.Seq.{sets}
+use Rattle.spec.specs.Layout.Format.{concat_map}
+use Rattle.image_parts.specs.Parts.{id_bytes}
+use Rattle.calls_map.proofs.lists.put_list.Given as goal
+
+abbrev pub invariant-loop-i : goal.invariant-loop-i
+invariant-loop-i l =
+    (l.i ≤ l.n)
+    × (l.n ≤ 8)
+    × (length l.out ≡ length l.initial.out)
+    × (sets l.out (l.at + 8 * l.i) (concat_map id_bytes (drop l.i (take l.l.count l.l.nodes))) ≡ sets l.initial.out l.at (concat_map id_bytes (take l.l.count l.l.nodes)))
+
+abbrev pub decreases-loop-i : goal.decreases-loop-i
+decreases-loop-i l =
+    l.n - l.i
