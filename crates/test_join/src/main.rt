@@ -2,6 +2,8 @@
 // hits there is room for and a length, u32 each, and so many bytes of answers; for each a line `found C` and C lines with an id and the bits
 // of its distance, or `refused N`, on standard output. stdin is oracle/stored/join/chosen.in, full.in and whole.in one after the other, stdout their
 // .out: of whole.in the answers of the Rust's one search over all vectors together. Each is one call of crate calls_join.
+#![tactic(auto)]
+
 use calls_join::{Joining, join};
 
 fn four(s: &[u8], at: usize) -> u32 {
