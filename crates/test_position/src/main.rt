@@ -1,6 +1,8 @@
 // Positions by lines (paper 02, 2.7). A line `f` with the seven fields of an editor asks for milliarcseconds, a line `p` with two numbers of
 // milliarcseconds for their fields and their vector; an answer is a line, with the number of a refusal in the place of what was asked for. A number
 // above the largest u32 counts as that one. stdin and stdout are oracle/stored/positions, whose answers are those of oracle/positions.py.
+#![tactic(auto)]
+
 ghost use Rattle.std.specs.Prelude.{◌≤◌, length};
 
 use crate::numbers::{Number, next_line, number_at};
