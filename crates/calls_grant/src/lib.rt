@@ -1,4 +1,6 @@
 // Lease grant over a header's image, in place (paper 01, 'The node').
+#![tactic(auto)]
+
 ghost use Rattle.calls_header.specs.Grants.{Grants};
 
 use calls_header::times::late;
