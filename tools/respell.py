@@ -131,6 +131,7 @@ class Turner:
 
     def rust(self, text):
         lines = text.split("\n")
+        modules = set(re.findall(r"(?m)^\s*ghost use Rattle\.\S+ as (\w+);", text))
         for i, line in enumerate(lines):
             clause = line.lstrip().startswith(("ghost", "requires", "ensures"))
 
@@ -141,7 +142,8 @@ class Turner:
                 before = line[: m.start()]
                 if not clause and "-" not in word and word[:1].isupper():
                     return word
-                if before.endswith(".") and not re.search(r"Rattle\.[\w.]*$", before) and word not in self.fields:
+                alias = re.search(r"(\w+)\.$", before)
+                if before.endswith(".") and not re.search(r"Rattle\.[\w.]*$", before) and word not in self.fields and not (alias and alias[1] in modules):
                     return word
                 return self.new[word]
 

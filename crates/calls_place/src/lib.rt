@@ -1,5 +1,7 @@
 // place and replacement as a host asks them, over a map's image (docs/IMAGES.md; paper 01, 'Place' and 'Who is turned down'): the map is tested and
 // its replicas are counted in the bytes, which are only read. What an answer says stands in calls_map, specs/Places.antt.
+#![tactic(auto)]
+
 ghost use Rattle.std.specs.Prelude.{◌≡◌, true};
 ghost use Rattle.map_check.specs.Lent.{well_formed_lent};
 ghost use Rattle.image_map.specs.Image.{map_at};
