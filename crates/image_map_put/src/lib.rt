@@ -1,5 +1,7 @@
 // A map's image written back in place (docs/IMAGES.md): every row in use in the one form. Version, counts and rows past a count stay as they are.
 // A call changes the bytes of the rows that it means to change, then writes the map back. Internal.
+#![tactic(auto)]
+
 ghost use Rattle.std.specs.Prelude.{◌≡◌, map, ◌+◌, ◌*◌, ◌≤◌, length, drop};
 ghost use Rattle.std.proofs.lemmas.List.Edits.{sets};
 ghost use Rattle.spec.specs.Layout.Format.{concat_map};
