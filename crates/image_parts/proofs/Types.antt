@@ -40,7 +40,7 @@ module _ {B d : Type 0} (own : d → List Val → Fml) (into : B → d) (f : Sha
 
 -- an array of a type that the code copies: its elements stand in it as they are
 pub rows_good : {B : Type 0} (own : B → List Val → Fml) (f : Shape) (val : B → Value f) → ((x : B) (vs : List Val) → shadow (own x vs) → Good f (val x)) →
-  (n : ℕ) (xs : List B) (vs : List Val) → shadow (in_array B own n xs vs) → Good (rep n f) (map val xs)
+    (n : ℕ) (xs : List B) (vs : List Val) → shadow (in_array B own n xs vs) → Good (rep n f) (map val xs)
 rows_good {B} own f val law n xs vs p =
     array_good own (λ (x : B). x) f val law n xs vs (subst (λ (l : List B). shadow (in_array B own n l vs)) (sym (map-id xs)) p)
 
