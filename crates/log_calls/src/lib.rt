@@ -1,6 +1,7 @@
 // The calls of one replica (paper 01, 'The log', 'Nearest objects', 'Who is turned down'; shard.rs, ShardReplica), over its lent
 // store: eight columns, and how many entries and rows of them are used. None of them asks anything of its caller: a message that
 // does not decode, a vector outside the domain and a malformed store are refused, in this order.
+#![tactic(auto)]
 
 ghost use Rattle.std.specs.Prelude.{◌≡◌};
 
