@@ -1,5 +1,7 @@
 // A shard that begins, put into a node's header where it stands (paper 01, 'Who is turned down', NewEpoch; node.rs, or_insert_with). Internal:
 // the header has been tested.
+#![tactic(auto)]
+
 ghost use Rattle.std.specs.Prelude.{◌<◌};
 ghost use Rattle.image_header.specs.Image.{node_at};
 ghost use Rattle.image_header_check.specs.Rows.{Counts};
