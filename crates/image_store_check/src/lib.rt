@@ -1,4 +1,5 @@
 // The test of a lent store (paper 01, 'Who is turned down', 24) straight from the bytes of its image: no column is copied. Internal.
+#![tactic(auto)]
 
 pub mod columns;
 pub mod entries;
