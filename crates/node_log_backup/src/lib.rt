@@ -1,5 +1,7 @@
 // What a primary's messages do at one held shard with its lent store (paper 01, 'Who is turned down', Replicate, CopyShard, NewEpoch;
 // node.rs, on_replicate, on_copy, on_new_epoch), past the checks of the message and of the lent state (21, 22, 24). Definitions and laws.
+#![tactic(auto)]
+
 use node_shard::Held;
 use spec::{Epoch, Offset};
 
