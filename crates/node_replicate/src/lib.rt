@@ -1,5 +1,7 @@
 // What Replicate and CopyShard do at a node (paper 01, 'Who is turned down'; node.rs, on_replicate, on_copy), said of a header and the columns of
 // the one store that they are lent, that of the shard which the message names. Definitions and laws: no code has them by value.
+#![tactic(auto)]
+
 use node_header::Node;
 use spec::{Epoch, Offset};
 
