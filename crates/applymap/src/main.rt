@@ -21,7 +21,7 @@ fn print_all(said: Said)
 }
 
 // Nothing says that an input ends, so the turns are counted down, from a number that no run uses up.
-fn run(map: &mut [u8], buf: &mut [u8])
+fn run<R: Input>(rt: &R, map: &mut [u8], buf: &mut [u8])
     requires { (26536 ≤ length map.old) × (length buf.old ≤ 8192) }
 {
     start(map);
@@ -36,7 +36,7 @@ fn run(map: &mut [u8], buf: &mut [u8])
         if LONGEST <= rest {
             return;
         }
-        let more = refill(buf, at, n);
+        let more = refill(rt, buf, at, n);
         if more <= rest {
             return;
         }
@@ -45,8 +45,8 @@ fn run(map: &mut [u8], buf: &mut [u8])
     }
 }
 
-fn main() {
+fn main(rt: HostRuntime) {
     let mut map = [0u8; 26536];
     let mut buf = [0u8; 8192];
-    run(&mut map, &mut buf);
+    run(&rt, &mut map, &mut buf);
 }

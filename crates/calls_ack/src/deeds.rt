@@ -17,7 +17,7 @@ use spec::Peer;
 
 // Internal: what a reply to that step asks for.
 pub fn asks(s: Sent, r: Reply, epoch: u64) -> Deed
-    requires { model.badReply (reply_of r) ≡ false }
+    requires { model.bad_reply (reply_of r) ≡ false }
     ensures { result ≡ does_deed s r epoch }
 {
     match r {

@@ -1,5 +1,7 @@
 // Which projector matters, as a host asks it (paper 02, 2.9): the map is a byte image that the host lends for reading (docs/IMAGES.md). What an
 // answer says stands in specs/Calls.antt, a row's bytes in specs/Rows.antt.
+#![tactic(auto)]
+
 ghost use Rattle.std.specs.Prelude.{◌≡◌, true, [], ◌≤◌, length, take};
 ghost use Rattle.map_check.specs.Lent.{well_formed_lent};
 ghost use Rattle.image_map.specs.Image.{map_at};

@@ -17,14 +17,14 @@ mod sums;
 mod tests;
 
 // The ids that nodes are drawn from: the first `count`; the rest is free.
-#[derive(Drop)]
+#[derive(Clone, Copy)]
 pub struct IdSet {
     pub items: [u64; 4],
     pub count: usize,
 }
 
 // 1 + b + .. + bⁿ and its last term, where the sum is within 64 bits; where it is not, both are free.
-#[derive(Drop)]
+#[derive(Clone, Copy)]
 pub struct Summed {
     pub fits: bool,
     pub sum: u64,
@@ -32,7 +32,7 @@ pub struct Summed {
 }
 
 // How `count_placements` ends: six counts, 35, 36, or 24.
-#[derive(Drop)]
+#[derive(Clone, Copy)]
 pub enum Ending {
     Counted,
     Beyond,
@@ -41,7 +41,7 @@ pub enum Ending {
 }
 
 // Accepted, 2, 3, 4, 5, 23. Unless `how` is `Counted`, all are 0.
-#[derive(Drop)]
+#[derive(Clone, Copy)]
 pub struct Counting {
     pub how: Ending,
     pub six: [u64; 6],

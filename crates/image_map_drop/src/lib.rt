@@ -1,5 +1,7 @@
 // Drop in a map's image, in place (paper 01, 'The shard map'): a collection and all of its shards are taken out of their tables. Each row that
 // stays moves down over those that go. Rows past the new count keep their bytes; `image_map_put` then gives every row in use its one form. Internal.
+#![tactic(auto)]
+
 ghost use Rattle.std.specs.Prelude.{◌≡◌, cond, not};
 ghost use Rattle.spec.specs.Keys.{same_name};
 ghost use Rattle.spec.specs.Lists.{filter};

@@ -21,20 +21,20 @@ mod lines;
 mod shards;
 
 // A node's line.
-#[derive(Drop)]
+#[derive(Clone, Copy)]
 pub struct Load {
     pub node: DataNodeId,
     pub count: u64,
 }
 
 // The lines in use are the first `count`, by rising id; the rest is free.
-#[derive(Drop)]
+#[derive(Clone, Copy)]
 pub struct Loads {
     pub items: [Load; 32],
     pub count: usize,
 }
 
-#[derive(Drop)]
+#[derive(Clone, Copy)]
 pub struct SheetOf {
     pub lines: Loads,
     pub unknown: u64,
@@ -42,14 +42,14 @@ pub struct SheetOf {
 }
 
 // How `sheet` ends: a sheet, or 24.
-#[derive(Drop)]
+#[derive(Clone, Copy)]
 pub enum Sheeting {
     Made,
     Refused(Refusal),
 }
 
 // Unless `how` is `Made`, the sheet is empty.
-#[derive(Drop)]
+#[derive(Clone, Copy)]
 pub struct SheetAnswer {
     pub how: Sheeting,
     pub sheet: SheetOf,

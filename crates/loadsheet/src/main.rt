@@ -12,7 +12,7 @@ use test_lines::words::{line, number};
 
 // The image becomes that of the map after the last request. Nothing says that an input ends, so the turns are counted down, from a number that no run
 // uses up.
-fn last_map(map: &mut [u8], buf: &mut [u8])
+fn last_map<R: Input>(rt: &R, map: &mut [u8], buf: &mut [u8])
     requires { (26536 ≤ length map.old) × (length buf.old ≤ 8192) }
     ensures { Intact map.new }
 {
@@ -26,7 +26,7 @@ fn last_map(map: &mut [u8], buf: &mut [u8])
         if LONGEST <= rest {
             return;
         }
-        let more = refill(buf, at, n);
+        let more = refill(rt, buf, at, n);
         if more <= rest {
             return;
         }
@@ -62,10 +62,10 @@ fn print_sheet(s: SheetOf)
     line(b"total", s.total);
 }
 
-fn main() {
+fn main(rt: HostRuntime) {
     let mut map = [0u8; 26536];
     let mut buf = [0u8; 8192];
-    last_map(&mut map, &mut buf);
+    last_map(&rt, &mut map, &mut buf);
     let s = sheet_of(&map);
     print_sheet(s);
 }

@@ -1,6 +1,8 @@
 // The bytes at hand: what is left of them moves to the front of the buffer, and more is read behind it.
 ghost use Rattle.std.specs.Prelude.{◌≡◌, ◌-◌, ◌≤◌, length, take, drop};
 
+use std::io::Read;
+
 // The bytes from one position to another, moved to the front.
 fn to_front(buf: &mut [u8], at: usize, n: usize)
     requires { (at ≤ n) × (n ≤ length buf.old) }
@@ -15,16 +17,16 @@ fn to_front(buf: &mut [u8], at: usize, n: usize)
     }
 }
 
-// One read of standard input: how many bytes came, 0 at its end.
-fn read_more(part: &mut [u8]) -> usize
+// One read of standard input, which takes what has arrived: how many bytes came, 0 at its end. A read that fails counts as
+// the end.
+fn read_more<R: Input>(rt: &R, part: &mut [u8]) -> usize
     ensures { (result ≤ length part.old) × (length part.new ≡ length part.old) }
 {
-    let got = libc::read(0, part);
-    io::count(got, part)
+    rt.reader().read(part).unwrap_or(0)
 }
 
 // How many bytes are at hand afterwards. Those that were left stand in front.
-pub fn refill(buf: &mut [u8], at: usize, n: usize) -> usize
+pub fn refill<R: Input>(rt: &R, buf: &mut [u8], at: usize, n: usize) -> usize
     requires { (at ≤ n) × (n ≤ length buf.old) }
     ensures within { (n - at ≤ result) × (result ≤ length buf.new) }
     ensures kept { take (n - at) buf.new ≡ take (n - at) (drop at buf.old) }
@@ -32,6 +34,6 @@ pub fn refill(buf: &mut [u8], at: usize, n: usize) -> usize
 {
     to_front(buf, at, n);
     let rest = n - at;
-    let more = read_more(&mut buf[rest..]);
+    let more = read_more(rt, &mut buf[rest..]);
     rest + more
 }

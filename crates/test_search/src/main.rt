@@ -2,6 +2,8 @@
 // a query, and operations that are appended to an empty replica; for each a line `found C` and C lines with an id and the bits of its
 // distance, or `refused 22`, on standard output. stdin is oracle/stored/search/chosen.in, random.in and orders.in one after the other, stdout
 // their .out: the answers of the Rust. Every append and the search are crate log_calls' exported calls.
+#![tactic(auto)]
+
 use input::{floats_in, four, operation, two};
 use log_calls::Answer;
 use log_calls::appends::append;
