@@ -54,4 +54,4 @@ put_back-requires-2 c =
 
 pub returns : goal.returns
 returns c =
-    at_deed c.args.header.now c.args.count c.requires.0 c.args.at c.requires.1 c.requires.2 c.args.epoch c.args.peer c.args.step c.args.reply c.role_at-role.result c.role_at-role.ensures (sym c.leads.ensures ∙ c.if-not-leads.false) c.get8-n.result c.get8-n.ensures c.place_of-i.result c.place_of-i.ensures c.if-n-i.false c.asks-d.result c.asks-d.ensures _ _ _ c.set_deed-said.ensures.0 c.set_deed-said.ensures.1 (λ j. omega (arith, c.type_inv.header j)) c.put_back-2.ensures
+    at_deed c.args.header.now c.args.count c.requires.0 c.args.at c.requires.1 c.requires.2 c.args.epoch c.args.peer c.args.step c.args.reply c.role_at-role.result c.role_at-role.ensures (sym c.leads.ensures ∙ c.if-not-leads.false) c.get8-n.result c.get8-n.ensures c.place_of-i.result c.place_of-i.ensures c.if-n-i.false c.asks-d.result c.asks-d.ensures _ _ _ c.set_deed-said.ensures.0 c.set_deed-said.ensures.1 (λ j. omega (arith, c.slice_known-2-1.given j)) c.put_back-2.ensures
