@@ -1,5 +1,7 @@
 // Create in a map's image, in place (paper 01, 'The shard map' and 'Who is turned down'): its answer, decided from the bytes before any is written,
 // and the collection with its shards put in. `image_map_put` then gives every row in use its one form. Internal.
+#![tactic(auto)]
+
 ghost use Rattle.std.specs.Prelude.{◌≡◌, ◌≤◌};
 ghost use Rattle.spec.specs.Map.Apply.{set_collections};
 ghost use Rattle.spec.specs.Map.Change.{accepts};
