@@ -28,7 +28,8 @@ use Rattle.log_calls.specs.declared.Answer.TheVariants as A
 use Rattle.log_calls.specs.declared.Done.{Done}
 use Rattle.thm_order_edits.specs.Edits.{Edit, Appends, InTurn, read_vectors, SearchedAlike}
 use Rattle.thm_order_edits.proofs.Appends.{there}
-use Rattle.thm_order_edits.proofs.Order.{same-vectors, same-searches, later_vectors, later_searches}
+use Rattle.thm_order_edits.proofs.Order.{same-vectors, later_vectors, later_searches}
+use Rattle.thm_order_edits.proofs.OrderSearched.{same-searches}
 
 -- ---- The messages: Upsert 3 (2.0), Delete 5, Upsert 5 (2.0)
 

@@ -1,4 +1,5 @@
 pub mod Appends
 pub mod Searches
 pub mod Order
+pub mod OrderSearched
 pub mod Instance

@@ -69,10 +69,6 @@ module _ (own : ℕ) (s : Store) (f : lent_fits s ≡ true) (room : s.count ≤ 
           ∙ swap_appends r a b (in_step Euclidean) n
           ∙ sym (ap (λ (z : ShardReplica). z.vectors) (j.replica Euclidean)) ∙ vectors_of_lem v
 
-      pub same-searches : (op_id a ≡ op_id b → ⊥) → SearchedAlike u v
-      same-searches n =
-          searched_alike u v ((both_appended x y a b u p q t).fits ∙ sym (both_appended y x b a v q p w).fits) (same-vectors n)
-
       -- the logs that the stores are read with differ whenever the edits do
       pub other-logs : (a ≡ b → ⊥) → store_log u ≡ store_log v → ⊥
       other-logs n e =
