@@ -18,32 +18,10 @@ use Rattle.log_calls.specs.declared.Done.{Done}
 use Rattle.log_calls.proofs.FitLaws.{fits-well}
 use Rattle.thm_order_edits.specs.Edits.{Edit, Appends, InTurn, read_vectors, SearchedAlike}
 use Rattle.thm_order_edits.proofs.Appends.{Appended, appended}
+use Rattle.thm_order_edits.proofs.BothAccepted.{both_appended}
 use Rattle.thm_order_edits.proofs.Searches.{searched_alike}
 
--- both calls of a turn were accepted, at the next two offsets, and the store is the definition's
-pub record BothAppended (own : ℕ) (s u : Store) (a b : Op) (first second : Done) : Type 0 where
-  pub one : first.answer ≡ A.Appended (record { 0 = s.count + 1 })
-  pub two : second.answer ≡ A.Appended (record { 0 = s.count + 2 })
-  pub replica : (m : Metric) → replica_in own m u ≡ append (append (replica_in own m s) a) b
-  pub fits : lent_fits u ≡ true
-
 module _ (own : ℕ) (s : Store) (f : lent_fits s ≡ true) (room : s.count ≤ 1022) where
-  -- no call is refused where there is space for both
-  pub both_appended : (x y : List ℕ) (a b : Op) (u : Store) → Edit x a → Edit y b → (t : InTurn x y own s u)
-      → BothAppended own s u a b t.first t.second
-  both_appended x y a b u p q t =
-      let k = appended x own s a p f (omega arith) t.between t.first t.called in
-      let c : Appends y own t.between u t.second =
-      subst (λ (e : ℕ). Appends y e t.between u t.second) k.epoch t.followed in
-      let j = appended y own t.between b q k.fits (omega (arith, k.count)) u t.second c in
-      let n : t.between.count + 1 ≡ s.count + 2 = omega (arith, k.count) in
-      record {
-        one = k.answer;
-        two = j.answer ∙ ap (λ (o : ℕ). A.Appended (record { 0 = o })) n;
-        replica = λ m. j.replica m ∙ ap (λ (r : ShardReplica). append r b) (k.replica m);
-        fits = j.fits;
-      }
-
   in_step : (m : Metric) → InStep (replica_in own m s)
   in_step m = store_in_step s (facts s (fits-well s f)) own m
 
@@ -63,8 +41,8 @@ module _ (own : ℕ) (s : Store) (f : lent_fits s ≡ true) (room : s.count ≤ 
     module _ (t : InTurn x y own s u) (w : InTurn y x own s v) where
       pub same-vectors : (op_id a ≡ op_id b → ⊥) → read_vectors u ≡ read_vectors v
       same-vectors n =
-          let k = both_appended x y a b u p q t in
-          let j = both_appended y x b a v q p w in
+          let k = both_appended own s f room x y a b u p q t in
+          let j = both_appended own s f room y x b a v q p w in
           sym (vectors_of_lem u) ∙ ap (λ (z : ShardReplica). z.vectors) (k.replica Euclidean)
           ∙ swap_appends r a b (in_step Euclidean) n
           ∙ sym (ap (λ (z : ShardReplica). z.vectors) (j.replica Euclidean)) ∙ vectors_of_lem v
@@ -72,8 +50,8 @@ module _ (own : ℕ) (s : Store) (f : lent_fits s ≡ true) (room : s.count ≤ 
       -- the logs that the stores are read with differ whenever the edits do
       pub other-logs : (a ≡ b → ⊥) → store_log u ≡ store_log v → ⊥
       other-logs n e =
-          let k = both_appended x y a b u p q t in
-          let j = both_appended y x b a v q p w in
+          let k = both_appended own s f room x y a b u p q t in
+          let j = both_appended own s f room y x b a v q p w in
           appends_differ r a b n
           (sym (ap (λ (z : ShardReplica). z.log) (k.replica Euclidean)) ∙ log_of_lem u ∙ e ∙ sym (log_of_lem v)
           ∙ ap (λ (z : ShardReplica). z.log) (j.replica Euclidean))
@@ -85,10 +63,10 @@ module _ (own : ℕ) (s : Store) (f : lent_fits s ≡ true) (room : s.count ≤ 
 
       pub later_vectors : read_vectors u ≡ read_vectors v
       later_vectors =
-          let k = both_appended x y a b u p q t in
+          let k = both_appended own s f room x y a b u p q t in
           sym (vectors_of_lem u) ∙ ap (λ (z : ShardReplica). z.vectors) (k.replica Euclidean)
           ∙ later_append r a b (in_step Euclidean) same
           ∙ sym (ap (λ (z : ShardReplica). z.vectors) (alone.replica Euclidean)) ∙ vectors_of_lem v
 
       pub later_searches : SearchedAlike u v
-      later_searches = searched_alike u v ((both_appended x y a b u p q t).fits ∙ sym alone.fits) later_vectors
+      later_searches = searched_alike u v ((both_appended own s f room x y a b u p q t).fits ∙ sym alone.fits) later_vectors

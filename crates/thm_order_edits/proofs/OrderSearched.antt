@@ -9,7 +9,8 @@ use Rattle.spec_laws.proofs.Log.Edits.{op_id}
 use Rattle.log_store.specs.Store.{Store}
 use Rattle.log_calls.specs.Fits.{lent_fits}
 use Rattle.thm_order_edits.specs.Edits.{Edit, InTurn, SearchedAlike}
-use Rattle.thm_order_edits.proofs.Order.{both_appended, same-vectors}
+use Rattle.thm_order_edits.proofs.BothAccepted.{both_appended}
+use Rattle.thm_order_edits.proofs.Order.{same-vectors}
 use Rattle.thm_order_edits.proofs.Searches.{searched_alike}
 
 module _ (own : ℕ) (s : Store) (f : lent_fits s ≡ true) (room : s.count ≤ 1022) where
