@@ -1,4 +1,0 @@
-pub mod Count
-pub mod Hits
-pub mod Found
-pub mod Ends

@@ -1,4 +1,0 @@
-pub mod Serves
-pub mod States
-pub mod Messages
-pub mod Ways

@@ -1,3 +1,0 @@
-pub mod HitLaws
-pub mod HeldLaws
-pub mod Message

@@ -1,4 +1,0 @@
-pub mod FreshLaws
-pub mod ShowLaws
-pub mod Quiet
-pub mod Change

@@ -1,4 +1,0 @@
-pub mod Leave
-pub mod Peers
-pub mod Row
-pub mod Set

@@ -1,4 +1,0 @@
-pub mod RowLaws
-pub mod WalkLaws
-pub mod SlotLaws
-pub mod PutLaws

@@ -1,5 +1,0 @@
-pub mod CodeLaws
-pub mod AnswerLaws
-pub mod Some
-pub mod Found
-pub mod Steps

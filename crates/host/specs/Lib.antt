@@ -1,3 +1,0 @@
-pub mod Version
-
--- The version of the entry points for C.

@@ -1,6 +1,0 @@
-pub mod Ids
-pub mod SumLaws
-pub mod Room
-pub mod TestLaws
-pub mod SixLaws
-pub mod Answer

@@ -1,3 +1,0 @@
-pub mod GrowLaws
-pub mod Ops
-pub mod Kept

@@ -1,3 +1,0 @@
-pub mod FourLaws
-pub mod ColumnLaws
-pub mod Store

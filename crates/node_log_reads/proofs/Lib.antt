@@ -1,4 +1,0 @@
-pub mod Rows
-pub mod VectorLaws
-pub mod EndLaws
-pub mod EntryLaws

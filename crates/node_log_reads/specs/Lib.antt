@@ -1,3 +1,0 @@
-pub mod Vectors
-pub mod Ends
-pub mod Entries

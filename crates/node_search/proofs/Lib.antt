@@ -1,4 +1,0 @@
-pub mod QueryLaws
-pub mod Named
-pub mod Held
-pub mod Searches

@@ -1,3 +1,0 @@
-pub mod Cluster
-pub mod Calls
-pub mod Start
