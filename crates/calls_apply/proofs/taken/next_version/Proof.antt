@@ -1,0 +1,50 @@
+-- `taken::next_version` meets its contract. Assumes nothing.
+use borrow.Author.Rules.{rules}
+use native.Mathlib.Omega.{arith}
+use mathlib.Core.Path.{◌≡◌, refl, sym, ◌∙◌, ap}
+use mathlib.Core.List.{List, [], ◌∷◌, ◌++◌}
+use Prim.Native.Nat.{ℕ, ◌+◌, ◌-◌, ◌*◌, ◌≤◌, ◌<◌}
+use lib.ListN.{length, get_or, take, drop, set}
+use mathlib.Core.Bool.{Bool, cond}
+use Rattle.map_apply.proofs.Command.{not_bench, sets-by}
+use Rattle.calls_apply.proofs.taken.next_version.Statement.{statement}
+use Rattle.calls_apply.proofs.taken.next_version.Tie as tie
+
+enum_told : tie.Need-enum-told
+enum_told c = search rules
+
+enum-told-2 : tie.Need-enum-told-2
+enum-told-2 c = search rules
+
+enum-told-3 : tie.Need-enum-told-3
+enum-told-3 c = search rules
+
+enum-told-4 : tie.Need-enum-told-4
+enum-told-4 c = search rules
+
+enum-told-5 : tie.Need-enum-told-5
+enum-told-5 c = search rules
+
+enum-told-6 : tie.Need-enum-told-6
+enum-told-6 c = search rules
+
+returns : tie.Need-returns
+returns c = sym (ap (λ (b : Bool). cond b c.before.before.args.r.index c.before.before.args.version) (sets-by c.before.before.args.r c.before.before.args.r.command ∙ ap not_bench c.enum_told.given.1))
+
+returns-2 : tie.Need-returns-2
+returns-2 c = sym (ap (λ (b : Bool). cond b c.before.before.args.r.index c.before.before.args.version) (sets-by c.before.before.args.r c.before.before.args.r.command ∙ ap not_bench c.enum-told2.given.1))
+
+returns-3 : tie.Need-returns-3
+returns-3 c = sym (ap (λ (b : Bool). cond b c.before.before.args.r.index c.before.before.args.version) (sets-by c.before.before.args.r c.before.before.args.r.command ∙ ap not_bench c.enum-told3.given.1))
+
+returns-4 : tie.Need-returns-4
+returns-4 c = sym (ap (λ (b : Bool). cond b c.before.before.args.r.index c.before.before.args.version) (sets-by c.before.before.args.r c.before.before.args.r.command ∙ ap not_bench c.enum-told4.given.1))
+
+returns-5 : tie.Need-returns-5
+returns-5 c = sym (ap (λ (b : Bool). cond b c.before.before.args.r.index c.before.before.args.version) (sets-by c.before.before.args.r c.before.before.args.r.command ∙ ap not_bench c.enum-told5.given.1))
+
+returns-6 : tie.Need-returns-6
+returns-6 c = sym (ap (λ (b : Bool). cond b c.before.before.args.r.index c.before.before.args.version) (sets-by c.before.before.args.r c.before.before.args.r.command ∙ ap not_bench c.enum-told6.given.1))
+
+pub next-version-spec : {M : Type 1} → statement M
+next-version-spec = tie.close (tie.spec enum_told enum-told-2 enum-told-3 enum-told-4 enum-told-5 enum-told-6 returns returns-2 returns-3 returns-4 returns-5 returns-6)

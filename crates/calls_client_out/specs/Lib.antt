@@ -1,0 +1,4 @@
+pub mod Count
+pub mod Hits
+pub mod Found
+pub mod Ends

@@ -1,0 +1,2 @@
+pub mod BatchLaws
+pub mod CopyLaws

@@ -1,0 +1,3 @@
+pub mod Places
+pub mod DecidedLaws
+pub mod CommandLaws

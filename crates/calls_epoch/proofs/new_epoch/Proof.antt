@@ -1,0 +1,43 @@
+-- `new_epoch` meets its contract. Assumes nothing.
+use borrow.Author.Rules.{rules}
+use native.Mathlib.Omega.{arith}
+use mathlib.Core.Path.{◌≡◌, refl, sym, ◌∙◌, ap}
+use mathlib.Core.List.{List, [], ◌∷◌, ◌++◌}
+use Prim.Native.Nat.{ℕ, ◌+◌, ◌-◌, ◌*◌, ◌≤◌, ◌<◌}
+use lib.ListN.{length, get_or, take, drop, set}
+use types.Run.{miss}
+use Rattle.node_epoch.proofs.Named.{new_epoch_key_there, new_epoch_missed}
+use Rattle.calls_peer.proofs.Serves.{unread}
+use Rattle.calls_peer.proofs.Messages.{new_epoch_inside}
+use Rattle.calls_epoch.proofs.new_epoch.Statement.{statement}
+use Rattle.calls_epoch.proofs.new_epoch.Tie as tie
+
+decode-requires : tie.Need-decode-requires
+decode-requires c κs = search rules
+
+enum-known-p : tie.Need-enum-known-p
+enum-known-p c = search rules
+
+returns : tie.Need-returns
+returns c = unread _ _ _ _ _ _ _ (new_epoch_missed c.before.before.before.before.before.before.args.message.now (λ q e. let shown = c.before.decode.ensures ∙ e in miss (0 ∷ 1 ∷ 2 ∷ 4 ∷ 5 ∷ 6 ∷ 7 ∷ 8 ∷ 9 ∷ 10 ∷ []) 3 tt (rw shown at c.match.keys2)))
+
+key-of-requires : tie.Need-key-of-requires
+key-of-requires c κs = new_epoch_key_there c.before.before.before.before.before.before.before.before.before.args.message.now _ (sym c.before.before.before.before.decode.ensures ∙ c.before.before.p.given.1)
+
+at-shard-requires : tie.Need-at-shard-requires
+at-shard-requires c κs = record { read = sym c.before.before.before.before.before.before.before.before.decode.ensures ∙ c.before.before.before.before.before.before.p.given.1; named = c.before.before.before.key_of.ensures }
+
+same_length : tie.Need-same-length
+same_length c = search rules
+
+same-length-2 : tie.Need-same-length-2
+same-length-2 c = search rules
+
+same-length-3 : tie.Need-same-length-3
+same-length-3 c = search rules
+
+returns-2 : tie.Need-returns-2
+returns-2 c = new_epoch_inside c.before.before.before.before.before.before.before.before.before.before.before.before.before.before.before.before.before.before.before.before.args.message.now _ (sym c.before.before.before.before.before.before.before.before.before.before.before.before.before.before.before.decode.ensures ∙ c.before.before.before.before.before.before.before.before.before.before.before.before.before.p.given.1) _ _ c.before.before.before.before.before.before.before.before.before.before.key_of.ensures _ _ c.before.before.before.before.before.before.at-shard.ensures
+
+pub new-epoch-spec : {M : Type 1} → statement M
+new-epoch-spec = tie.close (tie.spec decode-requires enum-known-p returns key-of-requires at-shard-requires same_length same-length-2 same-length-3 returns-2)

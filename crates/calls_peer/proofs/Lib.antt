@@ -1,0 +1,4 @@
+pub mod Serves
+pub mod States
+pub mod Messages
+pub mod Ways

@@ -1,0 +1,25 @@
+// What follows a primary's call over the images that a host owns (docs/IMAGES.md): the reply and the state are written, or nothing is.
+// Internal: what `calls_replicate`, `calls_copy` and `calls_epoch` share.
+ghost use Rattle.calls_peer_out.specs.Ends.{Replies};
+
+use wire_write::Reply;
+use wire_write::message::write_reply;
+
+// What a call's answer asks for. A refusal, or a reply: beside a state that stays as it was, or one that the call made.
+#[derive(Drop)]
+pub enum Outcome {
+    Refused(u8),
+    Kept(Reply),
+    Changed(Reply),
+}
+
+// Internal: the reply, or 23 without room for its nine bytes.
+pub fn put_reply(reply: &mut [u8], w: Reply) -> u32
+    ensures { Replies w reply.old reply.new result }
+{
+    if reply.len() < 9 {
+        return 23;
+    }
+    let _wrote = write_reply(reply, w);
+    0
+}

@@ -1,0 +1,28 @@
+// Replicate over the images that a host owns, in place (paper 01, 'Who is turned down', 20; docs/IMAGES.md): header and store are tested and
+// changed where they stand. All that can turn it down, a reply without room included, is decided before a byte is written.
+ghost use Rattle.calls_peer.specs.PeerCalls.{ReplicatesImage, buffers};
+
+use crate::held::at_shard;
+use log_arrive::domain::op_in_domain;
+use map_names::key_of;
+use wire_read::{Message, decode};
+
+mod held;
+
+// 21, 22, 24, 23; otherwise 0, and the reply, 30 to 32, stands in its buffer.
+pub fn replicate(header: &mut [u8], stores: &mut [u8], message: &[u8], reply: &mut [u8]) -> u32
+    ensures { ReplicatesImage message.now
+        (buffers header.old stores.old reply.old)
+        (buffers header.new stores.new reply.new) result }
+{
+    let Message::Replicate(p) = decode(message) else {
+        return 21;
+    };
+    let op = p.op;
+    if !op_in_domain(message, op) {
+        return 22;
+    }
+    let part = p.key;
+    let key = key_of(message, part);
+    at_shard(header, stores, key, message, p, reply)
+}

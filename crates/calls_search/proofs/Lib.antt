@@ -1,0 +1,3 @@
+pub mod HitLaws
+pub mod HeldLaws
+pub mod Message

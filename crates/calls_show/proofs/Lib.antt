@@ -1,0 +1,4 @@
+pub mod FreshLaws
+pub mod ShowLaws
+pub mod Quiet
+pub mod Change

@@ -1,0 +1,36 @@
+-- `show::ignore` meets its contract. Assumes nothing.
+use borrow.Author.Rules.{rules}
+use native.Mathlib.Omega.{arith}
+use mathlib.Core.Path.{◌≡◌, refl, sym, ◌∙◌, ap}
+use mathlib.Core.List.{List, [], ◌∷◌, ◌++◌}
+use Prim.Native.Nat.{ℕ, ◌+◌, ◌-◌, ◌*◌, ◌≤◌, ◌<◌}
+use lib.ListN.{length, get_or, take, drop, set}
+use borrow.Author.Tests.{not-true, not-false}
+use Rattle.image_header.specs.Image.{node_at}
+use Rattle.calls_show.proofs.ShowLaws.{none-short, none-put}
+use Rattle.calls_show.proofs.show.ignore.Statement.{statement}
+use Rattle.calls_show.proofs.show.ignore.Tie as tie
+
+put-number-requires : tie.Need-put-number-requires
+put-number-requires c κs = search rules
+
+same_length : tie.Need-same-length
+same_length c = search rules
+
+returns : tie.Need-returns
+returns c = none-short c.before.before.before.before.before.before.before.args.header.now c.before.before.before.before.before.before.before.args.answer.now _ (node_at c.before.before.before.before.before.before.before.args.header.now) c.before.before.before.put-number.ensures.1 (sym c.before.before.before.put-number.ensures.0 ∙ not-true _ c.if1.true)
+
+put-back-requires : tie.Need-put-back-requires
+put-back-requires c κs = c.before.before.before.before.before.before.before.before.requires
+
+same-length-2 : tie.Need-same-length-2
+same-length-2 c = search rules
+
+same-length-3 : tie.Need-same-length-3
+same-length-3 c = search rules
+
+returns-2 : tie.Need-returns-2
+returns-2 c = none-put c.before.before.before.before.before.before.before.before.before.before.before.args.header.now c.before.before.before.before.before.before.before.before.before.before.before.args.answer.now _ (node_at c.before.before.before.before.before.before.before.before.before.before.before.args.header.now) c.before.before.before.before.before.before.before.put-number.ensures.1 (sym c.before.before.before.before.before.before.before.put-number.ensures.0 ∙ not-false _ c.before.before.before.before.if1.false) _ c.before.before.put_back.ensures
+
+pub ignore-spec : {M : Type 1} → statement M
+ignore-spec = tie.close (tie.spec put-number-requires same_length returns put-back-requires same-length-2 same-length-3 returns-2)

@@ -1,0 +1,4 @@
+pub mod Leave
+pub mod Peers
+pub mod Row
+pub mod Set

@@ -1,0 +1,4 @@
+pub mod RowLaws
+pub mod WalkLaws
+pub mod SlotLaws
+pub mod PutLaws

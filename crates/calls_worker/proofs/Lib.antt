@@ -1,0 +1,5 @@
+pub mod CodeLaws
+pub mod AnswerLaws
+pub mod Some
+pub mod Found
+pub mod Steps

@@ -1,0 +1,3 @@
+pub mod Version
+
+-- The version of the entry points for C.

@@ -1,0 +1,9 @@
+// The version of the library, as include/catalogue.h has it: a host holds it against its header.
+ghost use Rattle.std.specs.Prelude.{◌≡◌};
+ghost use Rattle.host.specs.Version.{version_number};
+
+pub fn catalogue_version() -> u32
+    ensures { result ≡ version_number }
+{
+    3000
+}

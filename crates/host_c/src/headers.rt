@@ -1,0 +1,85 @@
+// What the map, the clock and peers bring to a node's header.
+ghost use Rattle.calls_header.specs.Acks.{Acks};
+ghost use Rattle.calls_header.specs.Fresh.{Freshens};
+ghost use Rattle.calls_header.specs.Grants.{Grants};
+ghost use Rattle.calls_header.specs.Outcomes.{Outcomes};
+ghost use Rattle.calls_header.specs.Shows.{Shows};
+ghost use Rattle.calls_header.specs.Waits.{Waits};
+
+#[unsafe(no_mangle)]
+pub extern "C" fn catalogue_fresh_node(header: &mut [u8], id: u64, incarnation: u64) -> u32
+    ensures { Freshens header.old header.new id incarnation result }
+{
+    host::headers::catalogue_fresh_node(header, id, incarnation)
+}
+
+#[unsafe(no_mangle)]
+pub extern "C" fn catalogue_show_map(
+    header: &mut [u8],
+    map: &[u8],
+    fresh: u64,
+    starts: &mut [u8],
+    answer: &mut [u8],
+) -> u32
+    ensures { Shows header.old header.new map.now starts.old starts.new
+        answer.old answer.new fresh result }
+{
+    host::headers::catalogue_show_map(header, map, fresh, starts, answer)
+}
+
+#[unsafe(no_mangle)]
+pub extern "C" fn catalogue_grant(header: &mut [u8], incarnation: u64, sent: u64, lease: u64) -> u32
+    ensures { Grants header.old header.new incarnation sent lease result }
+{
+    host::headers::catalogue_grant(header, incarnation, sent, lease)
+}
+
+#[unsafe(no_mangle)]
+pub extern "C" fn catalogue_wait(
+    header: &mut [u8],
+    name: &[u8],
+    shard: u32,
+    epoch: u64,
+    offset: u64,
+    clock: u64,
+    timeout: u64,
+    peers: &mut [u8],
+    answer: &mut [u8],
+) -> u32
+    ensures { Waits header.old header.new peers.old peers.new
+        answer.old answer.new name.now shard epoch offset clock timeout result }
+{
+    host::headers::catalogue_wait(
+        header, name, shard, epoch, offset, clock, timeout, peers, answer,
+    )
+}
+
+#[unsafe(no_mangle)]
+pub extern "C" fn catalogue_ack(
+    header: &mut [u8],
+    name: &[u8],
+    shard: u32,
+    epoch: u64,
+    peer: u64,
+    step: u8,
+    reply: &[u8],
+) -> u32
+    ensures { Acks header.old header.new name.now reply.now shard epoch peer step result }
+{
+    host::headers::catalogue_ack(header, name, shard, epoch, peer, step, reply)
+}
+
+#[unsafe(no_mangle)]
+pub extern "C" fn catalogue_outcome(
+    header: &mut [u8],
+    name: &[u8],
+    shard: u32,
+    epoch: u64,
+    peer: u64,
+    command: u8,
+    applied: u8,
+) -> u32
+    ensures { Outcomes header.old header.new name.now shard epoch peer command applied result }
+{
+    host::headers::catalogue_outcome(header, name, shard, epoch, peer, command, applied)
+}

@@ -1,0 +1,14 @@
+// Which projector matters (paper 02, 2.9).
+ghost use Rattle.calls_losses.specs.Calls.{Loses};
+
+#[unsafe(no_mangle)]
+pub extern "C" fn catalogue_place_losses(
+    map: &[u8],
+    name: &[u8],
+    list: &mut [u8],
+    answer: &mut [u8],
+) -> u32
+    ensures { Loses map.now name.now list.old list.new answer.old answer.new result }
+{
+    host::losses::catalogue_place_losses(map, name, list, answer)
+}

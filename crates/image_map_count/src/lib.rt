@@ -1,0 +1,89 @@
+// How many placements Create accepts, and how many end in each of 2, 3, 4, 5 and 23 (paper 02, 2.14), by sums of powers: no placement is walked. The
+// map is tested and searched in its bytes.
+// What is counted is spec_count's Counts; that the sums are the counts, its proofs/Closed. What an answer says stands in specs/Answers.antt.
+ghost use Rattle.std.specs.Prelude.{◌≡◌, ◌≤◌, length};
+ghost use Rattle.image_map.specs.Image.{map_at};
+ghost use Rattle.image_map_count.specs.Answers.{counting_of, count_lent};
+
+use crate::given::too_wide;
+use crate::six::{no_counts, six_of};
+use crate::sums::geometric;
+use image_map_check::formed::is_formed;
+use map_tables::{Name, Spec};
+
+mod given;
+mod six;
+mod sums;
+mod tests;
+
+// The ids that nodes are drawn from: the first `count`; the rest is free.
+#[derive(Clone, Copy)]
+pub struct IdSet {
+    pub items: [u64; 4],
+    pub count: usize,
+}
+
+// 1 + b + .. + bⁿ and its last term, where the sum is within 64 bits; where it is not, both are free.
+#[derive(Clone, Copy)]
+pub struct Summed {
+    pub fits: bool,
+    pub sum: u64,
+    pub last: u64,
+}
+
+// How `count_placements` ends: six counts, 35, 36, or 24.
+#[derive(Clone, Copy)]
+pub enum Ending {
+    Counted,
+    Beyond,
+    TooWide,
+    Malformed,
+}
+
+// Accepted, 2, 3, 4, 5, 23. Unless `how` is `Counted`, all are 0.
+#[derive(Clone, Copy)]
+pub struct Counting {
+    pub how: Ending,
+    pub six: [u64; 6],
+}
+
+fn uncounted(how: Ending) -> Counting
+    ensures { result.how ≡ how }
+{
+    let none = no_counts();
+    Counting {
+        how: how,
+        six: none,
+    }
+}
+
+// 24, 36, 35, then the counts.
+pub fn count_placements(
+    map: &[u8],
+    name: Name,
+    spec: Spec,
+    ids: IdSet,
+    lists: u32,
+    nodes: u32,
+) -> Counting
+    requires { 26536 ≤ length map.now }
+    ensures { counting_of result ≡ count_lent (map_at map.now) name spec ids lists nodes }
+{
+    if !is_formed(map) {
+        return uncounted(Ending::Malformed);
+    }
+    if too_wide(ids, lists, nodes) {
+        return uncounted(Ending::TooWide);
+    }
+    let given = ids.count as u64;
+    let each = geometric(given, nodes);
+    let total = geometric(each.sum, lists);
+    if !total.fits {
+        return uncounted(Ending::Beyond);
+    }
+    let six = six_of(map, name, spec, ids, lists, nodes, total.sum);
+    Counting {
+        how: Ending::Counted,
+        six: six,
+    }
+}

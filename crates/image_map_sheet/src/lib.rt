@@ -1,0 +1,105 @@
+// The load sheet (paper 02, 2.4): how many replica records name each node of a map, how many name a node that the map does not know, and how many
+// there are, counted in the bytes of the map's image. What an answer says stands in specs/Answers.antt.
+ghost use Rattle.std.specs.Prelude.{◌≡◌};
+ghost use Rattle.spec.specs.Refusals.{malformed};
+ghost use Rattle.spec_sheet.specs.Sheet.{sheet_of};
+ghost use Rattle.map_tables.specs.View.{view_map};
+ghost use Rattle.image_map.specs.Image.{map_at};
+ghost use Rattle.image_map_loads.specs.Loads.{Used};
+ghost use Rattle.image_map_sheet.specs.Answers.{SheetAs, answer_of, not_made, sheet_lent};
+
+use crate::lines::{lines, no_lines};
+use crate::shards::{records_in, unknown_in};
+use image_map_check::formed::is_formed;
+use image_map_check::layout::{NODES_USED, SHARDS_USED};
+use image_map_check::lent::is_lent;
+use map_tables::Refusal;
+use spec::DataNodeId;
+
+mod holders;
+mod lines;
+mod shards;
+
+// A node's line.
+#[derive(Clone, Copy)]
+pub struct Load {
+    pub node: DataNodeId,
+    pub count: u64,
+}
+
+// The lines in use are the first `count`, by rising id; the rest is free.
+#[derive(Clone, Copy)]
+pub struct Loads {
+    pub items: [Load; 32],
+    pub count: usize,
+}
+
+#[derive(Clone, Copy)]
+pub struct SheetOf {
+    pub lines: Loads,
+    pub unknown: u64,
+    pub total: u64,
+}
+
+// How `sheet` ends: a sheet, or 24.
+#[derive(Clone, Copy)]
+pub enum Sheeting {
+    Made,
+    Refused(Refusal),
+}
+
+// Unless `how` is `Made`, the sheet is empty.
+#[derive(Clone, Copy)]
+pub struct SheetAnswer {
+    pub how: Sheeting,
+    pub sheet: SheetOf,
+}
+
+// Internal: of a map that passed the 24 test.
+pub fn sheet_of(map: &[u8]) -> SheetOf
+    requires { Used map.now }
+    ensures { SheetAs (sheet_of (view_map (map_at map.now))) result }
+{
+    let nodes = num::get8(map, NODES_USED) as usize;
+    let shards = num::get8(map, SHARDS_USED) as usize;
+    let lines = lines(map, nodes, shards);
+    let unknown = unknown_in(map, nodes, shards);
+    let total = records_in(map, shards);
+    SheetOf {
+        lines: lines,
+        unknown: unknown,
+        total: total,
+    }
+}
+
+fn refused() -> SheetAnswer
+    ensures { answer_of result ≡ not_made malformed }
+{
+    let none = no_lines();
+    let empty = SheetOf {
+        lines: none,
+        unknown: 0,
+        total: 0,
+    };
+    SheetAnswer {
+        how: Sheeting::Refused(Refusal::Malformed),
+        sheet: empty,
+    }
+}
+
+// 24 for a buffer that lends no map, and for a malformed map.
+pub fn sheet(map: &[u8]) -> SheetAnswer
+    ensures { answer_of result ≡ sheet_lent map.now }
+{
+    if !is_lent(map) {
+        return refused();
+    }
+    if !is_formed(map) {
+        return refused();
+    }
+    let made = sheet_of(map);
+    SheetAnswer {
+        how: Sheeting::Made,
+        sheet: made,
+    }
+}

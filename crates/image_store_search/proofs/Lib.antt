@@ -1,0 +1,3 @@
+pub mod FourLaws
+pub mod ColumnLaws
+pub mod Store

@@ -1,0 +1,4 @@
+pub mod Rows
+pub mod VectorLaws
+pub mod EndLaws
+pub mod EntryLaws

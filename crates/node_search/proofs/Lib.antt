@@ -1,0 +1,4 @@
+pub mod QueryLaws
+pub mod Named
+pub mod Held
+pub mod Searches

@@ -1,0 +1,14 @@
+pub mod Simulated
+pub mod Seen
+pub mod Ways
+pub mod Lent
+pub mod Tested
+pub mod OnMap
+pub mod OnNode
+pub mod OnArrivals
+pub mod OnClients
+pub mod OnWorkers
+pub mod Durable
+pub mod Start
+pub mod Instance
+pub mod Late

@@ -1,0 +1,3 @@
+pub mod Engine
+pub mod Calls
+pub mod Start

@@ -1,0 +1,15 @@
+pub mod Stores
+pub mod Pairs
+pub mod Lent
+pub mod Keeps
+pub mod Changes
+pub mod Refused
+pub mod OnShard
+pub mod OnHeader
+pub mod AfterMap
+pub mod OnMap
+pub mod OnPeers
+pub mod OnClients
+pub mod OnWorkers
+pub mod Intact
+pub mod Instance

@@ -1,0 +1,12 @@
+pub mod Zeros
+pub mod Map
+pub mod Headers
+pub mod Fits
+pub mod New
+pub mod Shown
+pub mod Grant
+pub mod Columns
+pub mod Write
+pub mod Stored
+pub mod WriteImages
+pub mod Wait

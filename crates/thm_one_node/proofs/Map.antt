@@ -1,0 +1,83 @@
+-- The map's image: it lends a well-formed map, and is read as one that Create leaves, of one shard that node 1 holds. Assumes nothing.
+use Prim.Native.Nat.{ℕ, ◌<◌}
+use native.Mathlib.Omega.{arith}
+use mathlib.Core.Path.{◌≡◌, refl, sym, subst}
+use mathlib.Core.Bool.{true, false}
+use mathlib.Core.List.{List, [], ◌∷◌}
+use mathlib.Core.Option.{some}
+use borrow.Author.Tests.{ne_eqb}
+use Rattle.spec.specs.Lists.{any}
+use Rattle.spec.specs.Keys.{Key}
+use Rattle.spec.specs.Map.Tables.{Map, NodeInfo, ShardInfo}
+use Rattle.spec.specs.Map.Change.{holds}
+use Rattle.spec.specs.declared.Replica.{Replica}
+use Rattle.spec.specs.declared.Metric.TheVariants.{Euclidean}
+use Rattle.spec_run.specs.Fresh.{Created}
+use Rattle.spec_run.proofs.Cases.Opened.{opened}
+use Rattle.map_tables.specs.View.{view_map}
+use Rattle.map_check.specs.Lent.{table_counted, counted, well_formed_lent}
+use Rattle.image_parts.specs.Shape as shape
+use Rattle.image_map_row.specs.Rows as rows
+use Rattle.image_map.specs.Image as image
+use Rattle.image_map.specs.Image.{map_at, map_lent}
+use Rattle.thm_one_node.specs.Images.{map_bytes}
+
+abbrev pub key : Key
+key = record { collection = 0x73 ∷ []; shard = 0 }
+
+abbrev pub copies : List Replica
+copies = record { node = record { 0 = 1 }; incarnation = 4 } ∷ []
+
+abbrev pub info : ShardInfo
+info = record { key = key; replicas = copies; primary = some 1; insync = record { 0 = 1 } ∷ []; epoch = 1 }
+
+abbrev alive : NodeInfo
+alive = record { node = 1; address = []; incarnation = 4; alive = true }
+
+-- what it is read as
+abbrev pub map : Map
+map = record {
+  version = 1;
+  nodes = alive ∷ [];
+  collections = record { name = 0x73 ∷ []; spec = record { dimension = 1; metric = Euclidean; shards = 1; replication = 1 } } ∷ [];
+  shards = info ∷ [];
+  sessions = [];
+}
+
+pub map_read : view_map (map_at map_bytes) ≡ map
+unfolding map_bytes map_at shape.rows_at rows.node_at rows.collection_at rows.shard_at rows.session_at
+map_read = refl
+
+pub map-lent : map_lent map_bytes ≡ true
+unfolding opened map_bytes map_lent image.codes_listed
+map-lent = refl
+
+pub tested : well_formed_lent (map_at map_bytes) ≡ true
+unfolding opened map_bytes map_at shape.rows_at rows.node_at rows.collection_at rows.shard_at rows.session_at well_formed_lent counted table_counted
+tested = refl
+
+is-created : Created map info
+unfolding opened
+is-created = record {
+  well_formed = refl;
+  only = refl;
+  key = ((omega arith, refl), omega arith);
+  metric = (Euclidean, refl);
+  distinct = (refl, tt);
+  live = ((alive, refl, refl, refl), omega arith, tt);
+  first = (_, refl, refl);
+  everyone = λ n. refl;
+  epoch = refl;
+}
+
+pub created : Created (view_map (map_at map_bytes)) info
+created = subst (λ (m : Map). Created m info) (sym map_read) is-created
+
+-- node 1 is the only holder
+pub none_zero : holds 0 copies ≡ false
+unfolding holds any
+none_zero = refl
+
+pub none_above : (n : ℕ) → 1 < n → holds n copies ≡ false
+unfolding holds any
+none_above n h = rw (ne_eqb 1 n (λ q. absurd (omega arith)))

@@ -1,0 +1,14 @@
+pub mod Map
+pub mod Headers
+pub mod Fits
+pub mod Put
+pub mod Shown
+pub mod Nodes
+pub mod Header
+pub mod Write
+pub mod Messages
+pub mod Steps
+pub mod Served
+pub mod Peers
+pub mod Start
+pub mod Run
