@@ -3,6 +3,7 @@ pub mod Search
 pub mod Turns
 pub mod Writes
 pub mod Order
+pub mod NotFull
 pub mod Calls
 pub mod Instance
 pub mod Searched

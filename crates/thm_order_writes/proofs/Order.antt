@@ -17,7 +17,7 @@ use Rattle.spec_laws.proofs.Log.Edits.{op_id}
 use Rattle.node_header.proofs.Lists.{by_case}
 use Rattle.node_write.specs.declared.WriteReply.{WriteReply}
 use Rattle.node_write.specs.declared.WriteReply.TheVariants as R
-use Rattle.node_write.specs.ClientWrites.{write_word, number_in}
+use Rattle.node_write.specs.ClientWrites.{write_word}
 use Rattle.node_search.specs.Searches.{SearchAnswered, word, filled}
 use Rattle.thm_durable.specs.Engine.{stores_of}
 use Rattle.thm_durable.proofs.Seen.{stores_lend}
@@ -29,7 +29,7 @@ use Rattle.thm_order_writes.proofs.Writes.{taken, checked}
 use Rattle.thm_order_writes.proofs.Turns as turns
 use Rattle.thm_order_writes.proofs.Turns.{Both, alike_vectors, swapped, later, differ, next}
 
-abbrev accepted : ℕ → WriteReply
+abbrev pub accepted : ℕ → WriteReply
 accepted o = R.Accepted (record { 0 = o })
 
 -- nodes that are the same but for logs, by the contract of Search
@@ -100,11 +100,12 @@ module _ (u : Owned) (k : Key) (x y : List ℕ) (a b : Op) (e : Edit x k a) (f :
   abbrev n : held.Node
   n = node_of v
 
-  does-next : (client.on_write n d.clock d.least f.write.key f.write.epoch (stored_op f.write.op)).answer ≡ client.accepted (o₁ + 1)
-  does-next =
+  -- by the definition the second is accepted at the next offset
+  does-next : o₁ ≤ 1023 → (client.on_write n d.clock d.least f.write.key f.write.epoch (stored_op f.write.op)).answer ≡ client.accepted (o₁ + 1)
+  does-next room =
       ap (λ (j : Key). (client.on_write n d.clock d.least j f.write.epoch (stored_op f.write.op)).answer) f.key
       ∙ ap (λ (z : Op). (client.on_write n d.clock d.least k f.write.epoch z).answer) f.stored
-      ∙ next (node_of u) n (node_of w) _ _ d.clock d.least k _ f.write.epoch a b o₁ o₂ space (taken u c x k a e v o₁ p).appended
+      ∙ next (node_of u) n (node_of w) _ _ d.clock d.least k _ f.write.epoch a b o₁ o₂ room (taken u c x k a e v o₁ p).appended
       (taken u d y k b f w o₂ q).appended
 
   pub second-accepted : (z : Owned) (said : WriteReply) → Writes v d y z said → (said ≡ accepted (o₁ + 1)) ⊎ (said ≡ R.Refused 24)
@@ -114,12 +115,7 @@ module _ (u : Owned) (k : Key) (x y : List ℕ) (a b : Op) (e : Edit x k a) (f :
       (λ t. inl (writes.replied v d y z said s
       ∙ ap (λ (i : Result client.WriteAnswer held.Node). write_word i.answer)
       (with-lent (writes.lent v d y z said s) n d.clock d.least y f.write f.read fine t)
-      ∙ ap write_word does-next))
+      ∙ ap write_word (does-next space)))
       (λ t. inr (writes.replied v d y z said s
       ∙ ap (λ (i : Result client.WriteAnswer held.Node). write_word i.answer)
       (with_unlent (writes.lent v d y z said s) n d.clock d.least y f.write f.read fine t)))
-
-  pub not_full : (z : Owned) (said : WriteReply) → Writes v d y z said → said ≡ R.Refused 23 → ⊥
-  not_full z said s full =
-      ⊎_elim (λ t. let n : 23 ≡ 0 = ap number_in (sym full ∙ t) in omega arith)
-      (λ t. let n : 23 ≡ 24 = ap number_in (sym full ∙ t) in omega arith) (second-accepted z said s)
