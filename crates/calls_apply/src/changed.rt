@@ -20,8 +20,8 @@ use spec::Epoch;
 
 // The row at a place, after a change that it takes.
 fn changed_at(map: &[u8], hit: usize, c: Change) -> ShardRow
-    requires { Few map.now × (hit < 64) × Takes (rows.shardAt map.now (4008 + 272 * hit)) c }
-    ensures { (view_shard result ≡ changed (view_shard (rows.shardAt map.now (4008 + 272 * hit))) (change_of c)) × (Sized result) }
+    requires { Few map.now × (hit < 64) × Takes (rows.shard_at map.now (4008 + 272 * hit)) c }
+    ensures { (view_shard result ≡ changed (view_shard (rows.shard_at map.now (4008 + 272 * hit))) (change_of c)) × (Sized result) }
 {
     let row = shard_at(map, SHARDS + SHARD * hit);
     changed_row(row, c)

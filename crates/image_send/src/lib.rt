@@ -61,7 +61,7 @@ fn write_lone(
     i: usize,
 ) -> Request
     requires { Sends s.now base count × (i < count) × (length name.now ≤ 32) }
-    ensures { Requested (some (worker.loneOf (key_named name.now shard) epoch (entry_of (store_columns s.now base count) i)))
+    ensures { Requested (some (worker.lone_of (key_named name.now shard) epoch (entry_of (store_columns s.now base count) i)))
         out.old out.new result }
 {
     let size = 38 + entries_size(s, base, i, i + 1);
