@@ -1,5 +1,7 @@
 // What follows a primary's call over the images that a host owns (docs/IMAGES.md): the reply and the state are written, or nothing is.
 // Internal: what `calls_replicate`, `calls_copy` and `calls_epoch` share.
+#![tactic(auto)]
+
 ghost use Rattle.calls_peer_out.specs.Ends.{Replies};
 
 use wire_write::Reply;
