@@ -102,7 +102,7 @@ module _ (Call : Node → (a b : LentStore) → List ℕ → PeerAnswer → Type
         short brief =
             passed y w call b 23
             (record {
-              ends = ending.short b _ _ w.answer (outcome w.answer) refl v t 23 (ending.no_room v t brief) is (λ z. omega arith);
+              ends = ending.short b _ _ w.answer (outcome w.answer) refl v t 23 (ending.no_room_lem v t brief) is (λ z. omega arith);
               puts = λ j l. absurd (omega arith);
             })
 
