@@ -1,5 +1,7 @@
 // The first half of apply over a map's image (paper 01, 'The shard map', and 'Who is turned down'): a request is decided from the bytes of a map
 // that passed its test, and none is written. Crate calls_apply carries it out.
+#![tactic(auto)]
+
 use map_tables::Verdict;
 
 mod answers;
