@@ -1,6 +1,8 @@
 // What Search does at a node (paper 01, 'Who is turned down', Search; node.rs, search), said of a header and the columns of the store of the shard
 // that the message names, the lent output, and the count of refused calls. A search changes nothing of the node. Definitions and laws, and the
 // query as it stands in a message: no code has the rest by value.
+#![tactic(auto)]
+
 use spec::Epoch;
 
 pub mod query;
