@@ -1,5 +1,7 @@
 // The state that a call which names a shard is lent (paper 01, 'Who is turned down', 24): a header and eight stores as bytes, tested where they
 // stand. Internal: what the calls with a store begin with.
+#![tactic(auto)]
+
 ghost use Rattle.map_tables.specs.Names.{view_key};
 ghost use Rattle.image_node_check.specs.Find.{FindsIn};
 
