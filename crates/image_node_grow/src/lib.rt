@@ -1,5 +1,7 @@
 // What a call leaves of a held shard in place: its store one entry longer and the header that counts it, or the header alone, each row of it
 // in the one form. Internal: header and store have been tested.
+#![tactic(auto)]
+
 ghost use Rattle.std.specs.Prelude.{◌≡◌, true, ◌+◌, ◌≤◌, ◌<◌, length};
 ghost use Rattle.spec.specs.Node.Wire.{op_in_domain};
 ghost use Rattle.log_arrive.specs.Parts.{op_in, OpThere};
