@@ -1,5 +1,7 @@
 // Apply over a map's image, in place (paper 01, 'The shard map', and 'Who is turned down'): a request is decided from the bytes before any is
 // written (crate calls_decide), and what was decided is then carried out.
+#![tactic(auto)]
+
 ghost use Rattle.calls_map.specs.Calls.{AppliesTo};
 
 use crate::settled::settle;
