@@ -1,5 +1,7 @@
 // The vector table of a log made anew in the bytes of its store, as after a cut (paper 01, 'The log'; shard.rs, adopt). The entries are played
 // into two columns of its own and the rows put at the end, since what lies behind the rows stays as it was. Internal.
+#![tactic(auto)]
+
 ghost use Rattle.std.specs.Prelude.{◌≡◌, ◌≤◌, length};
 ghost use Rattle.log_store.specs.Table.{Tabled, rows_played};
 ghost use Rattle.image_store.specs.Read.{codes_in};
