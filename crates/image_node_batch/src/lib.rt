@@ -1,5 +1,7 @@
 // A batch of a message stored in a lent store, where it stands (paper 01, 'Who is turned down', CopyShard; node.rs, on_copy). Internal: the
 // message was read, its vectors lie in the domain, and the store has been tested.
+#![tactic(auto)]
+
 ghost use Rattle.std.specs.Prelude.{◌≡◌, true, map, ◌*◌, ◌≤◌, ◌<◌, length};
 ghost use Rattle.spec.specs.Lists.{every};
 ghost use Rattle.spec.specs.Node.Wire.{entry_in_domain, stored_entry};
