@@ -1,6 +1,8 @@
 // What a primary's worker sends (paper 01, 'The node', the worker's step; 'Rules of a run', Messages; node.rs, replicate_to), written from the
 // bytes of the store of one held shard into a lent output, whole or not at all. The store begins at `base` and has passed the test (24).
 // Internal.
+#![tactic(auto)]
+
 ghost use Rattle.std.specs.Prelude.{◌≡◌, ◌+◌, ◌-◌, ◌≤◌, ◌<◌, length};
 ghost use Rattle.std.proofs.Math.Option.{some};
 ghost use Rattle.spec.specs.Log.{epoch_ends, entries_from};
