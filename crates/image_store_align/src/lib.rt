@@ -1,5 +1,7 @@
 // How much of a log a NewEpoch keeps, from the bytes of the store and of the message (paper 01, 'The log'; shard.rs, adopt). Internal: the
 // message was read, and the store has been tested.
+#![tactic(auto)]
+
 ghost use Rattle.std.specs.Prelude.{◌≤◌};
 ghost use Rattle.log_store.specs.Align.{AgreesAt, KeptOf};
 ghost use Rattle.log_domain.specs.Parts.{table_in, TableThere};
