@@ -1,5 +1,7 @@
 // Apply in words as a host makes it (paper 02, 2.1): the map is a byte image that the host owns (docs/IMAGES.md), and it lends a buffer for
 // the text and 8 bytes for its length. What an answer says stands in specs/Calls.antt.
+#![tactic(auto)]
+
 ghost use Rattle.std.specs.Prelude.{◌≤◌, length};
 ghost use Rattle.calls_decide.specs.Decides.{Ready};
 ghost use Rattle.calls_apply_words.specs.Calls.{AppliesInWordsTo, Tells};
