@@ -1,5 +1,7 @@
 // The load sheet (paper 02, 2.4): how many replica records name each node of a map, how many name a node that the map does not know, and how many
 // there are, counted in the bytes of the map's image. What an answer says stands in specs/Answers.antt.
+#![tactic(auto)]
+
 ghost use Rattle.std.specs.Prelude.{◌≡◌};
 ghost use Rattle.spec.specs.Refusals.{malformed};
 ghost use Rattle.spec_sheet.specs.Sheet.{sheet_of};
@@ -28,13 +30,13 @@ pub struct Load {
 }
 
 // The lines in use are the first `count`, by rising id; the rest is free.
-#[derive(Clone, Copy)]
+#[derive(Drop)]
 pub struct Loads {
     pub items: [Load; 32],
     pub count: usize,
 }
 
-#[derive(Clone, Copy)]
+#[derive(Drop)]
 pub struct SheetOf {
     pub lines: Loads,
     pub unknown: u64,
@@ -42,14 +44,14 @@ pub struct SheetOf {
 }
 
 // How `sheet` ends: a sheet, or 24.
-#[derive(Clone, Copy)]
+#[derive(Drop)]
 pub enum Sheeting {
     Made,
     Refused(Refusal),
 }
 
 // Unless `how` is `Made`, the sheet is empty.
-#[derive(Clone, Copy)]
+#[derive(Drop)]
 pub struct SheetAnswer {
     pub how: Sheeting,
     pub sheet: SheetOf,
