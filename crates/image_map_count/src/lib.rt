@@ -1,6 +1,8 @@
 // How many placements Create accepts, and how many end in each of 2, 3, 4, 5 and 23 (paper 02, 2.14), by sums of powers: no placement is walked. The
 // map is tested and searched in its bytes.
 // What is counted is spec_count's Counts; that the sums are the counts, its proofs/Closed. What an answer says stands in specs/Answers.antt.
+#![tactic(auto)]
+
 ghost use Rattle.std.specs.Prelude.{◌≡◌, ◌≤◌, length};
 ghost use Rattle.image_map.specs.Image.{map_at};
 ghost use Rattle.image_map_count.specs.Answers.{counting_of, count_lent};
