@@ -1,5 +1,7 @@
 // The step of a worker, as a host in C asks for it (paper 01, 'The node'; node.rs, replicate_to): over the byte images of the header and of
 // the stores, which are only read, with an output for the request and one for the number beside the answer.
+#![tactic(auto)]
+
 ghost use Rattle.calls_worker.specs.Steps.{asking, outputs, StepsImage};
 
 use crate::codes::metric_of;
