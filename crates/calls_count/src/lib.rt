@@ -1,6 +1,8 @@
 // How many placements pass, as a host asks for it (paper 02, 2.14): the map is a byte image that is only read (docs/IMAGES.md), the ids are 8 bytes
 // each, and the six counts stand in one lent buffer. 21, 24, 36, 35, and 23 last, where the buffer is too short; a refused call leaves every byte.
 // What an answer says stands in specs/Calls.antt.
+#![tactic(auto)]
+
 ghost use Rattle.calls_count.specs.Calls.{spec_given, Tallies};
 
 use crate::answer::answer_counts;
