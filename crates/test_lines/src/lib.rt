@@ -8,7 +8,7 @@ pub mod print;
 pub mod words;
 
 // The word of a line.
-#[derive(Drop)]
+#[derive(Clone, Copy)]
 pub enum Word {
     Applied,
     Rejected,
@@ -16,7 +16,7 @@ pub enum Word {
 }
 
 // A line of the output.
-#[derive(Drop)]
+#[derive(Clone, Copy)]
 pub struct Line {
     pub index: u64,
     pub word: Word,
