@@ -1,5 +1,7 @@
 // Search over the images that a host owns, in the lent bytes (paper 01, 'Who is turned down', Search; docs/IMAGES.md): the message is decoded once,
 // the header and the store are tested where they stand, and the hits are written straight to the output. It asks nothing of its caller.
+#![tactic(auto)]
+
 ghost use Rattle.calls_client.specs.Searched.{SearchesImages, SearchesBytes};
 ghost use Rattle.calls_client_out.specs.Found.{ended};
 
