@@ -30,7 +30,7 @@ request_at epoch metric wait (some h) = none
 request_at epoch metric align (some h) = some (new_epoch_message (alignment h epoch metric))
 request_at epoch metric (send first count e) (some h) = sending h.key epoch (entries_from h.replica.log first count)
 
--- the request of the worker's step, as `Calls.callRequest` writes it
+-- the request of the worker's step, as `Calls.call_request` writes it
 unfoldable pub source_request : Node → (room : ℕ) → Key → (epoch peer : ℕ) → Metric → RequestAnswer
 source_request n room k epoch peer metric =
     cond (not (well_formed_lent n k)) (request_refused malformed)
@@ -56,6 +56,6 @@ abbrev pub align_of : Node → Option NewEpoch → Result BackupAnswer Node
 align_of n none = gives (backup_refused undecodable) n
 align_of n (some m) = cond (not (well_formed_lent n m.key)) (gives (backup_refused malformed) n) (align_at n m (held_shard n m.key))
 
--- NewEpoch, as `Calls.callNewEpoch` answers it
+-- NewEpoch, as `Calls.call_new_epoch` answers it
 unfoldable pub source_new_epoch : Node → List ℕ → Result BackupAnswer Node
 source_new_epoch n bytes = align_of n (decode_new_epoch bytes)

@@ -1,5 +1,5 @@
 -- A run that loses a write because a proposal comes under the seq of its node's last one: the map answers it from memory, as applied, and
--- shrinks nobody, while the node takes the peer out of its ack set. The rule that forbids it is `Rules.freshSeq`. Assumes nothing.
+-- shrinks nobody, while the node takes the peer out of its ack set. The rule that forbids it is `Rules.fresh_seq`. Assumes nothing.
 use mathlib.Core.Path.{refl}
 use mathlib.Core.List.{List, [], ◌∷◌, ◌++◌}
 use Rattle.spec_run.specs.State.{State}
