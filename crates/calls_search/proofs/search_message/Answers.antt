@@ -1,8 +1,6 @@
 use native.Mathlib.Omega.{arith}
 use mathlib.Core.Path.{refl, sym, ◌∙◌}
-use mathlib.Core.List.{[], ◌∷◌}
 use borrow.Author.Tests.{lt-ltb, le-ltb}
-use types.Run.{miss}
 use lib.Seq.{length-take-le}
 use Rattle.log_arrive.proofs.Messages.{search_there}
 use Rattle.image_header.specs.Image.{node_at}
