@@ -14,5 +14,14 @@ loop-left-smaller c = omega (arith, c.loop-left-test.true)
 
 pub loop-left-preserved : goal.loop-left-preserved
 loop-left-preserved c =
-    let l = c.loop-left in
-    (c.operation-n.auto.epochs ∙ l.invariant.0, c.append-d.auto.epochs ∙ l.invariant.1, c.append-d.auto.offsets.0 ∙ l.invariant.2, c.append-d.auto.offsets.1.0 ∙ l.invariant.3, c.append-d.auto.offsets.1.1.0 ∙ l.invariant.4, c.append-d.auto.offsets.1.1.1.0 ∙ l.invariant.5, c.append-d.auto.offsets.1.1.1.1.0 ∙ l.invariant.6, c.append-d.auto.offsets.1.1.1.1.1.0 ∙ l.invariant.7, c.append-d.auto.offsets.1.1.1.1.1.1.0 ∙ l.invariant.8)
+    let l = c.loop-left in (
+      c.operation-n.auto.message ∙ l.invariant.0,
+      c.append-d.auto.epochs ∙ l.invariant.1,
+      c.append-d.auto.offsets ∙ l.invariant.2,
+      c.append-d.auto.ids ∙ l.invariant.3,
+      c.append-d.auto.codes ∙ l.invariant.4,
+      c.append-d.auto.lengths ∙ l.invariant.5,
+      c.append-d.auto.floats ∙ l.invariant.6,
+      c.append-d.auto.keys ∙ l.invariant.7,
+      c.append-d.auto.places ∙ l.invariant.8,
+    )
