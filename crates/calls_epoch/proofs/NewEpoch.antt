@@ -182,7 +182,7 @@ module _ (h s t m : List ℕ) (k : Key) (bytes : Bytes s) (p : NewEpochPart) (q 
       unsent e =
           passed y (record { answer = P.Adopted o; node = v }) hk hp call b 23
           (record {
-            ends = ending.short b _ _ (P.Adopted o) (O.Changed (R.Adopted o)) refl (R.Adopted o) t 23 (ending.no_room (R.Adopted o) t e) refl (λ z. omega arith);
+            ends = ending.short b _ _ (P.Adopted o) (O.Changed (R.Adopted o)) refl (R.Adopted o) t 23 (ending.no_room_lem (R.Adopted o) t e) refl (λ z. omega arith);
             puts = λ j l. absurd (omega arith);
           })
 

@@ -1,5 +1,7 @@
 // NewEpoch over the images that a host owns, in place (paper 01, 'Who is turned down', 21; docs/IMAGES.md): header and store are tested and
 // changed where they stand. All that can turn it down, a reply without room included, is decided before a byte is written.
+#![tactic(auto)]
+
 ghost use Rattle.calls_peer.specs.PeerCalls.{NewEpochsImage, buffers};
 
 use crate::held::at_shard;
