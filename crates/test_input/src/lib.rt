@@ -1,6 +1,8 @@
 // What programs `applymap` (paper 01) and `loadsheet` (paper 02, 2.4) read alike: 01 requests that follow one another on standard input, each taken
 // by its own length and applied, until one does not decode or the input ends. An input of any length is read as it goes: what is left of the bytes
 // at hand moves to the front of the buffer, and more is read behind it. The map is a byte image (docs/IMAGES.md), changed in place.
+#![tactic(auto)]
+
 use test_lines::Line;
 
 pub mod drain;
