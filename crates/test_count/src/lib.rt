@@ -1,5 +1,7 @@
 // All placements one after the other, each asked of Create. A list is a number in digits 1 to as many as there are ids, a placement one in digits 1
 // to as many as there are lists: so each is met once, the shortest first.
+#![tactic(auto)]
+
 ghost use Rattle.std.specs.Prelude.{◌≤◌};
 ghost use Rattle.thm_map_never_malformed.specs.Calls.{Intact};
 
