@@ -1,5 +1,7 @@
 // A client's Write over the images that a host owns, in place (paper 01, 'Who is turned down', Write; docs/IMAGES.md). The count of refused
 // calls is lent apart from the node's state, so that a call refused for a malformed state counts too. It asks nothing of its caller.
+#![tactic(auto)]
+
 ghost use Rattle.calls_client.specs.Written.{buffers, WritesImages};
 
 use calls_client_out::count::count_call;
