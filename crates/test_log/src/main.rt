@@ -3,6 +3,8 @@
 // An unknown call or a record that is cut short ends the program. stdin is oracle/stored/history/chosen.in, full.in, random-1.in,
 // random-2.in and random-3.in one after the other, stdout their .out: the answers of the Rust. Append, store, copy, adopt, promote, search and ids
 // are crate log_calls' exported calls, epoch ends, vector, len and is_empty crate node_log_reads'; entries are shown from the columns.
+#![tactic(auto)]
+
 use input::next_record;
 use looks::look;
 use moves::{after, changed, make, promote};
@@ -17,7 +19,7 @@ mod shown;
 
 // The replica beside its columns: whether there is one, its metric and epoch, and how many entries and rows are used; and whether the
 // input goes on.
-#[derive(Drop)]
+#[derive(Clone, Copy)]
 pub struct Held {
     pub more: bool,
     pub made: bool,
