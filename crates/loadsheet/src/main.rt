@@ -1,5 +1,7 @@
 // Program `loadsheet` of paper 02, 2.4: takes its input as program `applymap` does and prints of the last map how many replica records name each
 // node, by rising id, how many name a node that the map does not know, and how many there are.
+#![tactic(auto)]
+
 ghost use Rattle.std.specs.Prelude.{◌≤◌, length};
 ghost use Rattle.thm_map_never_malformed.specs.Calls.{Intact};
 
