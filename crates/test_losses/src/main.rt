@@ -2,6 +2,8 @@
 // a number u8, a length u16 and as many bytes of operands, and what each answers on standard output. An unknown call or a record that is cut
 // short ends the program. stdin is oracle/stored/losses/chosen.in, random-1.in and random-2.in one after the other, stdout their .out: found by
 // trying every live node with the Rust's `place`. The map is a byte image, the call is crate calls_losses'.
+#![tactic(auto)]
+
 use answers::{losses, spec};
 use test_count::answers::builds;
 use test_count::records::next;
