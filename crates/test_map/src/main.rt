@@ -3,6 +3,8 @@
 // behind that of a rejected one its text (paper 02, 2.1), and then the whole map is printed, which tells more than its
 // version. stdin is oracle/stored/streams/all.in, stdout all.out: what the oracle printed of the Rust's map, in the Rust's
 // own words. The map is a byte image, and the call crate calls_apply_words'; this program shows the rows.
+#![tactic(auto)]
+
 ghost use Rattle.std.specs.Prelude.{◌≤◌, length};
 ghost use Rattle.image_map_put.specs.Few.{Few};
 
