@@ -3,6 +3,8 @@
 // An unknown call or a record that is cut short ends the program. stdin is oracle/stored/placement/chosen.in, random-1.in and random-2.in one
 // after the other, then counts.in, stdout their .out: the answers of the Rust. The map is a byte image, the calls are crates calls_map's and
 // calls_place's, and for how many placements pass (paper 02, 2.14) crate calls_count's; where they are few, each is asked of Create's own code too.
+#![tactic(auto)]
+
 use answers::{place, replacement};
 use counts::count;
 use test_count::answers::builds;
