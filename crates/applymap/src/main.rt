@@ -1,6 +1,8 @@
 // Program `applymap` of paper 01: starts from an empty map and applies the 01 requests that follow one another on
 // standard input, each taken by its own length, until one does not decode or the input ends (crate test_input). Of each it
 // prints the index, the word, the reason and the map's version.
+#![tactic(auto)]
+
 ghost use Rattle.std.specs.Prelude.{◌≤◌, length};
 
 use test_input::drain::drain;

@@ -1,0 +1,24 @@
+use borrow.Author.Rules.{rules}
+use native.Mathlib.Omega.{arith}
+use mathlib.Core.Path.{refl, sym, ◌∙◌}
+use Prim.Native.Nat.{◌≤◌}
+use lib.ListN.{length}
+use lib.Seq.{length-take-le}
+use Rattle.applymap.proofs.run.Goals as goal
+
+pub start-requires : goal.start-requires
+start-requires g c = c.requires.0
+
+pub loop-turns-init : goal.loop-turns-init
+loop-turns-init g c = (c.start.ensures.intact, omega arith, refl, refl, c.requires.1, search rules)
+
+pub drain-done-requires : goal.drain-done-requires
+drain-done-requires g c = (c.loop-turns.invariant.0, search rules)
+
+pub print_all-requires : goal.print_all-requires
+print_all-requires g c = c.drain-done.ensures.count
+
+pub loop-turns-preserved : goal.loop-turns-preserved
+loop-turns-preserved g c =
+    let r = c.refill-more in let fits : r.result ≤ length r.new.buf = r.ensures.within.1 in
+    (c.drain-done.ensures.intact, fits, sym (length-take-le r.result r.new.buf fits), r.ensures.same ∙ c.loop-turns.invariant.3, c.loop-turns.invariant.4, search rules)
