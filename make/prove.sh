@@ -68,7 +68,7 @@ prove() {
 }
 
 mkdir -p "$(dirname "$log")" || exit 1
-echo "proving ${library:-$named} and what it stands on, $count crates: from nothing up to an hour and a half on four cores"
+echo "proving ${library:-$named} and what it stands on, $count crates: from nothing perhaps an hour and a half on four cores"
 began=$(date +%s)
 : >"$log"
 prove >"$log" 2>&1 &

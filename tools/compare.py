@@ -5,6 +5,7 @@ usage: tools/compare.py OLD [NEW]    at the top of the repository; without NEW t
 
 Texts are compared word by word, without comments, imports and parentheses (a projection binds otherwise today: `max (p .acked) n` is `max p.acked n`).
 A word may be spelled anew, if it is so wherever texts of equal length have it: words with two spellings are listed, and so are two words with one.
+It sees no parenthesis, no import, no `pub`, no derive and no file that is new: a law that moved shows as gone.
 Of a clause the values at entry and exit are named alike first: `now (x .entry)` of a `&mut` is `x.old`, of a `&` it is `x.now`.
 """
 import collections
@@ -115,17 +116,21 @@ def items(raw):
     """The parts of a source file, by what they are and their name: each a list of words."""
     text, out = blank(raw), {}
     plain = lambda part: [it for it in re.sub(r",(\s*[)}\]])", r"\1", " ".join(CODE.findall(part))).split()]
+    named = collections.Counter()
     for m in re.finditer(r"\bfn\s+(\w+)", text):
         sign, clauses, body = function(raw, text, m.end())
-        out["signature", m[1]] = plain(sign)
+        # methods of several types can have one name
+        named[m[1]] += 1
+        name = m[1] if named[m[1]] == 1 else f"{m[1]} ({named[m[1]]})"
+        out["signature", name] = plain(sign)
         for i, (kind, clause) in enumerate(clauses):
-            out[f"{kind} {i}", m[1]] = by_loan(values(words(clause)), sign, kind)
-        out["body", m[1]] = plain(body)
+            out[f"{kind} {i}", name] = by_loan(values(words(clause)), sign, kind)
+        out["body", name] = plain(body)
     for m in re.finditer(r"\b(?:struct|enum)\s+(\w+)", text):
         ends = [it.start() for it in re.finditer(r"[{(;]", text[m.end() :])][:1]
         at = m.end() + (ends[0] if ends else 0)
         out["type", m[1]] = plain(text[m.start() : at if text[at] == ";" else closing(text, at)])
-    for m in re.finditer(r"\bconst\s+(\w+)\s*:([^;]*);", text):
+    for m in re.finditer(r"\bconst\s+(\w+)\s*:((?:[^;\[]|\[[^\]]*\])*);", text):
         out["constant", m[1]] = plain(m[2])
     return out
 
