@@ -14,22 +14,18 @@ use test_lines::print::print;
 fn print_all(said: Said)
     requires { said.count ≤ 328 }
 {
-    let mut i: usize = 0;
-    while i < said.count {
-        let l = said.items[i];
-        print(l);
-        i += 1;
+    for l in &said.items[..said.count] {
+        print(*l);
     }
 }
 
-// Nothing says that an input ends, so the turns are counted down, from a number that no run uses up.
+// Nothing says that an input ends, so the turns are counted, up to a number that no run reaches.
 fn run<R: Input>(rt: &R, map: &mut [u8], buf: &mut [u8])
     requires { (26536 ≤ length map.old) × (length buf.old ≤ 8192) }
 {
     start(map);
     let mut n: usize = 0;
-    let mut turns = u64::MAX;
-    while 0 < turns {
+    for _ in 0..u64::MAX {
         let done = drain(map, &buf[..n]);
         let said = done.said;
         print_all(said);
@@ -43,7 +39,6 @@ fn run<R: Input>(rt: &R, map: &mut [u8], buf: &mut [u8])
             return;
         }
         n = more;
-        turns -= 1;
     }
 }
 

@@ -1,4 +1,6 @@
 // For bench/rust: one replica's calls behind C functions. It says nothing of them; that is log_calls'.
+#![tactic(auto)]
+
 use log_calls::Answer;
 use log_calls::adopts::adopt;
 use log_calls::appends::append;
@@ -63,13 +65,6 @@ pub extern "C" fn engine_search(
     }
 }
 
-fn is_appended(a: Answer) -> bool {
-    match a {
-        Answer::Appended(_) => true,
-        _ => false,
-    }
-}
-
 // How many rows the table has after the append of a Write message, or 2,000 for a refusal.
 #[unsafe(no_mangle)]
 pub extern "C" fn engine_append(
@@ -101,17 +96,10 @@ pub extern "C" fn engine_append(
         message,
     );
     let a = r.answer;
-    if is_appended(a) {
+    if matches!(a, Answer::Appended(_)) {
         return r.stored as u64;
     }
     2000
-}
-
-fn is_adopted(a: Answer) -> bool {
-    match a {
-        Answer::Adopted(_) => true,
-        _ => false,
-    }
 }
 
 // How many entries a NewEpoch message leaves, times 2,048, with how many rows the table has then; 0 for a refusal.
@@ -147,7 +135,7 @@ pub extern "C" fn engine_adopt(
     let a = r.answer;
     let kept = r.count;
     let rows = r.stored;
-    if !is_adopted(a) {
+    if !matches!(a, Answer::Adopted(_)) {
         return 0;
     }
     if 1024 < kept {

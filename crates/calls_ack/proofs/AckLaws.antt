@@ -31,7 +31,7 @@ use Rattle.node_header.specs.Answers.{AcksNode}
 use Rattle.node_header.proofs.Formed.{formed-lent}
 use Rattle.node_header.proofs.Arrays.{keeps-all, keeps-put}
 use Rattle.node_header.proofs.Calls.{ack_malformed, ack_formed, ack_absent, ack_done}
-use Rattle.node_hear.specs.declared.Heard.TheVariants as H
+use Rattle.std.specs.Prelude.{Some}
 use Rattle.node_hear.specs.Hears.{heard_of}
 use Rattle.node_hear.proofs.Hears.{ack_read}
 use Rattle.image_header_row.specs.Rows.{role_at, peers_at, held_row_at}
@@ -53,7 +53,7 @@ use Rattle.calls_ack.proofs.DeedLaws.{acks_deed, deed_trims, deed_noted}
 -- ---- the call
 
 module _ (s : List ℕ) (lent : header_lent s ≡ true) (name : List ℕ) (shard : ℕ) (k : Key) (key : k ≡ key_given name shard) (reply : List ℕ) (a : Reply)
-    (heard : heard_of (decode_reply reply) ≡ H.Reply a) (good : bad_reply (reply_of a) ≡ false) (epoch peer step : ℕ) (w : Sent) (sent : w ≡ sent_at step) where
+    (heard : heard_of (decode_reply reply) ≡ Some a) (good : bad_reply (reply_of a) ≡ false) (epoch peer step : ℕ) (w : Sent) (sent : w ≡ sent_at step) where
   abbrev Image : List ℕ → ℕ → Type 0
   Image t r = AcksImage s t name reply shard epoch peer step r
 

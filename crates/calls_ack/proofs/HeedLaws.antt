@@ -8,26 +8,26 @@ use Rattle.spec.specs.Layout.Message.{decode_reply}
 use Rattle.spec.specs.Node.Ack.{bad_reply}
 use Rattle.node_shard.specs.declared.Reply.{Reply}
 use Rattle.node_shard.specs.Acks.{reply_of}
-use Rattle.node_hear.specs.declared.Heard.{Heard}
-use Rattle.node_hear.specs.declared.Heard.TheVariants as H
+use Rattle.std.specs.Prelude.{Option}
+use Rattle.std.specs.Prelude.{None, Some}
 use Rattle.node_hear.specs.Hears.{heard_of}
 use Rattle.calls_header.specs.Acks.{unread_ack}
 use Rattle.calls_ack.specs.Acked.{Heeds}
 
-abbrev heard_code : Heard → ℕ
-heard_code H.Nothing = 0
-heard_code (H.Reply a) = 1
+abbrev heard_code : Option Reply → ℕ
+heard_code None = 0
+heard_code (Some a) = 1
 
-abbrev reply_in : Reply → Heard → Reply
-reply_in d H.Nothing = d
-reply_in d (H.Reply a) = a
+abbrev reply_in : Reply → Option Reply → Reply
+reply_in d None = d
+reply_in d (Some a) = a
 
 module _ (name : List ℕ) (step : ℕ) (reply : List ℕ) where
-  pub heeds_none : unread_ack name step reply ≡ true → Heeds name step reply H.Nothing
+  pub heeds_none : unread_ack name step reply ≡ true → Heeds name step reply None
   heeds_none u = record { none = λ e. u; some = λ a e. absurd (let z : ◌≡◌ {A = ℕ} 0 1 = ap heard_code e in omega arith) }
 
-  pub heeds_some : (a : Reply) → unread_ack name step reply ≡ false → heard_of (decode_reply reply) ≡ H.Reply a → bad_reply (reply_of a) ≡ false
-      → Heeds name step reply (H.Reply a)
+  pub heeds_some : (a : Reply) → unread_ack name step reply ≡ false → heard_of (decode_reply reply) ≡ Some a → bad_reply (reply_of a) ≡ false
+      → Heeds name step reply (Some a)
   heeds_some a u h g = record {
     none = λ e. absurd (let z : ◌≡◌ {A = ℕ} 1 0 = ap heard_code e in omega arith);
     some = λ b e. let q : a ≡ b = ap (reply_in a) e in (u, h ∙ e, ap (λ (r : Reply). bad_reply (reply_of r)) (sym q) ∙ g);

@@ -17,7 +17,6 @@ use image_header_check::place::place_at;
 use image_header_row::held::role_at;
 use image_header_set::back::put_back;
 use image_header_set::peers::place_of;
-use node_hear::Heard;
 use node_shard::rows::leads;
 use node_shard::{Reply, Sent};
 
@@ -64,7 +63,7 @@ pub fn ack(
     ensures { Acks header.old header.new name.now reply.now shard epoch peer step result }
 {
     let h = heeded(name, step, reply);
-    let Heard::Reply(a) = h else {
+    let Some(a) = h else {
         return 21;
     };
     if !is_lent(header) {

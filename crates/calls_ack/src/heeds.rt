@@ -4,32 +4,31 @@ ghost use Rattle.calls_header.specs.Acks.{sent_at};
 ghost use Rattle.calls_ack.specs.Acked.{Heeds};
 
 use node_acks::bad;
-use node_hear::Heard;
 use node_hear::ack::reply_of;
-use node_shard::Sent;
+use node_shard::{Reply, Sent};
 use wire_write::fit::text_fits;
 
 // Internal: the reply, or nothing if the name, the step or the reply is none.
-pub fn heeded(name: &[u8], step: u8, reply: &[u8]) -> Heard
+pub fn heeded(name: &[u8], step: u8, reply: &[u8]) -> Option<Reply>
     ensures { Heeds name.now step reply.now result }
 {
     if !text_fits(name, 32) {
-        return Heard::Nothing;
+        return None;
     }
     if step < 2 {
-        return Heard::Nothing;
+        return None;
     }
     if 4 < step {
-        return Heard::Nothing;
+        return None;
     }
     let h = reply_of(reply);
-    let Heard::Reply(a) = h else {
-        return Heard::Nothing;
+    let Some(a) = h else {
+        return None;
     };
     if bad(a) {
-        return Heard::Nothing;
+        return None;
     }
-    Heard::Reply(a)
+    Some(a)
 }
 
 // Internal: the step that was replied to.

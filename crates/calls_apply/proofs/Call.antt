@@ -11,7 +11,7 @@ use Rattle.spec.specs.Lists.{◌and◌}
 use Rattle.spec.specs.Layout.Request as request
 use Rattle.spec.specs.Layout.Request.{decode_request}
 use Rattle.spec_laws.proofs.Lists.{and_left}
-use Rattle.map_tables.specs.declared.Answer.TheVariants.{Refused}
+use Rattle.std.specs.Prelude.{Err}
 use Rattle.map_tables.specs.declared.Refusal.TheVariants.{Undecodable, Malformed}
 use Rattle.map_tables.specs.declared.Request.{Request}
 use Rattle.map_tables.specs.declared.ShardKey.{ShardKey}
@@ -68,7 +68,7 @@ module _ (s bytes : List ℕ) where
       go : (b : Bool) → map_lent s ≡ b → AppliesTo s s bytes 21
       go false f = unlent_way s bytes 21 f (unlent_21 bytes n)
       go true f =
-          let v : Verdict = record { answer = Refused Undecodable; key = no_key } in
+          let v : Verdict = record { answer = Err Undecodable; key = no_key } in
           kept_way s bytes 21 (map_at s) (record { verdict = v; map = map_at s }) f refl (ways.undecoded (map_at s) bytes v n refl) refl refl
 
   module _ (q : request.Request) (read : decode_request bytes ≡ some q) where
@@ -77,7 +77,7 @@ module _ (s bytes : List ℕ) where
 
     pub malformed_way : map_lent s ≡ true → well_formed_lent (map_at s) ≡ false → AppliesTo s s bytes 24
     malformed_way given w =
-        let v : Verdict = record { answer = Refused Malformed; key = no_key } in
+        let v : Verdict = record { answer = Err Malformed; key = no_key } in
         kept_way s bytes 24 (map_at s) (record { verdict = v; map = map_at s }) given refl (ways.unformed (map_at s) bytes q read v w refl) refl refl
 
   module _ (q : Request) (c : Called s bytes q) where

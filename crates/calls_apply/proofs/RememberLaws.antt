@@ -10,7 +10,9 @@ use Rattle.spec.specs.Layout.Format.{Bytes, bytes_of}
 use Rattle.spec.specs.Map.Apply.{session_below}
 use Rattle.spec.specs.Map.Tables as tables
 use Rattle.map_tables.specs.View.{answer_in, view_session, view_map}
-use Rattle.map_tables.specs.declared.Answer.{Answer}
+use Rattle.map_tables.specs.declared.Outcome.{Outcome}
+use Rattle.map_tables.specs.declared.Refusal.{Refusal}
+use Rattle.std.specs.Prelude.{Result}
 use Rattle.map_tables.specs.declared.SessionRow.{SessionRow}
 use Rattle.image_map.specs.Image.{map_at, MapWrites}
 use Rattle.image_map.proofs.Back.{Fits}
@@ -64,6 +66,6 @@ module _ (s : List ℕ) (few : Few s) (row : SessionRow) (room : length (put ses
         }
 
 -- what was noted of an answer, by its name
-pub noted_as : (s t : List ℕ) (client seq : ℕ) (k : Key) (x y : Answer) (version : ℕ) → x ≡ y → Noted s client seq t (answer_in y k) version
+pub noted_as : (s t : List ℕ) (client seq : ℕ) (k : Key) (x y : Result Outcome Refusal) (version : ℕ) → x ≡ y → Noted s client seq t (answer_in y k) version
     → Noted s client seq t (answer_in x k) version
-noted_as s t client seq k x y version e w = subst (λ (a : Answer). Noted s client seq t (answer_in a k) version) (sym e) w
+noted_as s t client seq k x y version e w = subst (λ (a : Result Outcome Refusal). Noted s client seq t (answer_in a k) version) (sym e) w

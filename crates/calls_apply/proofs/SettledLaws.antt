@@ -17,8 +17,8 @@ use Rattle.spec_laws.proofs.Lists.{not_both}
 use Rattle.map_tables.specs.Names.{view_key}
 use Rattle.map_tables.specs.Counted.{row_counted}
 use Rattle.map_tables.specs.View.{answer_in, answer_of, refusal_of, rejection_of, view_command, view_request, view_map, session_of}
-use Rattle.map_tables.specs.declared.Answer.{Answer}
-use Rattle.map_tables.specs.declared.Answer.TheVariants.{Done, Refused}
+use Rattle.std.specs.Prelude.{Result}
+use Rattle.std.specs.Prelude.{Ok, Err}
 use Rattle.map_tables.specs.declared.Outcome.{Outcome}
 use Rattle.map_tables.specs.declared.Outcome.TheVariants.{Applied, Rejected}
 use Rattle.map_tables.specs.declared.Refusal.{Refusal}
@@ -228,17 +228,17 @@ module _ (s : List ℕ) (q : Request) (fr : Fresh s q) (v : Verdict) (d : Decide
     pub told-room : Room s q.client q.seq (answer_of v)
     told-room = go v.answer refl down
       where
-        go : (x : Answer) → v.answer ≡ x → takes_effect (answer_in x (view_key v.key)) ≡ false → Room s q.client q.seq (answer_in x (view_key v.key))
-        go (Done Applied) e f = absurd (let z : ◌≡◌ {A = ℕ} 0 1 = cc in omega arith)
-        go (Done (Rejected o)) e f = rejected_room o (ap (λ (a : Answer). answer_in a (view_key v.key)) e)
-        go (Refused o) e f = omega arith
+        go : (x : Result Outcome Refusal) → v.answer ≡ x → takes_effect (answer_in x (view_key v.key)) ≡ false → Room s q.client q.seq (answer_in x (view_key v.key))
+        go (Ok Applied) e f = absurd (let z : ◌≡◌ {A = ℕ} 0 1 = cc in omega arith)
+        go (Ok (Rejected o)) e f = rejected_room o (ap (λ (a : Result Outcome Refusal). answer_in a (view_key v.key)) e)
+        go (Err o) e f = omega arith
 
     pub told_way : (version : ℕ) → version ≡ number_at 8 s 0 → (u : List ℕ) (r : ℕ)
         → (r ≡ reason_number (answer_of v)) × Noted s q.client q.seq u (answer_of v) version → Settles s u q r
     told_way version ver u r told = go v.answer refl down told.1
       where
-        go : (x : Answer) → v.answer ≡ x → takes_effect (answer_in x (view_key v.key)) ≡ false
+        go : (x : Result Outcome Refusal) → v.answer ≡ x → takes_effect (answer_in x (view_key v.key)) ≡ false
             → Noted s q.client q.seq u (answer_in x (view_key v.key)) version → Settles s u q r
-        go (Done Applied) e f w = absurd (let z : ◌≡◌ {A = ℕ} 0 1 = cc in omega arith)
-        go (Done (Rejected o)) e f w = rejected_way o (ap (λ (a : Answer). answer_in a (view_key v.key)) e) version ver u r told.0 w
-        go (Refused o) e f w = refused_way o (ap (λ (a : Answer). answer_in a (view_key v.key)) e) u r told.0 w
+        go (Ok Applied) e f w = absurd (let z : ◌≡◌ {A = ℕ} 0 1 = cc in omega arith)
+        go (Ok (Rejected o)) e f w = rejected_way o (ap (λ (a : Result Outcome Refusal). answer_in a (view_key v.key)) e) version ver u r told.0 w
+        go (Err o) e f w = refused_way o (ap (λ (a : Result Outcome Refusal). answer_in a (view_key v.key)) e) u r told.0 w

@@ -7,7 +7,7 @@ ghost use Rattle.calls_apply.specs.Settles.{Room, Noted, takes_effect};
 
 use crate::remember::remember;
 use calls_map::numbers::verdict_number;
-use map_tables::{Answer, Outcome, SessionRow, Verdict};
+use map_tables::{Outcome, SessionRow, Verdict};
 
 // Whether a command that was decided so takes effect.
 pub fn takes_effect(verdict: Verdict) -> bool
@@ -15,11 +15,11 @@ pub fn takes_effect(verdict: Verdict) -> bool
 {
     let answer = verdict.answer;
     match answer {
-        Answer::Done(outcome) => match outcome {
+        Ok(outcome) => match outcome {
             Outcome::Applied => true,
             Outcome::Rejected(_) => false,
         },
-        Answer::Refused(_) => false,
+        Err(_) => false,
     }
 }
 
@@ -32,7 +32,7 @@ pub fn tell(map: &mut [u8], client: u64, seq: u64, verdict: Verdict, version: u6
     let answer = verdict.answer;
     let key = verdict.key;
     match answer {
-        Answer::Done(outcome) => {
+        Ok(outcome) => {
             let session = SessionRow {
                 client: client,
                 seq: seq,
@@ -42,6 +42,6 @@ pub fn tell(map: &mut [u8], client: u64, seq: u64, verdict: Verdict, version: u6
             remember(map, version, session);
             number
         }
-        Answer::Refused(_) => number,
+        Err(_) => number,
     }
 }

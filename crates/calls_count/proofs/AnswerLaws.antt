@@ -22,9 +22,8 @@ use Rattle.map_tables.specs.declared.Spec.{Spec}
 use Rattle.map_check.specs.Lent.{well_formed_lent}
 use Rattle.image_map.specs.Image.{map_at, map_lent}
 use Rattle.spec_count.specs.Counts.{Counts, six, not_counted, max_ids, is_wide, placements_of, count_by}
-use Rattle.image_map_count.specs.Answers.{counting_as, count_lent}
+use Rattle.image_map_count.specs.Answers.{count_lent}
 use Rattle.image_map_count.specs.Read.{view_ids, view_six, wide_lent}
-use Rattle.image_map_count.specs.declared.Ending.{Ending}
 use Rattle.image_map_count.specs.declared.IdSet.{IdSet}
 use Rattle.calls_count.specs.Calls.{ids_from, ids_in, Loaded, tally_of, six_bytes, Answers}
 
@@ -113,10 +112,6 @@ module _ (xs : List ℕ) (s : List ℕ) where
             q ∙ ap (λ (z : List ℕ). sets s 0 (concat_map (bytes_of 8) z)) (exact xs e)
             ∙ sym (ap (λ (b : Bool). cond b s (sets s 0 (six_bytes (view_six xs)))) g);
       }
-
--- of the case that the code found
-pub told : (h g : Ending) (xs s t : List ℕ) (r : ℕ) → h ≡ g → Answers (counting_as g xs) s t r → Answers (counting_as h xs) s t r
-told h g xs s t r e p = subst (λ (z : Ending). Answers (counting_as z xs) s t r) (sym e) p
 
 -- ---- the call
 

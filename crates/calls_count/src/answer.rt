@@ -5,7 +5,7 @@ ghost use Rattle.image_map_count.specs.Read.{view_six};
 ghost use Rattle.image_map_count.specs.Answers.{counting_of};
 ghost use Rattle.calls_count.specs.Calls.{Answers};
 
-use image_map_count::{Counting, Ending};
+use image_map_count::Uncounted;
 use wire_put::put::put_words8;
 
 fn put_six(out: &mut [u8], counts: [u64; 6]) -> u32
@@ -18,15 +18,13 @@ fn put_six(out: &mut [u8], counts: [u64; 6]) -> u32
     0
 }
 
-pub fn answer_counts(out: &mut [u8], counted: Counting) -> u32
+pub fn answer_counts(out: &mut [u8], counted: Result<[u64; 6], Uncounted>) -> u32
     ensures { Answers (counting_of counted) out.old out.new result }
 {
-    let how = counted.how;
-    let counts = counted.six;
-    match how {
-        Ending::Counted => put_six(out, counts),
-        Ending::Beyond => 35,
-        Ending::TooWide => 36,
-        Ending::Malformed => 24,
+    match counted {
+        Ok(counts) => put_six(out, counts),
+        Err(Uncounted::Beyond) => 35,
+        Err(Uncounted::TooWide) => 36,
+        Err(Uncounted::Malformed) => 24,
     }
 }

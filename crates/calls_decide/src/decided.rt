@@ -12,7 +12,7 @@ use image_map_create::answer::create_answer;
 use image_map_drop::drop_answer;
 use image_map_row::sessions::session_at;
 use map_tables::answers::{applied, no_key, refused, rejected};
-use map_tables::{Answer, Command, Refusal, Rejection, Request, Verdict};
+use map_tables::{Command, Refusal, Rejection, Request, Verdict};
 
 // The command's own answer.
 fn own_answer(map: &[u8], r: Request) -> Verdict
@@ -47,7 +47,7 @@ fn of_known(map: &[u8], r: Request, place: usize) -> Decision
         let o = row.outcome;
         let key = row.key;
         let verdict = Verdict {
-            answer: Answer::Done(o),
+            answer: Ok(o),
             key: key,
         };
         return Decision {

@@ -10,6 +10,7 @@ mod nodes;
 
 // What a request is answered, with the operands of its text, and whether its command is decided now: if not, it is older, a repetition, or
 // of a 65th client.
+// Stays a flag beside a verdict: it is no less true where the flag is false, and `apply_words` takes it from both.
 #[derive(Drop)]
 pub struct Decision {
     pub verdict: Verdict,

@@ -8,8 +8,8 @@ use Rattle.spec.specs.Lists.{◌or◌}
 use Rattle.spec.specs.Limits.{max_time}
 use Rattle.spec.specs.Layout.Format.{number_at}
 use Rattle.spec_laws.proofs.Lists.{not_both}
-use Rattle.node_admit.specs.declared.Expiry.{Expiry}
-use Rattle.node_admit.specs.declared.Expiry.TheVariants.{Never, At}
+use Rattle.std.specs.Prelude.{Option}
+use Rattle.std.specs.Prelude.{None, Some}
 use Rattle.node_admit.specs.View as serve
 use Rattle.node_header.specs.declared.GrantAnswer.TheVariants as G
 use Rattle.node_header.specs.Formed.{formed_node}
@@ -28,13 +28,13 @@ use Rattle.calls_header.proofs.Calls.{grants_image}
 use Rattle.image_header_put.specs.Back.{with_end, EndOf}
 
 -- a lease's end in two numbers, and back
-pub end_back : (e : Expiry) → expiry_of (expiry_code e) (expiry_time e) ≡ e
-end_back Never = refl
-end_back (At t) = refl
+pub end_back : (e : Option ℕ) → expiry_of (expiry_code e) (expiry_time e) ≡ e
+end_back None = refl
+end_back (Some t) = refl
 
-pub end_of : (e : Expiry) (code end : ℕ) → code ≡ expiry_code e → end ≡ expiry_time e → EndOf code end
-end_of Never code end a b = rw (a, b) (refl, refl)
-end_of (At t) code end a b = rw (a, b) (refl, refl)
+pub end_of : (e : Option ℕ) (code end : ℕ) → code ≡ expiry_code e → end ≡ expiry_time e → EndOf code end
+end_of None code end a b = rw (a, b) (refl, refl)
+end_of (Some t) code end a b = rw (a, b) (refl, refl)
 
 module _ (s : List ℕ) (lent : header_lent s ≡ true) where
   abbrev read : Lent
@@ -51,7 +51,7 @@ module _ (s : List ℕ) (lent : header_lent s ≡ true) where
         (grant_malformed (node_at s) i sent lease early short (λ st. sym bad ∙ formed-lent (node_at s) st)) (keeps-all (node_at s))
         (G.Refused 24) refl refl refl (λ d. not_both false d refl)
 
-    module _ (formed : formed_node (node_at s) ≡ true) (own : ℕ) (old e : Expiry) (mine : own ≡ number_at 8 s 8)
+    module _ (formed : formed_node (node_at s) ≡ true) (own : ℕ) (old e : Option ℕ) (mine : own ≡ number_at 8 s 8)
         (last : old ≡ expiry_of (number_at 4 s 36) (number_at 8 s 40)) (raised : serve.Grants own old i sent lease e)
         (code end : ℕ) (a : code ≡ expiry_code e) (b : end ≡ expiry_time e) where
       is-end : expiry_of code end ≡ e
@@ -63,7 +63,7 @@ module _ (s : List ℕ) (lent : header_lent s ≡ true) where
       raised_here : serve.Grants (node_at s).incarnation (node_at s).expiry i sent lease e
       unfolding node_at
       raised_here = subst (λ (o : ℕ). serve.Grants o (expiry_of (number_at 4 s 36) (number_at 8 s 40)) i sent lease e) mine
-          (subst (λ (x : Expiry). serve.Grants own x i sent lease e) last raised)
+          (subst (λ (x : Option ℕ). serve.Grants own x i sent lease e) last raised)
 
       keeps : Keeps (node_at s) (with_end (node_at s) code end)
       unfolding arrays_fit

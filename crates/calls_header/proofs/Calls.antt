@@ -29,8 +29,8 @@ use Rattle.node_header.specs.Answers.{Answered, GrantsNode, OutcomesNode, WaitAn
 use Rattle.node_header.specs.Formed.{formed_node}
 use Rattle.node_header.specs.Slots.{Keeps}
 use Rattle.node_header.proofs.Lists.{by_case}
-use Rattle.node_hear.specs.declared.Heard.{Heard}
-use Rattle.node_hear.specs.declared.Heard.TheVariants as H
+use Rattle.std.specs.declared.option.Option as option
+use Rattle.std.specs.Prelude.{None, Some}
 use Rattle.node_hear.specs.Hears.{heard_of, HearsMap, HearsReply}
 use Rattle.spec_laws.proofs.Lists.{and_left}
 use Rattle.node_show.specs.declared.NodeShown.{NodeShown}
@@ -228,9 +228,9 @@ lent_both a b e = rw e
 
 -- ---- a reply, as it was heard
 
-abbrev heard_none : Heard → Bool
-heard_none H.Nothing = true
-heard_none (H.Reply a) = bad_reply (reply_of a)
+abbrev heard_none : option.Option Reply → Bool
+heard_none None = true
+heard_none (Some a) = bad_reply (reply_of a)
 
 none-heard : (o : Option message.Reply) → no_reply o ≡ heard_none (heard_of o)
 none-heard none = refl
@@ -240,8 +240,8 @@ none-heard (some (message.reply_stale n)) = refl
 none-heard (some (message.reply_adopted n)) = refl
 
 module _ (o : Option message.Reply) where
-  pub reply-none : heard_of o ≡ H.Nothing → true ≡ no_reply o
+  pub reply-none : heard_of o ≡ None → true ≡ no_reply o
   reply-none e = sym (none-heard o ∙ ap heard_none e)
 
-  pub reply_some : (a : Reply) → heard_of o ≡ H.Reply a → bad_reply (reply_of a) ≡ no_reply o
+  pub reply_some : (a : Reply) → heard_of o ≡ Some a → bad_reply (reply_of a) ≡ no_reply o
   reply_some a e = sym (none-heard o ∙ ap heard_none e)

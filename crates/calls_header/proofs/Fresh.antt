@@ -7,7 +7,7 @@ use lib.ListN.{length}
 use native.Mathlib.Omega.{arith}
 use Rattle.spec.specs.Lists.{◌and◌, every, rising}
 use Rattle.spec.specs.Node.Held as held
-use Rattle.node_admit.specs.declared.Expiry.TheVariants.{Never}
+use Rattle.std.specs.Prelude.{None}
 use Rattle.node_header.specs.declared.HeldRow.{HeldRow}
 use Rattle.node_header.specs.declared.Node.{Node}
 use Rattle.node_header.specs.Formed.{slots_fit, formed_node}
@@ -25,7 +25,7 @@ abbrev pub with_free : (id incarnation : ℕ) → List HeldRow → Node
 with_free id incarnation free = record {
   id = id_of id;
   incarnation = incarnation;
-  expiry = Never;
+  expiry = None;
   version = 0;
   held = free;
   count = 0;

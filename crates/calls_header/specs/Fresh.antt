@@ -1,7 +1,7 @@
 -- What a fresh node promises: every byte of its image, and that the image is read as the specification's new node. Definitions only.
 use Rattle.std.specs.Prelude.{ℕ, ◌≤◌, ◌<◌, true, ◌≡◌, List, [], length}
 use Rattle.spec.specs.Node.Held as held
-use Rattle.node_admit.specs.declared.Expiry.TheVariants.{Never}
+use Rattle.std.specs.Prelude.{None}
 use Rattle.node_header.specs.declared.Node.{Node}
 use Rattle.node_header.specs.Formed.{formed_node}
 use Rattle.image_parts.specs.Codes.{id_of}
@@ -13,7 +13,7 @@ abbrev pub fresh_node : (id incarnation : ℕ) → Node
 fresh_node id incarnation = record {
   id = id_of id;
   incarnation = incarnation;
-  expiry = Never;
+  expiry = None;
   version = 0;
   held = no_node.held;
   count = 0;

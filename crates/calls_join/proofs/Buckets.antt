@@ -2,7 +2,7 @@
 use Prim.Native.Nat.{ℕ, zero, suc, ◌+◌, ◌-◌, ◌*◌, ◌%◌, ◌≤◌, ◌<◌}
 use mathlib.Core.Path.{◌≡◌, refl, sym, ap, ◌∙◌, subst}
 use mathlib.Core.Bool.{Bool, true, false}
-use mathlib.Core.List.{List, [], ◌∷◌}
+use mathlib.Core.List.{List}
 use mathlib.Core.Option.{some}
 use native.Mathlib.Omega.{arith}
 use lib.Dec.{eqb}
@@ -10,12 +10,11 @@ use lib.ListN.{length, get_or, set, replicate}
 use lib.Seq.{get_or-set_same, get_or-set_other}
 use borrow.Author.Tests.{eqb-true, eqb-false}
 use Rattle.spec.specs.Lists.{nth}
-use Rattle.spec_laws.proofs.Lists.{not_both, some_same, nth_lt}
+use Rattle.spec_laws.proofs.Lists.{some_same, nth_lt}
 use Rattle.spec_join.specs.Join.{Hit, apart}
-use Rattle.spec_join.specs.Words.{Apart}
 use Rattle.spec_join.proofs.Decided.{apart_says, apart-holds}
 use Rattle.calls_join.specs.View.{hit_at, hits_at}
-use Rattle.calls_join.specs.Buckets.{id_at, Falls, Reaches, here, there, Listed}
+use Rattle.calls_join.specs.Buckets.{id_at, Falls, Reaches, here, there}
 use Rattle.calls_join.proofs.Bytes.{hits-length, hit-there}
 
 -- ---- along a chain

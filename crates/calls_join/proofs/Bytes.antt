@@ -1,18 +1,18 @@
 -- The answers where they stand are what the format says, and how walks go through them. Assumes nothing.
 use Prim.Native.Nat.{ℕ, zero, suc, ◌+◌, ◌-◌, ◌*◌, ◌≤◌, ◌<◌}
 use mathlib.Core.Path.{◌≡◌, refl, sym, ap, ◌∙◌, subst}
-use mathlib.Core.Bool.{Bool, true, false, cond}
-use mathlib.Core.List.{List, [], ◌∷◌, map}
-use mathlib.Core.Option.{Option, none, some}
+use mathlib.Core.Bool.{Bool, true, false}
+use mathlib.Core.List.{List, ◌∷◌, map}
+use mathlib.Core.Option.{none, some}
 use native.Mathlib.Omega.{arith}
 use lib.Dec.{leb, eqb}
 use lib.ListN.{length}
-use borrow.Author.Tests.{le-leb, lt-leb, leb-true, leb-false, eq-eqb, ne_eqb, eqb-true, eqb-false}
+use borrow.Author.Tests.{le-leb, lt-leb, leb-true, leb-false, eq-eqb, ne_eqb}
 use Rattle.spec.specs.Lists.{◌and◌, nth}
 use Rattle.spec.specs.Layout.Format.{number_at, next_n, fits_n, value_n, fits, next, value}
 use Rattle.spec_laws.proofs.Lists.{and_left, and_right, and_true, not_both}
-use Rattle.spec_join.specs.Join.{Hit, Answer}
-use Rattle.spec_join.specs.Answers.{hit_f, answer_f, hit_of, answer_of, and_then, answers_from, answers_in}
+use Rattle.spec_join.specs.Join.{Hit}
+use Rattle.spec_join.specs.Answers.{hit_f, answer_f, hit_of, answer_of, answers_from, answers_in}
 use Rattle.calls_join.specs.View.{hit_at, hits_at, count_at, answer_at, after_at, stands_at, answers_at, Leads, Stand}
 
 -- a hit's twelve bytes, and then the rest up to m, of l
@@ -148,6 +148,14 @@ module _ (s : List ℕ) where
   stand_rest zero p h l = absurd (omega arith)
   stand_rest (suc n) p h l = let e : suc n - 1 ≡ n = omega arith in subst (λ (m : ℕ). Stand s m (after_at s p)) (sym e) l.1
 
+  -- the same, i of n gone by
+  pub stand_here : (n i p : ℕ) → i < n → Stand s (n - i) p → stands_at s p ≡ true
+  stand_here n i p h l = stand_first (n - i) p (omega arith) l
+
+  pub stand_next : (n i p : ℕ) → i < n → Stand s (n - i) p → Stand s (n - (i + 1)) (after_at s p)
+  stand_next n i p h l =
+      let e : n - i - 1 ≡ n - (i + 1) = omega arith in subst (λ (m : ℕ). Stand s m (after_at s p)) e (stand_rest (n - i) p (omega arith) l)
+
   pub answers-first : (n p : ℕ) → 0 < n → answers_at s n p ≡ answer_at s p ∷ answers_at s (n - 1) (after_at s p)
   unfolding answers_at
   answers-first zero p h = absurd (omega arith)
@@ -157,6 +165,18 @@ module _ (s : List ℕ) where
   unfolding hits_at
   hits-first zero p h = absurd (omega arith)
   hits-first (suc n) p h = let e : suc n - 1 ≡ n = omega arith in ap (λ (m : ℕ). hit_at s p ∷ hits_at s m (p + 12)) (sym e)
+
+  pub answers-next : (n i p : ℕ) → i < n → answers_at s (n - i) p ≡ answer_at s p ∷ answers_at s (n - (i + 1)) (after_at s p)
+  answers-next n i p h =
+      let e : n - i - 1 ≡ n - (i + 1) = omega arith in
+      answers-first (n - i) p (omega arith) ∙ ap (λ (m : ℕ). answer_at s p ∷ answers_at s m (after_at s p)) e
+
+  -- the i-th of n hits from p on, and those behind it
+  pub hits-next : (n p i : ℕ) → i < n → hits_at s (n - i) (p + 12 * i) ≡ hit_at s (p + 12 * i) ∷ hits_at s (n - (i + 1)) (p + 12 * (i + 1))
+  hits-next n p i h =
+      let e : n - i - 1 ≡ n - (i + 1) = omega arith in
+      let f : p + 12 * i + 12 ≡ p + 12 * (i + 1) = omega arith in
+      hits-first (n - i) (p + 12 * i) (omega arith) ∙ rw (e, f) refl
 
   pub hits-length : (n p : ℕ) → length (hits_at s n p) ≡ n
   unfolding hits_at

@@ -1,9 +1,9 @@
 -- What the calls answer, by the tests that came before. Assumes nothing.
-use Prim.Native.Nat.{ℕ, zero, suc, ◌+◌, ◌-◌, ◌*◌, ◌/◌, ◌≤◌, ◌<◌, min}
+use Prim.Native.Nat.{ℕ, zero, suc, ◌+◌, ◌≤◌, ◌<◌, min}
 use mathlib.Core.Path.{◌≡◌, refl, sym, ap, ◌∙◌, subst}
-use mathlib.Core.Bool.{Bool, true, false, cond}
+use mathlib.Core.Bool.{true, false}
 use mathlib.Core.List.{List, [], ◌∷◌}
-use mathlib.Core.Option.{Option, none, some}
+use mathlib.Core.Option.{none}
 use native.Mathlib.Omega.{arith}
 use lib.Dec.{leb}
 use lib.ListN.{length, take}
@@ -12,14 +12,15 @@ use borrow.Author.Tests.{le-leb, lt-leb, leb-true}
 use Rattle.spec.specs.Lists.{◌and◌, every, rising}
 use Rattle.spec.specs.Layout.Format.{bytes_of}
 use Rattle.spec_laws.proofs.Lists.{and_left, and_right}
-use Rattle.spec_join.specs.Join.{Hit, Answer, in_order, apart, shard_below, sound_answer, sound, owned, ordered_hits, all_hits, joined, Joined, found, undecodable, outOfOrder, otherShard, no_room, number_of, join_answers}
+use Rattle.spec_join.specs.Join.{Hit, in_order, apart, shard_below, sound_answer, sound, owned, ordered_hits, all_hits, joined, found, undecodable, outOfOrder, otherShard, no_room, join_answers}
 use Rattle.spec_join.specs.Answers.{answers_in, hits_bytes}
 use Rattle.spec_join.proofs.Ordered.{ordered-length}
 use Rattle.spec_join.proofs.Joins.{joined_length}
 use Rattle.calls_join.specs.View.{hits_at, count_at, answer_at, answers_at, Stand}
-use Rattle.calls_join.specs.Calls.{room_of, leaves, told, Joins, with_answer, counted, JoinsFor, Passed}
-use Rattle.calls_join.specs.declared.Joining.{Joining}
-use Rattle.calls_join.specs.declared.Joining.TheVariants.{Found, Refused}
+use Rattle.calls_join.specs.Calls.{room_of, Joins, JoinsFor, Passed, Checks, code_of}
+use Rattle.std.specs.Prelude.{Ok, Err}
+use Rattle.calls_join.specs.declared.Refusal.{Refusal}
+use Rattle.calls_join.specs.declared.Refusal.TheVariants.{Undecodable, NoRoom, OutOfOrder, OtherShard}
 use Rattle.calls_join.proofs.Bytes.{whole_in, answers-length}
 
 take_min : (k : ℕ) (l : List Hit) → take (min k (length l)) l ≡ take k l
@@ -116,7 +117,7 @@ module _ (shards k : ℕ) (s : List ℕ) where
         ∙ take_min k (ordered_hits (all_hits (answers_at s n 0)))
 
     module _ (out out' : List ℕ) (h : m ≤ room_of out) (e : out' ≡ sets out 0 (hits_bytes (take m (ordered_hits (all_hits (answers_at s n 0)))))) where
-      pub joins : Joins shards k s out out' (Found m)
+      pub joins : Joins shards k s out out' (Ok m)
       joins = record {
         answer = rw (is_found (room_of out) h, size) refl;
         bytes = rw (is_found (room_of out) h) (e ∙ ap (λ (l : List Hit). sets out 0 (hits_bytes l)) first-is);
@@ -138,27 +139,39 @@ module _ (shards k : ℕ) (s : List ℕ) where
 
   -- ---- refused
   module _ (out : List ℕ) where
-    pub refused_21 : ((room : ℕ) → join_answers shards k room (answers_in s) ≡ undecodable) → Joins shards k s out out (Refused 21)
+    refused_21 : ((room : ℕ) → join_answers shards k room (answers_in s) ≡ undecodable) → Joins shards k s out out (Err Undecodable)
     refused_21 e = record { answer = rw (e (room_of out)) refl; bytes = rw (e (room_of out)) refl }
 
-    pub refused_28 : ((room : ℕ) → join_answers shards k room (answers_in s) ≡ outOfOrder) → Joins shards k s out out (Refused 28)
+    refused_28 : ((room : ℕ) → join_answers shards k room (answers_in s) ≡ outOfOrder) → Joins shards k s out out (Err OutOfOrder)
     refused_28 e = record { answer = rw (e (room_of out)) refl; bytes = rw (e (room_of out)) refl }
 
-    pub refused_29 : ((room : ℕ) → join_answers shards k room (answers_in s) ≡ otherShard) → Joins shards k s out out (Refused 29)
+    refused_29 : ((room : ℕ) → join_answers shards k room (answers_in s) ≡ otherShard) → Joins shards k s out out (Err OtherShard)
     refused_29 e = record { answer = rw (e (room_of out)) refl; bytes = rw (e (room_of out)) refl }
 
-    pub refused_23 : join_answers shards k (room_of out) (answers_in s) ≡ no_room → Joins shards k s out out (Refused 23)
+    pub refused_23 : join_answers shards k (room_of out) (answers_in s) ≡ no_room → Joins shards k s out out (Err NoRoom)
     refused_23 e = record { answer = rw e refl; bytes = rw e refl }
 
+    pub refused_before : (why : Refusal) → Checks shards k s (Err why) → Joins shards k s out out (Err why)
+    refused_before Undecodable e = refused_21 e
+    refused_before NoRoom e = absurd e
+    refused_before OutOfOrder e = refused_28 e
+    refused_before OtherShard e = refused_29 e
+
     module _ (answer : List ℕ) where
-      pub refused_for_21 : ((room : ℕ) → join_answers shards k room (answers_in s) ≡ undecodable) → JoinsFor shards k s out answer out answer 21
+      refused_for_21 : ((room : ℕ) → join_answers shards k room (answers_in s) ≡ undecodable) → JoinsFor shards k s out answer out answer 21
       refused_for_21 e = record { number = rw (e (room_of out)) refl; found-bytes = rw (e (room_of out)) refl; count-bytes = rw (e (room_of out)) refl }
 
-      pub refused_for_28 : ((room : ℕ) → join_answers shards k room (answers_in s) ≡ outOfOrder) → JoinsFor shards k s out answer out answer 28
+      refused_for_28 : ((room : ℕ) → join_answers shards k room (answers_in s) ≡ outOfOrder) → JoinsFor shards k s out answer out answer 28
       refused_for_28 e = record { number = rw (e (room_of out)) refl; found-bytes = rw (e (room_of out)) refl; count-bytes = rw (e (room_of out)) refl }
 
-      pub refused_for_29 : ((room : ℕ) → join_answers shards k room (answers_in s) ≡ otherShard) → JoinsFor shards k s out answer out answer 29
+      refused_for_29 : ((room : ℕ) → join_answers shards k room (answers_in s) ≡ otherShard) → JoinsFor shards k s out answer out answer 29
       refused_for_29 e = record { number = rw (e (room_of out)) refl; found-bytes = rw (e (room_of out)) refl; count-bytes = rw (e (room_of out)) refl }
 
       pub refused_for_23 : join_answers shards k (room_of out) (answers_in s) ≡ no_room → JoinsFor shards k s out answer out answer 23
       refused_for_23 e = record { number = rw e refl; found-bytes = rw e refl; count-bytes = rw e refl }
+
+      pub refused_for_before : (why : Refusal) → Checks shards k s (Err why) → JoinsFor shards k s out answer out answer (code_of why)
+      refused_for_before Undecodable e = refused_for_21 e
+      refused_for_before NoRoom e = absurd e
+      refused_for_before OutOfOrder e = refused_for_28 e
+      refused_for_before OtherShard e = refused_for_29 e

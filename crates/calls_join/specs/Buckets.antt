@@ -1,5 +1,5 @@
 -- The chains of hits with one bucket. Places are counted from 1, and 0 ends a chain. Definitions only.
-use Rattle.std.specs.Prelude.{ℕ, zero, suc, ◌+◌, ◌*◌, ◌≤◌, ◌<◌, ◌≡◌, Bool, true, false, List, get_or}
+use Rattle.std.specs.Prelude.{ℕ, suc, ◌+◌, ◌*◌, ◌≤◌, ◌<◌, ◌≡◌, Bool, true, false, List, get_or}
 use Rattle.spec.specs.Layout.Format.{number_at}
 
 -- the id of the i-th hit from p on

@@ -1,15 +1,12 @@
 -- Paper 02, 2.2: what the calls answer, and every byte of their lent buffers at exit. Definitions only.
-use Rattle.std.specs.Prelude.{ℕ, ◌/◌, min, ◌≡◌, Bool, true, false, cond, List, leb, length}
-use Rattle.std.proofs.Math.Option.{Option, none, some}
+use Rattle.std.specs.Prelude.{ℕ, ◌/◌, min, ◌≡◌, true, cond, List, leb, length, Result, Ok, Err}
 use Rattle.std.proofs.lemmas.List.Edits.{sets}
 use Rattle.spec.specs.Layout.Format.{bytes_of}
 use Rattle.spec_join.specs.Join.{Joined, found, undecodable, outOfOrder, otherShard, no_room, number_of, sound, owned, all_hits, join_answers}
 use Rattle.spec_join.specs.Answers.{answers_in, hits_bytes}
 use Rattle.calls_join.specs.View.{answers_at, Stand}
-use Rattle.calls_join.specs.declared.Joining.{Joining}
-use Rattle.calls_join.specs.declared.Joining.TheVariants.{Found, Refused}
-use Rattle.calls_join.specs.declared.checks.Checked.{Checked}
-use Rattle.calls_join.specs.declared.checks.Checked.TheVariants.{Fine, Undecodable, OutOfOrder, OtherShard}
+use Rattle.calls_join.specs.declared.Refusal.{Refusal}
+use Rattle.calls_join.specs.declared.Refusal.TheVariants.{Undecodable, NoRoom, OutOfOrder, OtherShard}
 
 -- how many hits a lent output holds
 abbrev pub room_of : List ℕ → ℕ
@@ -24,14 +21,21 @@ leaves out otherShard = out
 leaves out no_room = out
 
 -- as the call in Rattle tells it
-abbrev pub told : Joined → Joining
-told (found l) = Found (length l)
-told undecodable = Refused 21
-told outOfOrder = Refused 28
-told otherShard = Refused 29
-told no_room = Refused 23
+abbrev pub told : Joined → Result ℕ Refusal
+told (found l) = Ok (length l)
+told undecodable = Err Undecodable
+told outOfOrder = Err OutOfOrder
+told otherShard = Err OtherShard
+told no_room = Err NoRoom
 
-pub record Joins (shards k : ℕ) (s out out' : List ℕ) (r : Joining) : Type 0 where
+-- the number of each refusal
+abbrev pub code_of : Refusal → ℕ
+code_of Undecodable = 21
+code_of OutOfOrder = 28
+code_of OtherShard = 29
+code_of NoRoom = 23
+
+pub record Joins (shards k : ℕ) (s out out' : List ℕ) (r : Result ℕ Refusal) : Type 0 where
   pub answer : r ≡ told (join_answers shards k (room_of out) (answers_in s))
   pub bytes : out' ≡ leaves out (join_answers shards k (room_of out) (answers_in s))
 
@@ -63,9 +67,10 @@ pub record Passed (shards k : ℕ) (s : List ℕ) (n m : ℕ) : Type 0 where
   pub owns : owned shards (answers_at s n 0) ≡ true
   pub asked : m ≡ min k (length (all_hits (answers_at s n 0)))
 
--- each refusal whatever the room
-abbrev pub Checks : (shards k : ℕ) → List ℕ → Checked → Type 0
-Checks shards k s (Fine n m) = Passed shards k s n m
-Checks shards k s Undecodable = (room : ℕ) → join_answers shards k room (answers_in s) ≡ undecodable
-Checks shards k s OutOfOrder = (room : ℕ) → join_answers shards k room (answers_in s) ≡ outOfOrder
-Checks shards k s OtherShard = (room : ℕ) → join_answers shards k room (answers_in s) ≡ otherShard
+-- each refusal whatever the room, which is not looked at
+abbrev pub Checks : (shards k : ℕ) → List ℕ → Result (ℕ × ℕ) Refusal → Type 0
+Checks shards k s (Ok p) = Passed shards k s p.0 p.1
+Checks shards k s (Err NoRoom) = ⊥
+Checks shards k s (Err Undecodable) = (room : ℕ) → join_answers shards k room (answers_in s) ≡ undecodable
+Checks shards k s (Err OutOfOrder) = (room : ℕ) → join_answers shards k room (answers_in s) ≡ outOfOrder
+Checks shards k s (Err OtherShard) = (room : ℕ) → join_answers shards k room (answers_in s) ≡ otherShard

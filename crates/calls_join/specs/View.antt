@@ -1,13 +1,11 @@
 -- The answers of a collection's shards where they stand in the lent bytes (Rattle.spec_join.specs.Answers): by positions and counts, as loops go
 -- through them. That these are what the format says is a law (proofs/Bytes.antt). Definitions only.
-use Rattle.std.specs.Prelude.{ℕ, zero, suc, ◌+◌, ◌*◌, ◌≡◌, Bool, true, List, [], ◌∷◌, leb, length}
+use Rattle.std.specs.Prelude.{ℕ, zero, suc, ◌+◌, ◌*◌, ◌≡◌, Bool, true, List, [], ◌∷◌, leb, length, Option, Some, None}
 use Rattle.std.proofs.Math.Option.{none}
 use Rattle.spec.specs.Lists.{◌and◌}
 use Rattle.spec.specs.Layout.Format.{number_at}
 use Rattle.spec_join.specs.Join.{Hit, Answer}
 use Rattle.spec_join.specs.Answers.{answers_in}
-use Rattle.calls_join.specs.declared.answers.Counting.{Counting}
-use Rattle.calls_join.specs.declared.answers.Counting.TheVariants.{Whole, Broken}
 
 -- the hit at a position
 abbrev pub hit_at : List ℕ → ℕ → Hit
@@ -48,6 +46,6 @@ abbrev pub Stand : List ℕ → (n p : ℕ) → Type 0
 Stand s n p = Leads s n p (length s)
 
 -- what is counted
-abbrev pub Counts : List ℕ → Counting → Type 0
-Counts s (Whole n) = Stand s n 0
-Counts s Broken = answers_in s ≡ none
+abbrev pub Counts : List ℕ → Option ℕ → Type 0
+Counts s (Some n) = Stand s n 0
+Counts s None = answers_in s ≡ none

@@ -3,13 +3,6 @@ ghost use Rattle.std.specs.Prelude.{◌≡◌, true, ◌+◌, ◌*◌, ◌≤◌
 ghost use Rattle.calls_join.specs.View.{Counts, Stand, after_at, answers_at, count_at, stands_at};
 ghost use Rattle.spec_join.specs.Join.{all_hits};
 
-// How many answers there are, or that the bytes are no whole answers (21).
-#[derive(Drop)]
-pub enum Counting {
-    Whole(usize),
-    Broken,
-}
-
 // How many hits the answer at p has.
 pub fn count_at(s: &[u8], p: usize) -> usize
     requires { p + 6 ≤ length s.now }
@@ -41,19 +34,21 @@ pub fn after(s: &[u8], p: usize) -> usize
     p + 6 + 12 * count_at(s, p)
 }
 
-pub fn count_answers(s: &[u8]) -> Counting
+// How many answers there are; none if the bytes are no whole answers (21).
+pub fn count_answers(s: &[u8]) -> Option<usize>
     ensures { Counts s.now result }
 {
     let mut n: usize = 0;
     let mut p: usize = 0;
+    // Stays a while: each answer tells its own length, which moves p.
     while p < s.len() {
         if !stands(s, p) {
-            return Counting::Broken;
+            return None;
         }
         p = after(s, p);
         n += 1;
     }
-    Counting::Whole(n)
+    Some(n)
 }
 
 // How many hits n answers have together.
@@ -63,11 +58,9 @@ pub fn total(s: &[u8], n: usize) -> usize
 {
     let mut sum: usize = 0;
     let mut p: usize = 0;
-    let mut left = n;
-    while 0 < left {
+    for _ in 0..n {
         sum += count_at(s, p);
         p = after(s, p);
-        left -= 1;
     }
     sum
 }

@@ -5,19 +5,11 @@ ghost use Rattle.spec_join.specs.Join.{sound_answer, sound};
 ghost use Rattle.calls_join.specs.View.{Stand, answers_at};
 ghost use Rattle.calls_join.specs.Calls.{Checks};
 
-use crate::answers::{Counting, after, count_answers, count_at, total};
+use crate::Refusal;
+use crate::answers::{after, count_answers, count_at, total};
 use crate::order::{in_order, shards_rise};
 use crate::owners::all_owned;
 use crate::repeats::apart;
-
-// How many answers there are and how many hits are to be answered; or which refusal.
-#[derive(Drop)]
-pub enum Checked {
-    Fine(usize, usize),
-    Undecodable,
-    OutOfOrder,
-    OtherShard,
-}
 
 // Whether each of n answers is in order and has no id twice.
 fn each_sound(s: &[u8], n: usize) -> bool
@@ -25,8 +17,7 @@ fn each_sound(s: &[u8], n: usize) -> bool
     ensures { result ≡ every sound_answer (answers_at s.now n 0) }
 {
     let mut p: usize = 0;
-    let mut left = n;
-    while 0 < left {
+    for _ in 0..n {
         let count = count_at(s, p);
         if !in_order(s, p + 6, count) {
             return false;
@@ -35,7 +26,6 @@ fn each_sound(s: &[u8], n: usize) -> bool
             return false;
         }
         p = after(s, p);
-        left -= 1;
     }
     true
 }
@@ -54,26 +44,16 @@ fn all_sound(s: &[u8], n: usize) -> bool
     each_sound(s, n)
 }
 
-fn least(a: usize, b: usize) -> usize
-    ensures { result ≡ min a b }
-{
-    if a < b {
-        return a;
-    }
-    b
-}
-
-pub fn check(shards: u32, k: u32, s: &[u8]) -> Checked
+// How many answers there are and how many hits are to be answered; or which refusal.
+pub fn check(shards: u32, k: u32, s: &[u8]) -> Result<(usize, usize), Refusal>
     ensures { Checks shards k s.now result }
 {
-    let Counting::Whole(n) = count_answers(s) else {
-        return Checked::Undecodable;
-    };
+    let n = count_answers(s).ok_or(Refusal::Undecodable)?;
     if !all_sound(s, n) {
-        return Checked::OutOfOrder;
+        return Err(Refusal::OutOfOrder);
     }
     if !all_owned(s, n, shards) {
-        return Checked::OtherShard;
+        return Err(Refusal::OtherShard);
     }
-    Checked::Fine(n, least(k as usize, total(s, n)))
+    Ok((n, (k as usize).min(total(s, n))))
 }

@@ -25,14 +25,10 @@ pub fn in_order(s: &[u8], p: usize, n: usize) -> bool
     requires { p + 12 * n ≤ length s.now }
     ensures { result ≡ in_order (hits_at s.now n p) }
 {
-    let mut q = p;
-    let mut left = n;
-    while 1 < left {
-        if nearer(s, q + 12, q) {
+    for i in 1..n {
+        if nearer(s, p + 12 * i, p + 12 * (i - 1)) {
             return false;
         }
-        q += 12;
-        left -= 1;
     }
     true
 }
@@ -43,14 +39,12 @@ pub fn shards_rise(s: &[u8], n: usize) -> bool
     ensures { result ≡ rising shard_below (answers_at s.now n 0) }
 {
     let mut p: usize = 0;
-    let mut left = n;
-    while 1 < left {
+    for _ in 1..n {
         let q = after(s, p);
         if num::get4(s, q) <= num::get4(s, p) {
             return false;
         }
         p = q;
-        left -= 1;
     }
     true
 }

@@ -11,14 +11,10 @@ fn owns(s: &[u8], p: usize, n: usize, shard: u32, shards: u32) -> bool
     requires { p + 12 * n ≤ length s.now }
     ensures { result ≡ own_hits shards shard (hits_at s.now n p) }
 {
-    let mut q = p;
-    let mut left = n;
-    while 0 < left {
-        if wire_read::placed::shard_of(num::get8(s, q), shards) != shard {
+    for i in 0..n {
+        if wire_read::placed::shard_of(num::get8(s, p + 12 * i), shards) != shard {
             return false;
         }
-        q += 12;
-        left -= 1;
     }
     true
 }
@@ -29,13 +25,11 @@ pub fn all_owned(s: &[u8], n: usize, shards: u32) -> bool
     ensures { result ≡ join.owned shards (answers_at s.now n 0) }
 {
     let mut p: usize = 0;
-    let mut left = n;
-    while 0 < left {
+    for _ in 0..n {
         if !owns(s, p + 6, count_at(s, p), num::get4(s, p), shards) {
             return false;
         }
         p = after(s, p);
-        left -= 1;
     }
     true
 }

@@ -12,6 +12,7 @@ fn listed(s: &[u8], p: usize, next: &[u16], n: usize, from: usize, id: u64) -> b
     ensures { Listed s.now p next.now n from id result }
 {
     let mut c = from;
+    // Stays a while: the chain leads from hit to hit.
     while 0 < c {
         if num::get8(s, p + 12 * (c - 1)) == id {
             return true;
@@ -27,8 +28,7 @@ pub fn apart(s: &[u8], p: usize, n: usize) -> bool
 {
     let mut last = [0u16; 2048];
     let mut next = [0u16; 1024];
-    let mut i: usize = 0;
-    while i < n {
+    for i in 0..n {
         let id = num::get8(s, p + 12 * i);
         let b = (id % 2048) as usize;
         let c = last[b];
@@ -37,7 +37,6 @@ pub fn apart(s: &[u8], p: usize, n: usize) -> bool
         }
         next[i] = c;
         last[b] = (i + 1) as u16;
-        i += 1;
     }
     true
 }

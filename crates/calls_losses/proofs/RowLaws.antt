@@ -9,25 +9,23 @@ use lib.ListN.{length, drop, length-append, drop_of_length-le}
 use lib.Seq.{sets}
 use lib.Dec.{leb}
 use Rattle.spec.specs.Lists.{collect}
-use Rattle.spec.specs.Layout.Format.{bytes_of, concat_map}
+use Rattle.spec.specs.Layout.Format.{bytes_of}
 use Rattle.spec.specs.Map.Tables.{Spec}
 use Rattle.spec.specs.Map.Place.{Load, is_load, Placed, place_on}
 use Rattle.spec_laws.proofs.Map.Rows.{every-filter}
-use Rattle.map_tables.specs.View.{view_placement, refusal_of}
-use Rattle.map_place.specs.Answers.{placed_as, placed_of}
+use Rattle.std.specs.Prelude.{Some, Ok}
+use Rattle.map_tables.specs.View.{view_placement}
+use Rattle.map_tables.specs.declared.Placement.{Placement}
+use Rattle.map_place.specs.Answers.{PlaceAnswer, placed_of}
 use Rattle.map_place.specs.Read.{Light}
-use Rattle.map_place.specs.declared.PlaceAnswer.{PlaceAnswer}
-use Rattle.map_place.specs.declared.Placing.{Placing}
-use Rattle.map_place.specs.declared.Placing.TheVariants as placing
 use Rattle.image_parts.specs.Shape.{Stored}
 use Rattle.image_parts.proofs.Images.{sets-append}
 use Rattle.spec_losses.specs.Losses.{Loss, same_placed}
 use Rattle.spec_losses.specs.Loads.{without_load}
-use Rattle.image_map_losses.specs.Codes.{code_as}
+use Rattle.image_map_losses.specs.Codes.{code_of}
 use Rattle.image_map_losses.specs.Left.{loss_on, matters_on, losses_on}
-use Rattle.image_map_losses.proofs.Compared.{above_16}
 use Rattle.calls_map.specs.Places.{lists_bytes}
-use Rattle.calls_losses.specs.Rows.{loss_bytes, losses_bytes, loss_as, PutsRow}
+use Rattle.calls_losses.specs.Rows.{lists_after, loss_bytes, losses_bytes, loss_as, PutsRow}
 
 -- ---- one row
 
@@ -36,33 +34,28 @@ module _ (n : ℕ) (a : PlaceAnswer) where
   abbrev head_bytes : ℕ → List ℕ
   head_bytes code = bytes_of 8 n ++ bytes_of 8 code
 
-  short_as : (h : Placing) → (code_as h ≡ 0 → ⊥) → loss_bytes (record { node = n; then = placed_as h a.placement }) ≡ head_bytes (code_as h)
+  short_as : lists_after (placed_of a) ≡ [] → loss_bytes (loss_as n a) ≡ head_bytes (code_of (placed_of a))
   unfolding loss_bytes
-  short_as placing.Nowhere z = append-nil (head_bytes 1)
-  short_as placing.Placed z = absurd (z refl)
-  short_as (placing.Refused r) z = append-nil (head_bytes (code_as (placing.Refused r)))
+  short_as e = let h = head_bytes (code_of (placed_of a)) in ap (λ (b : List ℕ). h ++ b) e ∙ append-nil h
 
-  long_as : (h : Placing) → code_as h ≡ 0
-      → loss_bytes (record { node = n; then = placed_as h a.placement }) ≡ head_bytes (code_as h) ++ lists_bytes (view_placement a.placement)
+  long_as : (p : Placement) → a ≡ Ok (Some p) → loss_bytes (loss_as n a) ≡ head_bytes (code_of (placed_of a)) ++ lists_bytes (view_placement p)
   unfolding loss_bytes
-  long_as placing.Nowhere z = absurd (omega arith)
-  long_as placing.Placed z = refl
-  long_as (placing.Refused r) z = absurd (omega (arith, above_16 (refusal_of r)))
+  long_as p e = ap (λ (x : PlaceAnswer). head_bytes (code_of (placed_of a)) ++ lists_after (placed_of x)) e
 
-  module _ (s t : List ℕ) (at code : ℕ) (is : code ≡ code_as a.how) where
-    pub short_row : (code ≡ 0 → ⊥) → Stored s t at (head_bytes code) 16 → PutsRow n a s t at 16
+  module _ (s t : List ℕ) (at code : ℕ) (is : code ≡ code_of (placed_of a)) where
+    pub short_row : lists_after (placed_of a) ≡ [] → Stored s t at (head_bytes code) 16 → PutsRow n a s t at 16
     short_row z e =
-        let q : head_bytes code ≡ loss_bytes (loss_as n a) = ap head_bytes is ∙ sym (short_as a.how (λ k. z (is ∙ k))) in
+        let q : head_bytes code ≡ loss_bytes (loss_as n a) = ap head_bytes is ∙ sym (short_as z) in
         record {
           bytes = e.image ∙ ap (λ (b : List ℕ). sets s at b) q;
           size = sym (ap length (sym q) ∙ e.long);
           most = omega arith;
         }
 
-    pub long_row : (k : ℕ) → code ≡ 0 → k ≤ 1024 → Stored s t at (head_bytes code ++ lists_bytes (view_placement a.placement)) (16 + k) → PutsRow n a s t at (16 + k)
-    long_row k z h e =
-        let q : head_bytes code ++ lists_bytes (view_placement a.placement) ≡ loss_bytes (loss_as n a) =
-        ap (λ (c : ℕ). head_bytes c ++ lists_bytes (view_placement a.placement)) is ∙ sym (long_as a.how (sym is ∙ z)) in
+    pub long_row : (p : Placement) (k : ℕ) → a ≡ Ok (Some p) → k ≤ 1024 → Stored s t at (head_bytes code ++ lists_bytes (view_placement p)) (16 + k) → PutsRow n a s t at (16 + k)
+    long_row p k z h e =
+        let q : head_bytes code ++ lists_bytes (view_placement p) ≡ loss_bytes (loss_as n a) =
+        ap (λ (c : ℕ). head_bytes c ++ lists_bytes (view_placement p)) is ∙ sym (long_as p z) in
         record {
           bytes = e.image ∙ ap (λ (b : List ℕ). sets s at b) q;
           size = sym (ap length (sym q) ∙ e.long);

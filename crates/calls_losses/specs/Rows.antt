@@ -8,9 +8,8 @@ use Rattle.spec_losses.specs.Losses.{Loss}
 use Rattle.image_map_losses.specs.Codes.{code_of}
 use Rattle.map_tables.specs.View.{view_spec}
 use Rattle.map_tables.specs.declared.Spec.{Spec}
-use Rattle.map_place.specs.Answers.{placed_of}
+use Rattle.map_place.specs.Answers.{PlaceAnswer, placed_of}
 use Rattle.map_place.specs.Read.{view_loads}
-use Rattle.map_place.specs.declared.PlaceAnswer.{PlaceAnswer}
 use Rattle.map_place.specs.declared.Loads.{Loads}
 use Rattle.image_map_losses.specs.Left.{losses_on}
 use Rattle.calls_map.specs.Places.{lists_bytes}

@@ -16,15 +16,13 @@ fn put_row(out: &mut [u8], at: usize, node: DataNodeId, a: PlaceAnswer) -> usize
     requires { at + 1040 ≤ length out.old }
     ensures { PutsRow node.0 a out.old out.new at result }
 {
-    let how = a.how;
-    let code = answer_code(how);
     num::put8(out, at, node.0);
-    num::put8(out, at + 8, code);
-    if code != 0 {
+    num::put8(out, at + 8, answer_code(a));
+    let Ok(Some(placement)) = a else {
         return 16;
-    }
-    let size = lists_size(a.placement);
-    put_lists(out, at + 16, a.placement);
+    };
+    let size = lists_size(placement);
+    put_lists(out, at + 16, placement);
     16 + size
 }
 
@@ -37,19 +35,16 @@ pub fn put_losses(out: &mut [u8], loads: Loads, spec: Spec) -> Put
     let count = loads.count;
     let mut at: usize = 0;
     let mut rows: u64 = 0;
-    let mut i: usize = 0;
-    while i < count {
+    for i in 0..count {
         let id = DataNodeId(loads.ids[i]);
         let left = loads_without(loads, id);
         let then = place_on(left, spec);
         if same_answer(then, base) {
-            i += 1;
-        } else {
-            let size = put_row(out, at, id, then);
-            at += size;
-            rows += 1;
-            i += 1;
+            continue;
         }
+        let size = put_row(out, at, id, then);
+        at += size;
+        rows += 1;
     }
     Put {
         rows: rows,

@@ -13,12 +13,9 @@ use Rattle.spec.specs.Map.Place.{nobody, replaced_by, not_replaced, Placed, plac
 use Rattle.spec_laws.proofs.Lists.{not_both}
 use Rattle.wire_write.specs.Written.{text_fits, key_given}
 use Rattle.map_tables.specs.Names.{view_key}
-use Rattle.map_tables.specs.declared.Placement.{Placement}
 use Rattle.map_tables.specs.declared.ShardKey.{ShardKey}
 use Rattle.map_check.specs.Lent.{well_formed_lent}
-use Rattle.map_place.specs.Answers.{placed_as, place_lent, replaced_of, replacement_lent}
-use Rattle.map_place.specs.declared.Placing.{Placing}
-use Rattle.map_place.specs.declared.Replaced.{Replaced}
+use Rattle.map_place.specs.Answers.{place_lent, replacement_lent}
 use Rattle.map_place.proofs.Answered.{place_24, replace_24}
 use Rattle.image_map.specs.Image.{map_at, map_lent}
 use Rattle.calls_parts.specs.Answer.{answer_lent, number_put}
@@ -42,10 +39,6 @@ module _ (s : List ℕ) where
   pub node-refused : (why : Refusal) (r : ℕ) → r ≡ number_of why → AnswersNode (not_replaced why) s s r
   node-refused why r e = record { number = e; bytes = refl }
 
--- of the answer that the call gave
-pub told-node : (x y : Replaced) (s t : List ℕ) (r : ℕ) → x ≡ y → AnswersNode (replaced_of y) s t r → AnswersNode (replaced_of x) s t r
-told-node x y s t r e p = subst (λ (z : Replaced). AnswersNode (replaced_of z) s t r) (sym e) p
-
 -- ---- lists
 
 module _ (ls : List (List ℕ)) (s : List ℕ) where
@@ -67,10 +60,6 @@ module _ (ls : List (List ℕ)) (s : List ℕ) where
 
 pub lists_refused : (s : List ℕ) (why : Refusal) (r : ℕ) → r ≡ number_of why → AnswersLists (not_placed why) s s r
 lists_refused s why r e = record { number = e; bytes = refl }
-
-pub told_lists : (h g : Placing) (p : Placement) (s t : List ℕ) (r : ℕ) → h ≡ g
-    → AnswersLists (placed_as g p) s t r → AnswersLists (placed_as h p) s t r
-told_lists h g p s t r e q = subst (λ (z : Placing). AnswersLists (placed_as z p) s t r) (sym e) q
 
 -- ---- the calls
 

@@ -8,7 +8,7 @@ ghost use Rattle.calls_map.specs.Places.{list_bytes, lists_bytes, AnswersLists};
 
 use crate::numbers::refusal_number;
 use image_parts::bytes::in_use;
-use map_place::{PlaceAnswer, Placing};
+use map_place::PlaceAnswer;
 use map_tables::{NodeList, Placement};
 
 // How many bytes a list takes.
@@ -24,11 +24,9 @@ pub fn lists_size(p: Placement) -> usize
 {
     let n = in_use(16, p.count);
     let mut size: usize = 0;
-    let mut i: usize = 0;
-    while i < n {
+    for i in 0..n {
         let l = p.lists[i];
         size += list_size(l);
-        i += 1;
     }
     size
 }
@@ -38,11 +36,9 @@ fn put_list(out: &mut [u8], at: usize, l: NodeList)
     ensures { out.new ≡ sets out.old at (list_bytes (view_list l)) }
 {
     let n = in_use(8, l.count);
-    let mut i: usize = 0;
-    while i < n {
+    for i in 0..n {
         let id = l.nodes[i];
         num::put8(out, at + 8 * i, id.0);
-        i += 1;
     }
 }
 
@@ -53,12 +49,10 @@ pub fn put_lists(out: &mut [u8], from: usize, p: Placement)
 {
     let n = in_use(16, p.count);
     let mut at = from;
-    let mut i: usize = 0;
-    while i < n {
+    for i in 0..n {
         let l = p.lists[i];
         put_list(out, at, l);
         at += list_size(l);
-        i += 1;
     }
 }
 
@@ -77,10 +71,9 @@ fn put_placement(out: &mut [u8], p: Placement) -> u32
 pub fn answer_lists(out: &mut [u8], a: PlaceAnswer) -> u32
     ensures { AnswersLists (placed_of a) out.old out.new result }
 {
-    let how = a.how;
-    match how {
-        Placing::Nowhere => 1,
-        Placing::Placed => put_placement(out, a.placement),
-        Placing::Refused(r) => refusal_number(r),
+    match a {
+        Ok(None) => 1,
+        Ok(Some(p)) => put_placement(out, p),
+        Err(r) => refusal_number(r),
     }
 }

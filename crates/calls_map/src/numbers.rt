@@ -5,7 +5,7 @@ ghost use Rattle.spec.specs.Map.Calls.{reason_number};
 ghost use Rattle.map_tables.specs.View.{answer_of, refusal_of};
 
 use image_parts::codes::outcome_coded;
-use map_tables::{Answer, Refusal, Verdict};
+use map_tables::{Refusal, Verdict};
 
 // Internal: a refusal's number.
 pub fn refusal_number(r: Refusal) -> u32
@@ -25,7 +25,7 @@ pub fn verdict_number(v: Verdict) -> u32
 {
     let a = v.answer;
     match a {
-        Answer::Done(o) => outcome_coded(o).code,
-        Answer::Refused(r) => refusal_number(r),
+        Ok(o) => outcome_coded(o).code,
+        Err(r) => refusal_number(r),
     }
 }

@@ -26,8 +26,8 @@ pub fn answer_node(out: &mut [u8], found: Replaced) -> u32
     ensures { AnswersNode (replaced_of found) out.old out.new result }
 {
     match found {
-        Replaced::Nobody => put_none(out),
-        Replaced::By(node) => put_node(out, node),
-        Replaced::Refused(r) => refusal_number(r),
+        Ok(None) => put_none(out),
+        Ok(Some(node)) => put_node(out, node),
+        Err(r) => refusal_number(r),
     }
 }

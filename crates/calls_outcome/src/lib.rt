@@ -2,4 +2,5 @@
 #![tactic(auto)]
 
 pub mod outcome;
+pub mod refusal;
 mod settle;

@@ -1,7 +1,9 @@
 // Outcome of a proposal: the call.
 ghost use Rattle.std.specs.Prelude.{◌≡◌};
 ghost use Rattle.calls_header.specs.Outcomes.{unread_outcome, proposal_at, Outcomes};
+ghost use Rattle.calls_outcome.specs.Refusals.{number_of};
 
+use crate::refusal::Refusal;
 use crate::settle::settle_row;
 use calls_parts::named::key_named;
 use image_header::is_lent;
@@ -48,29 +50,29 @@ pub fn outcome(
     peer: u64,
     command: u8,
     applied: u8,
-) -> u32
-    ensures { Outcomes header.old header.new name.now shard epoch peer command applied result }
+) -> Result<(), Refusal>
+    ensures { Outcomes header.old header.new name.now shard epoch peer command applied (number_of result) }
 {
     if unread(name, command, applied) {
-        return 21;
+        return Err(Refusal::Unread);
     }
     if !is_lent(header) {
-        return 24;
+        return Err(Refusal::Malformed);
     }
     if !is_formed(header) {
-        return 24;
+        return Err(Refusal::Malformed);
     }
     let count = num::get8(header, 24) as usize;
     let key = key_named(name, shard);
     let at = place_at(header, count, key);
     if count <= at {
         put_back(header, count);
-        return 0;
+        return Ok(());
     }
     let me = num::get8(header, 0);
     let what = proposal_at(command);
     let left = takes_out(what, applied == 1);
     settle_row(header, 48 + 1280 * at, me, epoch, peer, left);
     put_back(header, count);
-    0
+    Ok(())
 }

@@ -10,7 +10,8 @@ use lib.Seq.{sets}
 use borrow.Author.Tests.{le-leb, lt-leb}
 use Rattle.spec.specs.Layout.Message.{encode_reply}
 use Rattle.wire_write.specs.declared.Reply.{Reply}
-use Rattle.wire_write.specs.declared.Wrote.{Wrote}
+use Rattle.std.specs.Prelude.{Result}
+use Rattle.wire_write.specs.declared.Unwritten.{Unwritten}
 use Rattle.wire_write.specs.Written.{reply_given, Written}
 use Rattle.wire_write.proofs.Writes.{reply-bytes}
 use Rattle.node_replicate.specs.declared.PeerReply.{PeerReply}
@@ -28,7 +29,7 @@ reply-size w = ap length (reply-bytes w)
 pub no_room_lem : (w : Reply) (s : List ℕ) → length s < 9 → Replies w s s 23
 no_room_lem w s h = let e = lt-leb 9 (length s) h in record { answer = rw e refl; bytes = rw e refl }
 
-pub room : (w : Reply) (s t : List ℕ) (r : Wrote) → 9 ≤ length s → Written true (encode_reply (reply_given w)) s t r → Replies w s t 0
+pub room : (w : Reply) (s t : List ℕ) (r : Result ℕ Unwritten) → 9 ≤ length s → Written true (encode_reply (reply_given w)) s t r → Replies w s t 0
 room w s t r h d =
     let e = le-leb 9 (length s) h in
     let bs = encode_reply (reply_given w) in

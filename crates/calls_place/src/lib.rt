@@ -19,8 +19,8 @@ use image_map_check::place::shard_place;
 use image_map_loads::lightest::lightest_beside;
 use image_map_loads::live::live_loads;
 use image_map_loads::replicas::{HELD, REPLICAS};
+use map_place::Replaced;
 use map_place::placed::place_on;
-use map_place::{Best, Replaced};
 use map_tables::{ShardKey, Spec};
 use spec::Metric;
 use wire_write::fit::text_fits;
@@ -55,16 +55,16 @@ fn replacement_of(map: &[u8], key: ShardKey) -> Replaced
     let count = num::get8(map, SHARDS_USED) as usize;
     let at = shard_place(map, count, key);
     if count <= at {
-        return Replaced::Nobody;
+        return Ok(None);
     }
     let row = SHARDS + SHARD * at;
     let held = num::get8(map, row + HELD) as usize;
     let best = lightest_beside(map, row + REPLICAS, held);
-    let Best::At(l) = best else {
-        return Replaced::Nobody;
+    let Some(l) = best else {
+        return Ok(None);
     };
     let id = l.node;
-    Replaced::By(id)
+    Ok(Some(id))
 }
 
 // Which node takes a replica of a shard next. 0: its id stands in the first 8 bytes of `answer`; 1 none; 21 the name, 23, 24.

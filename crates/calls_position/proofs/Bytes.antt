@@ -1,12 +1,11 @@
 -- The bytes of each answer: how many there are, and the stores that make them. Assumes nothing.
-use Prim.Native.Nat.{ℕ, suc}
-use mathlib.Core.Path.{◌≡◌, refl, sym, ap, ◌∙◌}
-use mathlib.Core.List.{List, [], ◌∷◌, map}
+use Prim.Native.Nat.{ℕ}
+use mathlib.Core.Path.{◌≡◌, refl}
+use mathlib.Core.List.{List, [], ◌∷◌}
 use lib.ListN.{length, set}
 use lib.Seq.{sets}
 use lib.Ieee.{Float}
-use Rattle.spec.specs.Layout.Format.{bytes_of, concat_map, encode}
-use Rattle.spec.specs.Layout.Parts.{vector_f}
+use Rattle.spec.specs.Layout.Format.{bytes_of, concat_map}
 use Rattle.spec.specs.Node.Wire.{bits_of}
 use Rattle.spec_position.specs.declared.Fields.{Fields}
 use Rattle.spec_position.specs.declared.Position.{Position}

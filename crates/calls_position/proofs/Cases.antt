@@ -1,13 +1,12 @@
 -- Answers to a host, computed: a position just south of the equator, its fields and its vector, byte by byte, and a buffer that is a byte too short.
 -- Assumes nothing.
 use mathlib.Core.Path.{◌≡◌, refl}
-use mathlib.Core.List.{List, [], ◌∷◌}
-use Prim.Native.Nat.{ℕ}
+use mathlib.Core.List.{[], ◌∷◌}
 use lib.IntN.{pos, negsuc}
-use lib.Ieee.{binary32, of_int, round, to_bits}
+use lib.Ieee.{of_int, round, to_bits}
 use lib.ListN.{replicate}
 use Rattle.spec.specs.Lists.{◌and◌}
-use Rattle.spec_position.specs.Positions.{Turned, turned, no_room, in_range, ra_in, dec_in, sign_in, within, position_of, fields_of, floats_of, to_position, to_fields, to_vector}
+use Rattle.spec_position.specs.Positions.{turned, no_room, in_range, ra_in, dec_in, sign_in, within, position_of, fields_of, floats_of, to_position, to_fields, to_vector}
 use Rattle.calls_position.specs.Calls.{position_bytes, fields_bytes, vector_bytes, written, in_room, typed, at}
 
 pub position_bytes_lem : written position_bytes (to_position (typed 0 0 100 1 0 0 500))

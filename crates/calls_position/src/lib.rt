@@ -6,7 +6,7 @@
 ghost use Rattle.calls_position.specs.Calls.{Divides, Places, Vectors};
 
 use crate::stored::{put_fields, put_position, put_vector};
-use num_position::{Fielding, Placing, Vectoring, to_fields, to_position, to_vector};
+use num_position::{Refusal, to_fields, to_position, to_vector};
 use spec_position::{Fields, Position};
 
 mod stored;
@@ -25,15 +25,15 @@ pub fn position(
     ensures { Places hours minutes thousandths minus degrees arcminutes arcthousandths position.old position.new result }
 {
     let fields = Fields {
-        hours: hours,
-        minutes: minutes,
-        thousandths: thousandths,
-        minus: minus,
-        degrees: degrees,
-        arcminutes: arcminutes,
-        arcthousandths: arcthousandths,
+        hours,
+        minutes,
+        thousandths,
+        minus,
+        degrees,
+        arcminutes,
+        arcthousandths,
     };
-    let Placing::Placed(p) = to_position(fields) else {
+    let Some(p) = to_position(fields) else {
         return 30;
     };
     if position.len() < 16 {
@@ -47,17 +47,17 @@ pub fn position(
 pub fn position_fields(ra: i64, dec: i64, fields: &mut [u8]) -> u32
     ensures { Divides ra dec fields.old fields.new result }
 {
-    let at = Position { ra: ra, dec: dec };
+    let at = Position { ra, dec };
     match to_fields(at) {
-        Fielding::Fielded(f) => {
+        Ok(f) => {
             if fields.len() < 28 {
                 return 23;
             }
             put_fields(fields, f);
             0
         }
-        Fielding::OutOfRange => 30,
-        Fielding::NoThousandth => 31,
+        Err(Refusal::OutOfRange) => 30,
+        Err(Refusal::NoThousandth) => 31,
     }
 }
 
@@ -65,8 +65,8 @@ pub fn position_fields(ra: i64, dec: i64, fields: &mut [u8]) -> u32
 pub fn position_vector(ra: i64, dec: i64, vector: &mut [u8]) -> u32
     ensures { Vectors ra dec vector.old vector.new result }
 {
-    let at = Position { ra: ra, dec: dec };
-    let Vectoring::Vectored(v) = to_vector(at) else {
+    let at = Position { ra, dec };
+    let Some(v) = to_vector(at) else {
         return 30;
     };
     if vector.len() < 17 {

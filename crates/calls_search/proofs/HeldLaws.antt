@@ -33,7 +33,7 @@ use Rattle.log_search.proofs.Answered.{least_both, answered-short, answered-foun
 use Rattle.image_store_search.specs.Nearest.{NearestIn}
 use Rattle.node_shard.specs.declared.Held.{Held}
 use Rattle.node_admit.specs.declared.Admit.TheVariants as A
-use Rattle.node_admit.specs.declared.Expiry.{Expiry}
+use Rattle.std.specs.Prelude.{Option}
 use Rattle.node_admit.specs.View.{view_expiry}
 use Rattle.node_admit.specs.Admits.{AdmitsSearch}
 use Rattle.node_admit.proofs.AdmissionLaws.{search_not, search_unleased, search_yes}
@@ -125,11 +125,11 @@ module _ (h s : List ℕ) (key : Key) (at : ℕ) (f : FoundIn h s key at) where
         }
 
   -- the lease's end, where it stands
-  pub lease-is : (clock : ℕ) (code time : ℕ) → code ≡ number_at 4 h 36 → time ≡ number_at 8 h 40 → (e : Expiry) → e ≡ expiry_of code time → (b : Bool)
+  pub lease-is : (clock : ℕ) (code time : ℕ) → code ≡ number_at 4 h 36 → time ≡ number_at 8 h 40 → (e : Option ℕ) → e ≡ expiry_of code time → (b : Bool)
       → b ≡ before (view_expiry e) clock → b ≡ before (view_expiry n.expiry) clock
   unfolding node_at
   lease-is clock code time c t e x b d =
-      d ∙ ap (λ (z : Expiry). before (view_expiry z) clock)
+      d ∙ ap (λ (z : Option ℕ). before (view_expiry z) clock)
       (x ∙ ap (λ (z : ℕ). expiry_of z time) c ∙ ap (expiry_of (number_at 4 h 36)) t)
 
   epoch_here : x.held.epoch.0 ≡ number_at 8 h (row + 64)

@@ -74,5 +74,5 @@ pub fn search_held(
         return 19;
     }
     let h = nearest_held(header, stores, key, at, query, k);
-    put_found(hits, answer, h)
+    put_found(hits, answer, &h)
 }

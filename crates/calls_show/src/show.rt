@@ -69,10 +69,9 @@ fn change(header: &mut [u8], count: usize, map: &[u8], starts: &mut [u8], answer
 {
     let mut rows = [0u8; 10240];
     let mut workers = [0u8; 13824];
-    let made = make_rows(header, count, map, &mut rows, &mut workers);
-    if made.full {
+    let Ok(made) = make_rows(header, count, map, &mut rows, &mut workers) else {
         return 23;
-    }
+    };
     let many = made.workers;
     let size = 54 * many;
     if starts.len() < size {

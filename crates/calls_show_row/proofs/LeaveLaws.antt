@@ -8,7 +8,7 @@ use lib.Dec.{ltb, leb}
 use lib.ListN.{length, take, drop, length-take}
 use native.Mathlib.Omega.{arith}
 use borrow.Author.Tests.{le-ltb, lt-ltb, ltb-true, ltb-false, leb-true}
-use Rattle.spec.specs.Lists.{◌and◌, any, collect}
+use Rattle.spec.specs.Lists.{any, collect}
 use Rattle.spec.specs.Limits.{max_workers}
 use Rattle.spec.specs.Log.{promote}
 use Rattle.spec.specs.Map.Tables.{ShardInfo}
@@ -26,7 +26,7 @@ use Rattle.map_tables.specs.declared.ShardKey.{ShardKey}
 use Rattle.map_tables.specs.declared.ShardRow.{ShardRow}
 use Rattle.map_tables.specs.Names.{view_key}
 use Rattle.map_tables.specs.View.{view_holders, view_in_sync, view_shard}
-use Rattle.node_shard.specs.declared.Leader.{Leader}
+use Rattle.std.specs.declared.option.Option as option
 use Rattle.node_shard.specs.Shows.{leader_is, leader_of, rises, record_epoch}
 use Rattle.node_header.specs.declared.HeldRow.{HeldRow}
 use Rattle.node_header.specs.View.{Stores, view_held_row, kept_as}
@@ -105,7 +105,7 @@ module _ (s m t : List ℕ) (at me : ℕ) (row : ShardRow) (b : RowBecomes s m a
     same = λ st metric. ap (view_held_row st) e ∙ v st metric;
   }
 
-  module _ (leader : Leader) (is : leader_of leader ≡ (view_shard row).primary) where
+  module _ (leader : option.Option ℕ) (is : leader_of leader ≡ (view_shard row).primary) where
     named : (c : Bool) → leader_is leader me ≡ c → show.is_primary (view_shard row).primary me ≡ c
     named c e = ap (λ (o : Option ℕ). show.is_primary o me) (sym is) ∙ sym (leader-is leader me) ∙ e
 

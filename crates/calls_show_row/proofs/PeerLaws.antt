@@ -1,6 +1,6 @@
 -- The peers of a row changed where they stand: one put in, each of them, those of the holders that are new. Assumes nothing.
 use Prim.Native.Nat.{ℕ, ◌+◌, ◌*◌, ◌≤◌, ◌<◌}
-use mathlib.Core.Path.{◌≡◌, refl, sym, ap, ◌∙◌}
+use mathlib.Core.Path.{◌≡◌, refl, sym, ap, subst, ◌∙◌}
 use mathlib.Core.Bool.{Bool}
 use mathlib.Core.List.{List, ◌∷◌, ◌++◌, map}
 use lib.ListN.{length, get_or, take, drop, set}
@@ -15,7 +15,16 @@ use Rattle.image_header_row.specs.Rows.{peer_at, peers_at, held_row_at}
 use Rattle.image_header_check.proofs.Rows.{peers-is, peers_long, peer-row}
 use Rattle.image_header_set.specs.Row.{RowBecomes, peer_set}
 use Rattle.image_header_set.proofs.SetLaws.{row-then, row_as}
-use Rattle.calls_show_row.specs.Peers.{peers_set, peers_in, PeersBecome}
+use Rattle.std.specs.Prelude.{Option, Some, None}
+use Rattle.calls_show_row.specs.Peers.{peers_set, peers_in, AtMost32, PeersBecome}
+
+-- of a number of at most 32, or of none
+pub at_most_then : (o : Option ℕ) {P Q : ℕ → Type 0} → ((n : ℕ) → P n → Q n) → AtMost32 o P → AtMost32 o Q
+at_most_then None f p = f 33 p
+at_most_then (Some n) f p = (p.0, f n p.1)
+
+pub at_most_at : (P : ℕ → Type 0) (o : Option ℕ) (n : ℕ) → o ≡ Some n → AtMost32 o P → (n ≤ 32) × P n
+at_most_at P o n e p = subst (λ (q : Option ℕ). AtMost32 q P) e p
 
 module _ (s : List ℕ) (row : ℕ) where
   pub peers-full : length (peers_in s row) ≡ 32

@@ -1,6 +1,6 @@
 -- The four functions that a caller has, from what a row becomes. Assumes nothing.
 use Prim.Native.Nat.{ℕ, ◌+◌, ◌*◌, ◌≤◌, ◌<◌}
-use mathlib.Core.Path.{◌≡◌, sym, ap, subst, ◌∙◌}
+use mathlib.Core.Path.{◌≡◌, refl, sym, ap, subst, ◌∙◌}
 use mathlib.Core.List.{List}
 use lib.Dec.{ltb}
 use lib.ListN.{length, take, length-take}
@@ -23,6 +23,8 @@ use Rattle.image_parts.specs.Shape.{Stored}
 use Rattle.image_header_row.specs.Rows.{peers_at, held_row_at}
 use Rattle.image_header_check.proofs.Rows.{count-is, peers-is}
 use Rattle.calls_header.specs.Shows.{start_bytes}
+use Rattle.std.specs.Prelude.{Option, Some, None}
+use Rattle.calls_show_row.specs.Peers.{AtMost32}
 use Rattle.calls_show_row.specs.Row.{showing, Ready, Few, Needs, Holds, Puts}
 use Rattle.calls_show_row.specs.Leave.{starts_between, Leaves, PutsNew}
 use Rattle.calls_show_row.proofs.NewsLaws.{collect-same, collect-most}
@@ -30,6 +32,12 @@ use Rattle.calls_show_row.proofs.NewsLaws.{collect-same, collect-most}
 -- no 33rd worker
 pub few-known : (s t : List ℕ) (at me : ℕ) (row : ShardRow) (r : ℕ) → Leaves s t at me row r → Few (held_row_at s at) me row → r ≤ 32
 few-known s t at me row r w f = ltb-false 32 r (sym (w.full some_stores Euclidean) ∙ f.few some_stores Euclidean)
+
+-- .. so a number is told
+pub known-is : (s t : List ℕ) (at me : ℕ) (row : ShardRow) (o : Option ℕ) → AtMost32 o (Leaves s t at me row) → Few (held_row_at s at) me row
+    → (n : ℕ) × (o ≡ Some n) × (n ≤ 32) × Leaves s t at me row n
+known-is s t at me row None w f = absurd (let h = few-known s t at me row 33 w f in omega arith)
+known-is s t at me row (Some n) w f = (n, refl, w.0, w.1)
 
 -- ---- the row made in a copy
 
@@ -65,7 +73,7 @@ module _ (s : List ℕ) (at me : ℕ) (row : ShardRow) (b : List ℕ) (same : he
       after-few = let p = (w.shows le).peers in let c = count-is t 0 in omega arith
 
       pub needs_some : (n k : ℕ) → n ≡ number_at 8 t 88
-          → k ≡ length (collect (show.is_new (take r (peers_at s (at + 256)))) node_of (take n (peers_at t 256))) → Needs (held_row_at s at) me row k
+          → k ≡ length (collect (show.is_new (take r (peers_at s (at + 256)))) node_of (take n (peers_at t 256))) → (k ≤ 32) × Needs (held_row_at s at) me row k
       unfolding show.starts
       needs_some n k e q =
           let old = take r (peers_at s (at + 256)) in
@@ -73,12 +81,14 @@ module _ (s : List ℕ) (at me : ℕ) (row : ShardRow) (b : List ℕ) (same : he
           let a = after-few in
           let m = length-take n (peers_at t 256) in
           let o = collect-most (show.is_new old) node_of rows in
-          let few : k ≤ 32 = omega arith in
-          record {
-            most = omega arith;
-            full = λ st metric. full_is st metric ∙ le-ltb 32 r le ∙ sym (ne_eqb k 33 (λ z. omega arith));
-            start = λ _ st metric. ap (λ (l : List show.Worker). length l) (start_is st metric) ∙ count st metric ∙ sym q;
-          }
+          let few : k ≤ 32 = omega arith in (
+            few,
+            record {
+              most = omega arith;
+              full = λ st metric. full_is st metric ∙ le-ltb 32 r le ∙ sym (ne_eqb k 33 (λ z. omega arith));
+              start = λ _ st metric. ap (λ (l : List show.Worker). length l) (start_is st metric) ∙ count st metric ∙ sym q;
+            },
+          )
         where
           count : (st : Stores) (metric : Metric) → length (starts_between r (peers_at s (at + 256)) (held_row_at t 0) metric)
               ≡ length (collect (show.is_new (take r (peers_at s (at + 256)))) node_of (take n (peers_at t 256)))

@@ -1,5 +1,5 @@
 -- The peers of a held shard's row, changed where they stand. Definitions only.
-use Rattle.std.specs.Prelude.{ℕ, ◌≤◌, ◌<◌, ◌≡◌, List, length, take}
+use Rattle.std.specs.Prelude.{ℕ, ◌≤◌, ◌<◌, ◌≡◌, List, length, take, Option, Some, None}
 use Rattle.spec.specs.Limits.{max_workers}
 use Rattle.spec.specs.declared.Peer.{Peer}
 use Rattle.node_shard.specs.View.{with_rows}
@@ -20,6 +20,11 @@ peers_in s at = (held_row_at s at).held.peers
 pub record PeersBecome (s t : List ℕ) (at n : ℕ) (l : List Peer) : Type 0 where
   pub becomes : RowBecomes s t at (peers_set (held_row_at s at) (peers_in t at))
   pub rows : take n (peers_in t at) ≡ l
+
+-- what holds of a number of at most 32; or of 33, where there is none since 32 are too few
+abbrev pub AtMost32 : Option ℕ → (ℕ → Type 0) → Type 0
+AtMost32 (Some n) P = (n ≤ 32) × P n
+AtMost32 None P = P 33
 
 -- .. r of them in use then, or 33 where l has more than the row takes
 pub record PeersGrow (s t : List ℕ) (at : ℕ) (l : List Peer) (r : ℕ) : Type 0 where

@@ -14,13 +14,9 @@ pub fn count_new(s: &[u8], at: usize, was: usize, t: &[u8], to: usize, count: us
     ensures { result ≡ length (collect (is_new (take was (peers_at s.now at))) node_of (take count (peers_at t.now to))) }
 {
     let mut n: usize = 0;
-    let mut i: usize = 0;
-    while i < count {
+    for i in 0..count {
         if was <= place_of(s, at, was, num::get8(t, to + 32 * i)) {
             n += 1;
-            i += 1;
-        } else {
-            i += 1;
         }
     }
     n

@@ -4,7 +4,7 @@ ghost use Rattle.spec.specs.Lists.{lead};
 ghost use Rattle.spec.specs.Node.Shown.{retained, with_rows};
 ghost use Rattle.node_shard.specs.View.{below, insert_at};
 ghost use Rattle.image_header_row.specs.Rows.{peers_at};
-ghost use Rattle.calls_show_row.specs.Peers.{peers_in, PeersBecome, PeersGrow};
+ghost use Rattle.calls_show_row.specs.Peers.{peers_in, AtMost32, PeersBecome, PeersGrow};
 
 use image_header_row::peers::peer_at;
 use image_header_set::peers::place_of;
@@ -19,14 +19,12 @@ fn place_for(s: &[u8], at: usize, count: usize, node: u64) -> usize
     requires { (at + 1024 ≤ length s.now) × (count ≤ 32) }
     ensures { result ≡ lead (below node) (take count (peers_at s.now at)) }
 {
-    let mut i: usize = 0;
-    while i < count {
+    for i in 0..count {
         if node <= num::get8(s, at + 32 * i) {
             return i;
         }
-        i += 1;
     }
-    i
+    count
 }
 
 // One row put in, those behind it moved on.
@@ -35,12 +33,10 @@ fn put_in(out: &mut [u8], row: usize, count: usize, to: usize, x: Peer)
     ensures { PeersBecome out.old out.new row (count + 1) (insert_at (take count (peers_in out.old row)) to x) }
 {
     let mut carry = x;
-    let mut i = to;
-    while i <= count {
+    for i in to..count + 1 {
         let t = peer_at(out, row + PEERS + 32 * i);
         set_peer(out, row, i, carry);
         carry = t;
-        i += 1;
     }
 }
 
@@ -61,16 +57,14 @@ pub fn retain(out: &mut [u8], row: usize, count: usize, replicas: [Replica; 8], 
     ensures { PeersBecome out.old out.new row count
         (map (retained (take holders replicas)) (take count (peers_in out.old row))) }
 {
-    let mut i: usize = 0;
-    while i < count {
+    for i in 0..count {
         let p = peer_at(out, row + PEERS + 32 * i);
         let q = row_retained(p, replicas, holders);
         set_peer(out, row, i, q);
-        i += 1;
     }
 }
 
-// A row for each holder but `me` that has none yet: how many there are then, or 33 where they do not fit.
+// A row for each holder but `me` that has none yet: how many there are then, or none where they do not fit.
 pub fn grow(
     out: &mut [u8],
     row: usize,
@@ -80,32 +74,28 @@ pub fn grow(
     holders: usize,
     insync: [DataNodeId; 8],
     synced: usize,
-) -> usize
+) -> Option<usize>
     requires { (row + 1280 ≤ length out.old) × (count ≤ 32) × (holders ≤ 8) × (synced ≤ 8) }
-    ensures { PeersGrow out.old out.new row
-        (with_rows me (take synced insync) (take holders replicas) (take count (peers_in out.old row))) result }
+    ensures { AtMost32 result (PeersGrow out.old out.new row
+        (with_rows me (take synced insync) (take holders replicas) (take count (peers_in out.old row)))) }
 {
     let mut n = count;
-    let mut i: usize = 0;
-    while i < holders {
+    for i in 0..holders {
         let r = replicas[i];
         let node = r.node;
         if node.0 == me {
-            i += 1;
-        } else {
-            if place_of(out, row + PEERS, n, node.0) < n {
-                i += 1;
-            } else {
-                if 32 <= n {
-                    return 33;
-                }
-                let x = row_new(node, in_nodes(insync, synced, node.0));
-                let to = place_for(out, row + PEERS, n, node.0);
-                put_in(out, row, n, to, x);
-                n += 1;
-                i += 1;
-            }
+            continue;
         }
+        if place_of(out, row + PEERS, n, node.0) < n {
+            continue;
+        }
+        if 32 <= n {
+            return None;
+        }
+        let x = row_new(node, in_nodes(insync, synced, node.0));
+        let to = place_for(out, row + PEERS, n, node.0);
+        put_in(out, row, n, to, x);
+        n += 1;
     }
-    n
+    Some(n)
 }

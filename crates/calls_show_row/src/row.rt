@@ -1,5 +1,6 @@
 // Internal: the row of a held shard as a row of the map leaves it.
 ghost use Rattle.image_header_row.specs.Rows.{held_row_at};
+ghost use Rattle.calls_show_row.specs.Peers.{AtMost32};
 ghost use Rattle.calls_show_row.specs.Row.{Ready, Few, Needs, Shows, Refreshes};
 
 use crate::leave::leave;
@@ -17,20 +18,17 @@ pub fn refresh_row(out: &mut [u8], at: usize, row: ShardRow)
     set_holders(out, at, list);
 }
 
-// How many workers start for the shard, or 33 where a 33rd would be needed. The row is made in a buffer of its own: nothing is written
+// How many workers start for the shard, or none where a 33rd would be needed. The row is made in a buffer of its own: nothing is written
 // before it is known that no shard has too many.
-pub fn workers_of(s: &[u8], at: usize, me: u64, row: ShardRow) -> usize
+pub fn workers_of(s: &[u8], at: usize, me: u64, row: ShardRow) -> Option<usize>
     requires { Ready s.now at row }
-    ensures { Needs (held_row_at s.now at) me row result }
+    ensures { AtMost32 result (Needs (held_row_at s.now at) me row) }
 {
     let mut after = [0u8; ROW];
     copy_row(&mut after, s, at);
-    let was = leave(&mut after, 0, me, row);
-    if 32 < was {
-        return 33;
-    }
+    let was = leave(&mut after, 0, me, row)?;
     let n = num::get8(&after, COUNT) as usize;
-    count_new(s, at + PEERS, was, &after, PEERS, n)
+    Some(count_new(s, at + PEERS, was, &after, PEERS, n))
 }
 
 // The shard as the map leaves it.

@@ -74,15 +74,11 @@ fn put_new(
     let epoch = epoch_of(role);
     let count = num::get8(t, COUNT) as usize;
     let mut next = to;
-    let mut i: usize = 0;
-    while i < count {
+    for i in 0..count {
         let peer = num::get8(t, PEERS + 32 * i);
         if was <= place_of(s, at, was, peer) {
             put_worker(starts, next, key, peer, epoch.0, metric);
             next += 54;
-            i += 1;
-        } else {
-            i += 1;
         }
     }
     next
@@ -103,6 +99,6 @@ pub fn put_workers(
 {
     let mut after = [0u8; ROW];
     copy_row(&mut after, s, at);
-    let was = leave(&mut after, 0, me, row);
+    let was = leave(&mut after, 0, me, row).unwrap();
     put_new(starts, to, s, at + PEERS, was, &after, metric)
 }

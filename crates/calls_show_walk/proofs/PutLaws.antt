@@ -1,6 +1,6 @@
 -- The rows held after, put into a header. Assumes nothing.
 use Prim.Native.Nat.{ℕ, ◌+◌, ◌*◌, ◌^◌, ◌≤◌, ◌<◌}
-use mathlib.Core.Path.{◌≡◌, refl, sym, ap, subst, ◌∙◌}
+use mathlib.Core.Path.{◌≡◌, sym, ap, ◌∙◌}
 use mathlib.Core.Bool.{true}
 use mathlib.Core.List.{List}
 use native.Mathlib.Omega.{arith}
@@ -10,7 +10,6 @@ use lib.Seq.{sets, length-sets, length-take-le, get_or-take}
 use Rattle.spec.specs.Lists.{every}
 use Rattle.spec.specs.Layout.Format.{Bytes, bytes_of, number_at}
 use Rattle.node_header.specs.declared.HeldRow.{HeldRow}
-use Rattle.node_header.specs.declared.Node.{Node}
 use Rattle.node_header.specs.View.{with_held_rows}
 use Rattle.image_parts.specs.Shape.{word, u64, items, Stored}
 use Rattle.image_header_row.specs.Rows.{held_row_f, held_row_of, held_row_at}

@@ -55,8 +55,10 @@ use Rattle.node_show.specs.declared.Start.{Start}
 use Rattle.node_show.specs.Rows.{Taken, view_start, view_taken, place_of, SlotFrom, opens, stays, listed_shown}
 use Rattle.calls_header.specs.Shows.{start_bytes}
 use Rattle.calls_show_row.specs.Row.{showing, Ready, Refreshes}
-use Rattle.calls_show_walk.specs.declared.RowMade.{RowMade}
-use Rattle.calls_show_walk.specs.Rows.{Before, ShowsAt, ShowsPut, ninth, worker, RowTaken, Takes}
+use Rattle.std.specs.Prelude as prelude
+use Rattle.std.specs.Prelude.{Some, Result, Ok, Err}
+use Rattle.calls_show_walk.specs.declared.Full.{Full}
+use Rattle.calls_show_walk.specs.Rows.{Before, ShowsPut, Refused, ninth, worker, RowSkipped, RowTaken, Takes}
 
 -- ---- a row that is copied
 
@@ -147,6 +149,11 @@ same-starts me row metric s st x =
     pick true false a b c f g h x y z = y
     pick false q a b c f g h x y z = z
 
+-- what a shard says whose collection the map has, as one of those that list the node
+abbrev pub taken_of : Result ℕ Full → Result (prelude.Option ℕ) Full
+taken_of (Ok after) = Ok (Some after)
+taken_of (Err e) = Err e
+
 module _ (me : ℕ) (row : ShardRow) (metric : Metric) (x : HeldRow) where
   abbrev told : ByNodes (view_key x.key) metric (showing me row metric some_stores x)
   told = by-nodes me (view_shard row) metric (view_held_row some_stores x)
@@ -198,14 +205,8 @@ module _ (n : Node) (t : Collections) (row : ShardRow) where
       )
 
   -- a ninth
-  pub ninth_known : (metric : Metric) → Has metric → (u v p q : List ℕ) (count many : ℕ) → 8 ≤ count
-      → Takes n t row u v p q count many (record { skip = false; full = true; workers = many })
-  ninth_known metric has u v p q count many h = record {
-    same = λ z. not_both false z refl;
-    skips = λ z. not_both false z refl;
-    full = λ z f. ninth h (held_after_lem metric has);
-    takes = λ z f. not_both true refl f;
-  }
+  pub ninth_known : (metric : Metric) → Has metric → (count : ℕ) → 8 ≤ count → Refused n t row count
+  ninth_known metric has count h = ninth h (held_after_lem metric has)
 
   module _ (le : n.count ≤ length n.held) (at : ℕ) (is : at ≡ place_of n (view_key row.key)) where
     abbrev kept : HeldRow
@@ -224,15 +225,13 @@ module _ (n : Node) (t : Collections) (row : ShardRow) where
     -- ---- the map lacks the collection
 
     module _ (lacks : Lacks) where
-      pub skipped : n.count ≤ at → (u p : List ℕ) (count many : ℕ) → Takes n t row u u p p count many (record { skip = true; full = false; workers = many })
-      skipped h u p count many = record {
-        same = λ z. (refl, refl);
-        skips = λ z s m e.
+      pub skipped : n.count ≤ at → (u p : List ℕ) → RowSkipped n t row u u p p
+      skipped h u p = record {
+        same = (refl, refl);
+        skips = λ s m e.
             ap (answer s) (lacks m e)
             ∙ ap (show.show_listed me (view_shard row) none) (shard-none s n (view_key row.key) le at is h)
             ∙ (unfold show.show_listed in refl);
-        full = λ z. not_both true refl z;
-        takes = λ z. not_both true refl z;
       }
 
       module _ (h : at < n.count) where
@@ -243,35 +242,25 @@ module _ (n : Node) (t : Collections) (row : ShardRow) where
             ∙ ap (show.show_listed me (view_shard row) none) (shard_some s n (view_key row.key) le at is h)
             ∙ (unfold show.show_listed in refl)
 
-        pub ninth_kept : (u v p q : List ℕ) (count many : ℕ) → 8 ≤ count → Takes n t row u v p q count many (record { skip = false; full = true; workers = many })
-        ninth_kept u v p q count many g = record {
-          same = λ z. not_both false z refl;
-          skips = λ z. not_both false z refl;
-          full = λ z f. ninth g (λ s m e. (show.still (show.refreshed (view_shard row) (view_held_row s kept)), kept-said s m e));
-          takes = λ z f. not_both true refl f;
-        }
+        pub ninth_kept : (count : ℕ) → 8 ≤ count → Refused n t row count
+        ninth_kept count g = ninth g (λ s m e. (show.still (show.refreshed (view_shard row) (view_held_row s kept)), kept-said s m e))
 
         pub kept-taken : kept.held.count ≤ 32 → (u v w p : List ℕ) (count many : ℕ) → count < 8 → RowBecomes u v (1280 * count) kept
-            → Refreshes v w (1280 * count) row → Takes n t row u w p p count many (record { skip = false; full = false; workers = many })
+            → Refreshes v w (1280 * count) row → RowTaken n t row u w p p count many many
         kept-taken few u v w p count many room b r = record {
-          same = λ z. not_both false z refl;
-          skips = λ z. not_both false z refl;
-          full = λ z f. not_both false f refl;
-          takes = λ z f. record {
-            room = room;
-            taken = taken;
-            shows = record {
-              skips = λ a. not_both false a refl;
-              over = λ a o. not_both false o refl;
-              takes = λ a o s m e. record { is = kept-said s m e ∙ ap some (sym (view s)); fits = ap show.overworked (view s) ∙ light };
-              slot = λ a. slot_held h (held_row_at w (1280 * count)) (r.keeps.slot ∙ ap (λ (x : HeldRow). x.slot) b.row) keys;
-              key = λ a. keys ∙ key-at h;
-            };
-            becomes = record { outside = outside_then b.outside r.keeps.outside; row = refl };
-            stored = record { image = refl; long = refl };
-            next = omega arith;
-            most = omega arith;
+          room = room;
+          taken = taken;
+          shows = record {
+            skips = λ a. not_both false a refl;
+            over = λ a o. not_both false o refl;
+            takes = λ a o s m e. record { is = kept-said s m e ∙ ap some (sym (view s)); fits = ap show.overworked (view s) ∙ light };
+            slot = λ a. slot_held h (held_row_at w (1280 * count)) (r.keeps.slot ∙ ap (λ (x : HeldRow). x.slot) b.row) keys;
+            key = λ a. keys ∙ key-at h;
           };
+          becomes = record { outside = outside_then b.outside r.keeps.outside; row = refl };
+          stored = record { image = refl; long = refl };
+          next = omega arith;
+          most = omega arith;
         }
           where
             taken : Taken
@@ -301,59 +290,54 @@ module _ (n : Node) (t : Collections) (row : ShardRow) where
       Slots x = (y : HeldRow) → y.key ≡ x.key → y.slot ≡ x.slot → y.stored ≡ x.stored → y.held.last ≡ x.held.last
           → SlotFrom n y × (view_key y.key ≡ view_key row.key)
 
-      known : (x : HeldRow) → Was x → Slots x → (u v w p q : List ℕ) (count many : ℕ) → count < 8 → held_row_at v (1280 * count) ≡ x
-          → RowBecomes u v (1280 * count) x → (r : RowMade) → ShowsPut v w p q (1280 * count) me row metric many r → Takes n t row u w p q count many r
-      known x was slots_are u v w p q count many room there b r a = record {
-        same = λ z. not_both r.skip z a.held;
-        skips = λ z. not_both r.skip z a.held;
-        full = λ z f. worker (λ s m e. record {
-          showing = showing me row metric s x;
-          is = said s m e;
-          over = ap (λ (y : HeldRow). show.overworked (showing me row metric s y)) (sym there) ∙ a.over f s;
-        });
-        takes = λ z f. made (a.fits f);
-      }
-        where
-          said : (s : Stores) (m : tables.Map) → m.collections ≡ view_collections t → listed_shown s n m row ≡ some (showing me row metric s x)
-          said s m e = ap (answer s) (has m e) ∙ was s
+      said : (x : HeldRow) → Was x → (s : Stores) (m : tables.Map) → m.collections ≡ view_collections t → listed_shown s n m row ≡ some (showing me row metric s x)
+      said x was s m e = ap (answer s) (has m e) ∙ was s
 
-          made : ShowsAt v w p q (1280 * count) me row metric many r.workers → RowTaken n t row u w p q count many r.workers
-          made f =
-              let to = 1280 * count in
-              let taken : Taken = record { kept = held_row_at w to; start = start_as me row metric x } in
-              let k = f.shows.keeps in
-              let from = slots_are (held_row_at w to) (k.key ∙ ap (λ (y : HeldRow). y.key) there) (k.slot ∙ ap (λ (y : HeldRow). y.slot) there)
-              (k.stored ∙ ap (λ (y : HeldRow). y.stored) there) (k.last ∙ ap (λ (y : HeldRow). y.held.last) there) in
-              let starts : (s : Stores) → (showing me row metric s (held_row_at v to)).start ≡ view_start (start_as me row metric x) =
-              λ s. ap (λ (y : HeldRow). (showing me row metric s y).start) there ∙ sym (start_is me row metric x s) in
-              let view : (s : Stores) → view_taken s taken ≡ showing me row metric s x =
-              λ s.
-              ap (λ (g : held.Held). record { held = g; start = view_start (start_as me row metric x) })
-              (f.shows.same s metric ∙ ap (λ (y : HeldRow). (showing me row metric s y).held) there)
-              ∙ ap (λ (l : List show.Worker). record { held = (showing me row metric s x).held; start = l }) (start_is me row metric x s) in
-              let one = starts some_stores in
-              record {
-                room = room;
-                taken = taken;
-                shows = record {
-                  skips = λ z. not_both false z refl;
-                  over = λ z o. not_both false o refl;
-                  takes = λ z o s m e. record {
-                    is = said s m e ∙ ap some (sym (view s));
-                    fits = ap show.overworked (view s ∙ ap (showing me row metric s) (sym there)) ∙ f.few.few s metric;
-                  };
-                  slot = λ z. from.0;
-                  key = λ z. from.1;
-                };
-                becomes = record { outside = outside_then b.outside k.outside; row = refl };
-                stored = subst (λ (l : List show.Worker). Stored p q (54 * many) (start_bytes l) (54 * length l)) one (f.stored some_stores);
-                next = subst (λ (l : List show.Worker). r.workers ≡ many + length l) one (f.next some_stores);
-                most = subst (λ (l : List show.Worker). length l ≤ 32) one (f.most some_stores);
-              }
+      known : (x : HeldRow) → Was x → Slots x → (u v w p q : List ℕ) (count many : ℕ) → count < 8 → held_row_at v (1280 * count) ≡ x
+          → RowBecomes u v (1280 * count) x → (r : Result ℕ Full) → ShowsPut v w p q (1280 * count) me row metric many r
+          → Takes n t row u w p q count many (taken_of r)
+      known x was slots_are u v w p q count many room there b (Err e) a =
+          worker (λ s m g. record {
+            showing = showing me row metric s x;
+            is = said x was s m g;
+            over = ap (λ (y : HeldRow). show.overworked (showing me row metric s y)) (sym there) ∙ a s;
+          })
+      known x was slots_are u v w p q count many room there b (Ok after) f =
+          let to = 1280 * count in
+          let taken : Taken = record { kept = held_row_at w to; start = start_as me row metric x } in
+          let k = f.shows.keeps in
+          let from = slots_are (held_row_at w to) (k.key ∙ ap (λ (y : HeldRow). y.key) there) (k.slot ∙ ap (λ (y : HeldRow). y.slot) there)
+          (k.stored ∙ ap (λ (y : HeldRow). y.stored) there) (k.last ∙ ap (λ (y : HeldRow). y.held.last) there) in
+          let starts : (s : Stores) → (showing me row metric s (held_row_at v to)).start ≡ view_start (start_as me row metric x) =
+          λ s. ap (λ (y : HeldRow). (showing me row metric s y).start) there ∙ sym (start_is me row metric x s) in
+          let view : (s : Stores) → view_taken s taken ≡ showing me row metric s x =
+          λ s.
+          ap (λ (g : held.Held). record { held = g; start = view_start (start_as me row metric x) })
+          (f.shows.same s metric ∙ ap (λ (y : HeldRow). (showing me row metric s y).held) there)
+          ∙ ap (λ (l : List show.Worker). record { held = (showing me row metric s x).held; start = l }) (start_is me row metric x s) in
+          let one = starts some_stores in
+          record {
+            room = room;
+            taken = taken;
+            shows = record {
+              skips = λ z. not_both false z refl;
+              over = λ z o. not_both false o refl;
+              takes = λ z o s m e. record {
+                is = said x was s m e ∙ ap some (sym (view s));
+                fits = ap show.overworked (view s ∙ ap (showing me row metric s) (sym there)) ∙ f.few.few s metric;
+              };
+              slot = λ z. from.0;
+              key = λ z. from.1;
+            };
+            becomes = record { outside = outside_then b.outside k.outside; row = refl };
+            stored = subst (λ (l : List show.Worker). Stored p q (54 * many) (start_bytes l) (54 * length l)) one (f.stored some_stores);
+            next = subst (λ (l : List show.Worker). after ≡ many + length l) one (f.next some_stores);
+            most = subst (λ (l : List show.Worker). length l ≤ 32) one (f.most some_stores);
+          }
 
       -- a shard that is held
       pub known-held : at < n.count → (u v w p q : List ℕ) (count many : ℕ) → count < 8 → RowBecomes u v (1280 * count) kept
-          → (r : RowMade) → ShowsPut v w p q (1280 * count) me row metric many r → Takes n t row u w p q count many r
+          → (r : Result ℕ Full) → ShowsPut v w p q (1280 * count) me row metric many r → Takes n t row u w p q count many (taken_of r)
       known-held h u v w p q count many room b r a =
           known kept
           (λ s.
@@ -365,7 +349,7 @@ module _ (n : Node) (t : Collections) (row : ShardRow) where
       -- a shard that begins
       pub known-first : n.count ≤ at → (u v w p q : List ℕ) (count many : ℕ) → count < 8 → (z : HeldRow)
           → RowBecomes u v (1280 * count) (begun_set z row.key 8 0 metric)
-          → (r : RowMade) → ShowsPut v w p q (1280 * count) me row metric many r → Takes n t row u w p q count many r
+          → (r : Result ℕ Full) → ShowsPut v w p q (1280 * count) me row metric many r → Takes n t row u w p q count many (taken_of r)
       known-first h u v w p q count many room z b r a =
           let x = begun_set z row.key 8 0 metric in
           known x
@@ -391,7 +375,7 @@ module _ (s : List ℕ) (held : ℕ) (counts : Counts s held) (formed : formed_n
 
     pub keep_taken : (t : Collections) → Lacks (node_at s) t row → (u v w p : List ℕ) (count many : ℕ) → count < 8
         → RowBecomes u v (1280 * count) (held_row_at s (48 + 1280 * at)) → Refreshes v w (1280 * count) row
-        → Takes (node_at s) t row u w p p count many (record { skip = false; full = false; workers = many })
+        → RowTaken (node_at s) t row u w p p count many many
     keep_taken t lacks u v w p count many room b r =
         kept-taken (node_at s) t row (in_array s held counts) at is lacks (place_in s held counts at lt) (peers-few s held counts at lt formed) u v w p count many room
         (as_held b) r
@@ -411,8 +395,8 @@ module _ (s : List ℕ) (held : ℕ) (counts : Counts s held) (formed : formed_n
   id-is = refl
 
   pub know_taken : (me : ℕ) → me ≡ number_at 8 s 0 → (t : Collections) (metric : Metric) → Has (node_at s) t row metric → (u v w p q : List ℕ) (count many : ℕ) → count < 8
-      → Before s u v (1280 * count) held at row.key metric → (r : RowMade) → ShowsPut v w p q (1280 * count) me row metric many r
-      → Takes (node_at s) t row u w p q count many r
+      → Before s u v (1280 * count) held at row.key metric → (r : Result ℕ Full) → ShowsPut v w p q (1280 * count) me row metric many r
+      → Takes (node_at s) t row u w p q count many (taken_of r)
   know_taken me own t metric has u v w p q count many room b r a =
       let f = subst (λ (i : ℕ). ShowsPut v w p q (1280 * count) i row metric many r) (own ∙ sym id-is) a in
       by_case (ltb at held)

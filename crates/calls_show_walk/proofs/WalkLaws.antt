@@ -34,8 +34,7 @@ use Rattle.node_show.proofs.Walk.{Walking, walk_start, walk_over, walk_ninth, no
 use Rattle.image_show.proofs.MapRows.{shards-fit, shard-row, row_sized, turn_unlisted, turn_skip, turn_take}
 use Rattle.calls_header.specs.Shows.{worker_bytes, start_bytes}
 use Rattle.calls_header.proofs.Starts.{no_start}
-use Rattle.calls_show_walk.specs.declared.RowMade.{RowMade}
-use Rattle.calls_show_walk.specs.Rows.{Refused, ninth, worker, Takes, Made}
+use Rattle.calls_show_walk.specs.Rows.{Refused, ninth, worker, RowSkipped, RowTaken, RowsStand, RowsRefused}
 
 -- ---- workers behind workers
 
@@ -134,7 +133,7 @@ module _ (n : Node) (s : List ℕ) (counted : TablesCounted (map_at s)) (u₀ p�
       workers = g.workers;
     }
 
-    pub going_end : (map_at s).shards.count ≤ i → Made n (map_at s) u p (record { full = false; count = count; workers = many })
+    pub going_end : (map_at s).shards.count ≤ i → RowsStand n (map_at s) u p (record { count = count; workers = many })
     going_end h =
         let l = g.long in
         let f = g.few in
@@ -142,9 +141,9 @@ module _ (n : Node) (s : List ℕ) (counted : TablesCounted (map_at s)) (u₀ p�
         record {
           items = g.out;
           walks = walks_whole n (map_at s) g.out count i g.walking f (omega arith) fits h;
-          rows = λ q. g.rows;
-          starts = λ q. g.starts;
-          workers = λ q. g.workers;
+          rows = g.rows;
+          starts = g.starts;
+          workers = g.workers;
           most = omega arith;
         }
 
@@ -161,22 +160,21 @@ module _ (n : Node) (s : List ℕ) (counted : TablesCounted (map_at s)) (u₀ p�
       pub going_past : any (show.listed_as n.id.0 n.incarnation) (view_holders row.replicas) ≡ false → Going n s u₀ p₀ u p count many (i + 1)
       going_past e = on (turn_unlisted n s counted g.out count i g.walking h row row_is e)
 
-      module _ (l : any (show.listed_as n.id.0 n.incarnation) (view_holders row.replicas) ≡ true) (v q : List ℕ) (r : RowMade)
-          (t : Takes n (collections_at s) row u v p q count many r) where
+      module _ (l : any (show.listed_as n.id.0 n.incarnation) (view_holders row.replicas) ≡ true) where
         on_list : (st : Stores) (m : tables.Map) → show.show_shard (view_node st n) m (view_shard there) ≡ listed_shown st n m there
         on_list st m =
             listed st n m there (ap (λ (x : ShardRow). any (show.listed_as n.id.0 n.incarnation) (view_holders x.replicas)) (sym here) ∙ l)
 
         -- the shard is not held after
-        pub going_skip : r.skip ≡ true → Going n s u₀ p₀ v q count many (i + 1)
-        going_skip e =
-            let same = t.same e in
+        pub going_skip : (v q : List ℕ) → RowSkipped n (collections_at s) row u v p q → Going n s u₀ p₀ v q count many (i + 1)
+        going_skip v q t =
+            let same = t.same in
             subst (λ (x : List ℕ). Going n s u₀ p₀ x q count many (i + 1)) (sym same.0)
             (subst (λ (x : List ℕ). Going n s u₀ p₀ u x count many (i + 1)) (sym same.1)
             (on
             (turn_skip n s counted g.out count i g.walking h row row_is l (record { skip = true; full = false; taken = no_taken })
             (record {
-              skips = λ a. t.skips e;
+              skips = λ a. t.skips;
               over = λ a. not_both true refl a;
               takes = λ a. not_both true refl a;
               slot = λ a. not_both true refl a;
@@ -184,74 +182,69 @@ module _ (n : Node) (s : List ℕ) (counted : TablesCounted (map_at s)) (u₀ p�
             })
             refl)))
 
-        module _ (e : r.skip ≡ false) where
-          refused : Refused n (map_at s).collections there count → (st : Stores) (k : tables.Map) → k.collections ≡ view_collections (map_at s).collections
-              → show.too_many (show.showings (view_node st n) k (view_map (map_at s)).shards) ≡ true
-          refused (ninth m f) =
-              let a = g.few in
-              let b = g.long in
-              walk_ninth n (map_at s).shards.items (map_at s).shards.count (map_at s).collections g.out count i g.walking fits h no_row (omega arith) m
-              (λ st k c. let z = f st k c in (z.0, on_list st k ∙ z.1))
-          refused (worker f) =
-              walk_over n (map_at s).shards.items (map_at s).shards.count (map_at s).collections g.out count i g.walking fits h no_row
-              (λ st k c. let z = f st k c in record { showing = z.showing; is = on_list st k ∙ z.is; over = z.over })
+        refused : Refused n (map_at s).collections there count → (st : Stores) (k : tables.Map) → k.collections ≡ view_collections (map_at s).collections
+            → show.too_many (show.showings (view_node st n) k (view_map (map_at s)).shards) ≡ true
+        refused (ninth m f) =
+            let a = g.few in
+            let b = g.long in
+            walk_ninth n (map_at s).shards.items (map_at s).shards.count (map_at s).collections g.out count i g.walking fits h no_row (omega arith) m
+            (λ st k c. let z = f st k c in (z.0, on_list st k ∙ z.1))
+        refused (worker f) =
+            walk_over n (map_at s).shards.items (map_at s).shards.count (map_at s).collections g.out count i g.walking fits h no_row
+            (λ st k c. let z = f st k c in record { showing = z.showing; is = on_list st k ∙ z.is; over = z.over })
 
-          -- the map is refused
-          pub going_full : r.full ≡ true → Made n (map_at s) v q (record { full = true; count = count; workers = many })
-          unfolding map_at
-          going_full f =
-              let a = g.few in
-              let b = g.long in
-              let m = g.most in
-              record {
-                items = g.out;
-                walks = walks_full n (map_at s) g.out count i g.walking a (omega arith)
-                    (refused (subst (λ (x : ShardRow). Refused n (collections_at s) x count) here (t.full e f)));
-                rows = λ z. not_both true refl z;
-                starts = λ z. not_both true refl z;
-                workers = λ z. not_both true refl z;
-                most = omega arith;
-              }
+        -- the map is refused
+        pub going_full : Refused n (collections_at s) row count → RowsRefused n (map_at s)
+        unfolding map_at
+        going_full t =
+            let a = g.few in
+            let b = g.long in
+            record {
+              items = g.out;
+              count = count;
+              walks = walks_full n (map_at s) g.out count i g.walking a (omega arith)
+                  (refused (subst (λ (x : ShardRow). Refused n (collections_at s) x count) here t));
+            }
 
-          -- the shard is taken
-          pub going_take : 10240 ≤ length u₀ → 13824 ≤ length p₀ → r.full ≡ false → Going n s u₀ p₀ v q (count + 1) r.workers (i + 1)
-          going_take room space f =
-              let k = t.takes e f in
-              let x = k.taken in
-              let a = g.few in
-              let b = g.long in
-              let m = g.most in
-              let c = k.room in
-              let d = k.most in
-              let nx = k.next in
-              let wu = g.wide in
-              let wp = g.reach in
-              let grown = more g.out count x (omega arith) in
-              let z : 54 * r.workers ≡ 54 * many + 54 * length (view_start x.start) = omega arith in
-              record {
-                out = set g.out count x;
-                long = length-set g.out count x ∙ b;
-                few = omega arith;
-                most = omega arith;
-                wide = k.becomes.outside.long ∙ wu;
-                reach = ap length k.stored.image ∙ length-sets p (54 * many) (start_bytes (view_start x.start)) ∙ wp;
-                walking = turn_take n s counted g.out count i g.walking h row row_is l (record { skip = false; full = false; taken = x }) k.shows refl a b refl c;
-                rows = λ j o lt.
-                    by_case (eqb j count)
-                    (λ y.
-                    let w = eqb-true j count y in
-                    subst (λ (i : ℕ). held_row_at v (1280 * i) ≡ (get_or (set g.out count x) i o).kept) (sym w)
-                    (k.becomes.row ∙ sym (ap (λ (y : Taken). y.kept) (get_or-set_same g.out count x o (omega arith)))))
-                    (λ y.
-                    let w = eqb-false j count y in
-                    let less : j < count = omega (arith, w) in
-                    row_before u v (1280 * count) k.becomes.outside.front (1280 * j) (omega arith)
-                    ∙ g.rows j o less ∙ ap (λ (y : Taken). y.kept) (sym (get_or-set_other g.out count j x o w)));
-                starts = ap (λ (i : ℕ). take i q) z
-                    ∙ stored-take k.stored (omega arith)
-                    ∙ ap (λ (y : List ℕ). y ++ start_bytes (view_start x.start)) g.starts
-                    ∙ sym (ap start_bytes grown ∙ bytes-append (all g.out count) (view_start x.start));
-                workers = let o = g.workers in
-                    nx ∙ ap (λ (i : ℕ). i + length (view_start x.start)) o
-                    ∙ sym (ap length grown ∙ length-append (all g.out count) (view_start x.start));
-              }
+        -- the shard is taken
+        pub going_take : 10240 ≤ length u₀ → 13824 ≤ length p₀ → (v q : List ℕ) (after : ℕ) → RowTaken n (collections_at s) row u v p q count many after
+            → Going n s u₀ p₀ v q (count + 1) after (i + 1)
+        going_take room space v q after k =
+            let x = k.taken in
+            let a = g.few in
+            let b = g.long in
+            let m = g.most in
+            let c = k.room in
+            let d = k.most in
+            let nx = k.next in
+            let wu = g.wide in
+            let wp = g.reach in
+            let grown = more g.out count x (omega arith) in
+            let z : 54 * after ≡ 54 * many + 54 * length (view_start x.start) = omega arith in
+            record {
+              out = set g.out count x;
+              long = length-set g.out count x ∙ b;
+              few = omega arith;
+              most = omega arith;
+              wide = k.becomes.outside.long ∙ wu;
+              reach = ap length k.stored.image ∙ length-sets p (54 * many) (start_bytes (view_start x.start)) ∙ wp;
+              walking = turn_take n s counted g.out count i g.walking h row row_is l (record { skip = false; full = false; taken = x }) k.shows refl a b refl c;
+              rows = λ j o lt.
+                  by_case (eqb j count)
+                  (λ y.
+                  let w = eqb-true j count y in
+                  subst (λ (i : ℕ). held_row_at v (1280 * i) ≡ (get_or (set g.out count x) i o).kept) (sym w)
+                  (k.becomes.row ∙ sym (ap (λ (y : Taken). y.kept) (get_or-set_same g.out count x o (omega arith)))))
+                  (λ y.
+                  let w = eqb-false j count y in
+                  let less : j < count = omega (arith, w) in
+                  row_before u v (1280 * count) k.becomes.outside.front (1280 * j) (omega arith)
+                  ∙ g.rows j o less ∙ ap (λ (y : Taken). y.kept) (sym (get_or-set_other g.out count j x o w)));
+              starts = ap (λ (i : ℕ). take i q) z
+                  ∙ stored-take k.stored (omega arith)
+                  ∙ ap (λ (y : List ℕ). y ++ start_bytes (view_start x.start)) g.starts
+                  ∙ sym (ap start_bytes grown ∙ bytes-append (all g.out count) (view_start x.start));
+              workers = let o = g.workers in
+                  nx ∙ ap (λ (i : ℕ). i + length (view_start x.start)) o
+                  ∙ sym (ap length grown ∙ length-append (all g.out count) (view_start x.start));
+            }

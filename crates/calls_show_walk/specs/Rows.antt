@@ -1,5 +1,5 @@
 -- What the walk over a map's shards makes in its two buffers: the rows of the shards held after, and the workers to start. Definitions only.
-use Rattle.std.specs.Prelude.{ℕ, ◌+◌, ◌*◌, ◌≤◌, ◌<◌, true, false, ◌≡◌, List, map, length, take, get_or}
+use Rattle.std.specs.Prelude.{ℕ, ◌+◌, ◌*◌, ◌≤◌, ◌<◌, true, false, ◌≡◌, List, map, length, take, get_or, Option, Some, None, Result, Ok, Err}
 use Rattle.std.proofs.Math.Option.{none, some}
 use Rattle.spec.specs.Map.Tables as tables
 use Rattle.spec.specs.Node.Shown as show
@@ -21,7 +21,7 @@ use Rattle.node_show.specs.Walks.{Walks}
 use Rattle.node_show.specs.Shows.{view_starts}
 use Rattle.calls_header.specs.Shows.{start_bytes}
 use Rattle.calls_show_row.specs.Row.{showing, Few, Shows}
-use Rattle.calls_show_walk.specs.declared.RowMade.{RowMade}
+use Rattle.calls_show_walk.specs.declared.Full.{Full}
 use Rattle.calls_show_walk.specs.declared.RowsMade.{RowsMade}
 
 -- ---- one shard
@@ -45,10 +45,9 @@ pub record ShowsAt (u v p q : List ℕ) (to me : ℕ) (row : ShardRow) (metric :
   pub most : (st : Stores) → length (showing me row metric st (held_row_at u to)).start ≤ 32
 
 -- .. or a 33rd worker would be needed
-pub record ShowsPut (u v p q : List ℕ) (to me : ℕ) (row : ShardRow) (metric : Metric) (many : ℕ) (r : RowMade) : Type 0 where
-  pub held : r.skip ≡ false
-  pub over : r.full ≡ true → (st : Stores) → show.overworked (showing me row metric st (held_row_at u to)) ≡ true
-  pub fits : r.full ≡ false → ShowsAt u v p q to me row metric many r.workers
+abbrev pub ShowsPut : (u v p q : List ℕ) → (to me : ℕ) → ShardRow → Metric → (many : ℕ) → Result ℕ Full → Type 0
+ShowsPut u v p q to me row metric many (Ok after) = ShowsAt u v p q to me row metric many after
+ShowsPut u v p q to me row metric many (Err e) = (st : Stores) → show.overworked (showing me row metric st (held_row_at u to)) ≡ true
 
 -- why a shard is refused: a ninth is held after, or it needs a 33rd worker
 pub data Refused (n : Node) (t : Collections) (row : ShardRow) (count : ℕ) : Type 0 where
@@ -66,21 +65,25 @@ pub record RowTaken (n : Node) (t : Collections) (row : ShardRow) (u v p q : Lis
   pub next : after ≡ many + length (view_start taken.start)
   pub most : length (view_start taken.start) ≤ 32
 
+-- the shard is not held after: both buffers are as they were
+pub record RowSkipped (n : Node) (t : Collections) (row : ShardRow) (u v p q : List ℕ) : Type 0 where
+  pub same : (v ≡ u) × (q ≡ p)
+  pub skips : (s : Stores) (m : tables.Map) → m.collections ≡ view_collections t → listed_shown s n m row ≡ none
+
 -- one shard that lists this node; of any map with these collections
-pub record Takes (n : Node) (t : Collections) (row : ShardRow) (u v p q : List ℕ) (count many : ℕ) (r : RowMade) : Type 0 where
-  pub same : r.skip ≡ true → (v ≡ u) × (q ≡ p)
-  pub skips : r.skip ≡ true → (s : Stores) (m : tables.Map) → m.collections ≡ view_collections t → listed_shown s n m row ≡ none
-  pub full : r.skip ≡ false → r.full ≡ true → Refused n t row count
-  pub takes : r.skip ≡ false → r.full ≡ false → RowTaken n t row u v p q count many r.workers
+abbrev pub Takes : Node → Collections → ShardRow → (u v p q : List ℕ) → (count many : ℕ) → Result (Option ℕ) Full → Type 0
+Takes n t row u v p q count many (Ok None) = RowSkipped n t row u v p q
+Takes n t row u v p q count many (Ok (Some after)) = RowTaken n t row u v p q count many after
+Takes n t row u v p q count many (Err e) = Refused n t row count
 
 -- .. where the map lacks its collection
-abbrev pub Keeps : Node → ShardRow → (u v : List ℕ) → (count many : ℕ) → RowMade → Type 0
+abbrev pub Keeps : Node → ShardRow → (u v : List ℕ) → (count many : ℕ) → Result (Option ℕ) Full → Type 0
 Keeps n row u v count many r =
     (t : Collections) → ((m : tables.Map) → m.collections ≡ view_collections t → show.collection_metric m (view_name row.key.collection) ≡ none)
     → (p : List ℕ) → Takes n t row u v p p count many r
 
 -- .. and where it has it
-abbrev pub Knows : Node → ShardRow → Metric → (u v p q : List ℕ) → (count many : ℕ) → RowMade → Type 0
+abbrev pub Knows : Node → ShardRow → Metric → (u v p q : List ℕ) → (count many : ℕ) → Result (Option ℕ) Full → Type 0
 Knows n row metric u v p q count many r =
     (t : Collections) → ((m : tables.Map) → m.collections ≡ view_collections t → show.collection_metric m (view_name row.key.collection) ≡ some metric)
     → Takes n t row u v p q count many r
@@ -88,10 +91,20 @@ Knows n row metric u v p q count many r =
 -- ---- all of them
 
 -- the shards held after, each with the workers to start for it
-pub record Made (n : Node) (m : ShardMap) (u p : List ℕ) (r : RowsMade) : Type 0 where
+pub record RowsStand (n : Node) (m : ShardMap) (u p : List ℕ) (r : RowsMade) : Type 0 where
   pub items : List Taken
-  pub walks : Walks n m (record { full = r.full; items = items; count = r.count })
-  pub rows : r.full ≡ false → (j : ℕ) (d : Taken) → j < r.count → held_row_at u (1280 * j) ≡ (get_or items j d).kept
-  pub starts : r.full ≡ false → take (54 * r.workers) p ≡ start_bytes (view_starts (map start_of (take r.count items)))
-  pub workers : r.full ≡ false → r.workers ≡ length (view_starts (map start_of (take r.count items)))
+  pub walks : Walks n m (record { full = false; items = items; count = r.count })
+  pub rows : (j : ℕ) (d : Taken) → j < r.count → held_row_at u (1280 * j) ≡ (get_or items j d).kept
+  pub starts : take (54 * r.workers) p ≡ start_bytes (view_starts (map start_of (take r.count items)))
+  pub workers : r.workers ≡ length (view_starts (map start_of (take r.count items)))
   pub most : r.workers ≤ 256
+
+-- .. or the map is refused, after `count` of them
+pub record RowsRefused (n : Node) (m : ShardMap) : Type 0 where
+  pub items : List Taken
+  pub count : ℕ
+  pub walks : Walks n m (record { full = true; items = items; count = count })
+
+abbrev pub Made : Node → ShardMap → (u p : List ℕ) → Result RowsMade Full → Type 0
+Made n m u p (Ok r) = RowsStand n m u p r
+Made n m u p (Err e) = RowsRefused n m

@@ -8,19 +8,13 @@ mod row;
 pub mod slots;
 pub mod walk;
 
-// One shard of the map: it is not held after (`skip`), a ninth shard or a 33rd worker would be needed (`full`), or its row and its workers
-// stand in their buffers. `workers` counts all that do.
-#[derive(Clone, Copy)]
-pub struct RowMade {
-    pub skip: bool,
-    pub full: bool,
-    pub workers: usize,
-}
+// A ninth shard would be held, or a 33rd worker needed.
+#[derive(Clone, Copy, Debug, PartialEq, Eq)]
+pub struct Full;
 
-// How many shards are held after, and how many workers are to start; or `full`.
+// How many shards are held after, and how many workers are to start.
 #[derive(Clone, Copy)]
 pub struct RowsMade {
-    pub full: bool,
     pub count: usize,
     pub workers: usize,
 }

@@ -11,7 +11,7 @@ ghost use Rattle.image_map.specs.Image.{collections_at};
 ghost use Rattle.calls_show_row.specs.Row.{Ready};
 ghost use Rattle.calls_show_walk.specs.Rows.{Before, ShowsPut, PlaceOf, Keeps, Knows, Takes};
 
-use crate::RowMade;
+use crate::Full;
 use calls_show_row::row::{refresh_row, show_row, workers_of};
 use calls_show_row::starts::put_workers;
 use image_header_begin::rows::set_begun;
@@ -59,7 +59,7 @@ fn put_before(
     set_begun(rows, to, key, NO_SLOT, 0, metric);
 }
 
-// A shard whose collection the map has: its workers, from the row as it was, and its row after.
+// A shard whose collection the map has: its workers, from the row as it was, and its row after; tells how many workers stand then.
 fn show_put(
     rows: &mut [u8],
     to: usize,
@@ -68,25 +68,14 @@ fn show_put(
     metric: Metric,
     workers: &mut [u8],
     many: usize,
-) -> RowMade
+) -> Result<usize, Full>
     requires { Ready rows.old to row × (many ≤ 224) × (13824 ≤ length workers.old) }
     ensures { ShowsPut rows.old rows.new workers.old workers.new to me row metric many result }
 {
-    let more = workers_of(rows, to, me, row);
-    if more == 33 {
-        return RowMade {
-            skip: false,
-            full: true,
-            workers: many,
-        };
-    }
+    let more = workers_of(rows, to, me, row).ok_or(Full)?;
     put_workers(workers, 54 * many, rows, to, me, row, metric);
     show_row(rows, to, me, row);
-    RowMade {
-        skip: false,
-        full: false,
-        workers: many + more,
-    }
+    Ok(many + more)
 }
 
 // A shard whose collection the map lacks: none begins, and a held one only learns its replicas.
@@ -98,33 +87,21 @@ fn keep_row(
     at: usize,
     row: ShardRow,
     many: usize,
-) -> RowMade
+) -> Result<Option<usize>, Full>
     requires { Counts header.now held × (formed_node (node_at header.now) ≡ true) × PlaceOf (node_at header.now) row at × (Sized row)
         × (10240 ≤ length rows.old) }
     ensures { Keeps (node_at header.now) row rows.old rows.new count many result }
 {
     if held <= at {
-        return RowMade {
-            skip: true,
-            full: false,
-            workers: many,
-        };
+        return Ok(None);
     }
     if HELD <= count {
-        return RowMade {
-            skip: false,
-            full: true,
-            workers: many,
-        };
+        return Err(Full);
     }
     let to = ROW * count;
     copy_row(rows, to, header, ROWS + ROW * at);
     refresh_row(rows, to, row);
-    RowMade {
-        skip: false,
-        full: false,
-        workers: many,
-    }
+    Ok(Some(many))
 }
 
 // A shard whose collection the map has.
@@ -138,26 +115,23 @@ fn know_row(
     metric: Metric,
     workers: &mut [u8],
     many: usize,
-) -> RowMade
+) -> Result<Option<usize>, Full>
     requires { Counts header.now held × (formed_node (node_at header.now) ≡ true) × PlaceOf (node_at header.now) row at × (Sized row)
         × (10240 ≤ length rows.old) × (13824 ≤ length workers.old) × (many ≤ 32 * count) }
     ensures { Knows (node_at header.now) row metric rows.old rows.new workers.old workers.new count many result }
 {
     if HELD <= count {
-        return RowMade {
-            skip: false,
-            full: true,
-            workers: many,
-        };
+        return Err(Full);
     }
     let to = ROW * count;
     let me = num::get8(header, ID);
     let key = row.key;
     put_before(rows, to, header, held, at, key, metric);
-    show_put(rows, to, me, row, metric, workers, many)
+    let after = show_put(rows, to, me, row, metric, workers, many)?;
+    Ok(Some(after))
 }
 
-// One shard that lists this node.
+// One shard that lists this node: how many workers stand then, or that it is not held after.
 pub fn take_row(
     header: &[u8],
     held: usize,
@@ -167,7 +141,7 @@ pub fn take_row(
     count: usize,
     workers: &mut [u8],
     many: usize,
-) -> RowMade
+) -> Result<Option<usize>, Full>
     requires { Counts header.now held × (formed_node (node_at header.now) ≡ true) × (26536 ≤ length map.now) × (number_at 8 map.now 16 ≤ 16) × (Sized row)
         × (10240 ≤ length rows.old) × (13824 ≤ length workers.old) × (many ≤ 32 * count) }
     ensures { Takes (node_at header.now) (collections_at map.now) row rows.old rows.new

@@ -17,14 +17,10 @@ pub fn give_slots(out: &mut [u8], count: usize)
     requires { Counts out.old count × (every open_fits (take count (node_at out.old).held) ≡ true) }
     ensures { SlotsGiven out.old out.new count }
 {
-    let mut i: usize = 0;
-    while i < count {
+    for i in 0..count {
         if 8 <= num::get8(out, SLOTS + ROW * i) {
             let slot = free_slot(out, count);
             num::put8(out, SLOTS + ROW * i, slot as u64);
-            i += 1;
-        } else {
-            i += 1;
         }
     }
 }

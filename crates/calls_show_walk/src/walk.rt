@@ -7,8 +7,8 @@ ghost use Rattle.image_header.specs.Image.{node_at};
 ghost use Rattle.image_header_check.specs.Rows.{Counts};
 ghost use Rattle.calls_show_walk.specs.Rows.{Made};
 
-use crate::RowsMade;
 use crate::row::take_row;
+use crate::{Full, RowsMade};
 use image_layout::header::{ID, INCARNATION};
 use image_map_check::layout::{SHARD, SHARDS, SHARDS_USED};
 use image_map_row::shards::shard_at;
@@ -21,7 +21,7 @@ pub fn make_rows(
     map: &[u8],
     rows: &mut [u8],
     workers: &mut [u8],
-) -> RowsMade
+) -> Result<RowsMade, Full>
     requires { Counts header.now held × (formed_node (node_at header.now) ≡ true) × (26536 ≤ length map.now) × TablesCounted (map_at map.now)
         × (10240 ≤ length rows.old) × (13824 ≤ length workers.old) }
     ensures { Made (node_at header.now) (map_at map.now) rows.new workers.new result }
@@ -31,33 +31,20 @@ pub fn make_rows(
     let own = num::get8(header, INCARNATION);
     let mut count: usize = 0;
     let mut many: usize = 0;
-    let mut i: usize = 0;
-    while i < total {
+    for i in 0..total {
         let row = shard_at(map, SHARDS + SHARD * i);
         let list = row.replicas;
-        if is_listed(list, me, own) {
-            let a = take_row(header, held, map, row, rows, count, workers, many);
-            if a.skip {
-                i += 1;
-            } else {
-                if a.full {
-                    return RowsMade {
-                        full: true,
-                        count: count,
-                        workers: many,
-                    };
-                }
-                many = a.workers;
-                count += 1;
-                i += 1;
-            }
-        } else {
-            i += 1;
+        if !is_listed(list, me, own) {
+            continue;
         }
+        let Some(after) = take_row(header, held, map, row, rows, count, workers, many)? else {
+            continue;
+        };
+        many = after;
+        count += 1;
     }
-    RowsMade {
-        full: false,
-        count: count,
+    Ok(RowsMade {
+        count,
         workers: many,
-    }
+    })
 }

@@ -32,14 +32,11 @@ fn rows_waited(out: &mut [u8], count: usize, at: usize, clock: u64, timeout: u64
     ensures { out.new ≡ sets out.old 48 (concat_map held_row_bytes (map tidy_held_row
         (set (items count (held_row_at out.old) 1280 48) at (waited_held_row (held_row_at out.old (48 + 1280 * at)) clock timeout)))) }
 {
-    let mut i: usize = 0;
-    while i < count {
+    for i in 0..count {
         if i == at {
             row_waited(out, 48 + 1280 * i, clock, timeout);
-            i += 1;
         } else {
             row_tidied(out, 48 + 1280 * i);
-            i += 1;
         }
     }
 }

@@ -20,11 +20,9 @@ fn put_ids(out: &mut [u8], ids: [DataNodeId; 32], count: usize)
     ensures { out.new ≡ sets out.old 0 (concat_map id_bytes (take count ids)) }
 {
     let n = in_use(32, count);
-    let mut i: usize = 0;
-    while i < n {
+    for i in 0..n {
         let x = ids[i];
         num::put8(out, 8 * i, x.0);
-        i += 1;
     }
 }
 

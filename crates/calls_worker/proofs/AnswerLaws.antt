@@ -1,7 +1,7 @@
 -- Laws of a worker's step on a header and columns: what is told of the step and the request, one for each way out. Assumes nothing.
 use Prim.Native.Nat.{ℕ, ◌≤◌, ◌<◌}
-use mathlib.Core.Path.{◌≡◌, refl, sym, ap, subst, ◌∙◌}
-use mathlib.Core.Bool.{Bool, true, false, cond}
+use mathlib.Core.Path.{◌≡◌, refl, sym, ap, subst}
+use mathlib.Core.Bool.{Bool, cond}
 use mathlib.Core.List.{List}
 use lib.ListN.{length}
 use lib.Dec.{leb}
@@ -14,11 +14,9 @@ use Rattle.node_header.specs.declared.StepAnswer.{StepAnswer}
 use Rattle.node_header.specs.Answers.{StepsNode}
 use Rattle.node_header.specs.View.{Stores}
 use Rattle.node_send.specs.declared.Request.{Request}
-use Rattle.node_send.specs.declared.Request.TheVariants as request
 use Rattle.node_lent.specs.Lend.{LentStore, lent_for}
 use Rattle.node_step.specs.Requests.{Requests}
-use Rattle.calls_parts.specs.Answer.{answer_lent, number_put}
-use Rattle.calls_worker.specs.Steps.{step_number, answer_left, outputs, Tells, StepAsked}
+use Rattle.calls_worker.specs.Steps.{step_number, answer_left, outputs, StepAsked}
 
 -- the answer and the number beside it, by the request
 abbrev pub Told : StepAnswer → Request → (out a b : List ℕ) → ℕ → Type 0

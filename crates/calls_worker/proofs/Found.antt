@@ -1,15 +1,14 @@
 -- The step at the shard that was found in the bytes, and its request, one law for each way out. Assumes nothing.
-use Prim.Native.Nat.{ℕ, ◌+◌, ◌-◌, ◌*◌, ◌≤◌, ◌<◌, min}
+use Prim.Native.Nat.{ℕ, ◌+◌, ◌*◌, ◌≤◌, ◌<◌, min}
 use mathlib.Core.Path.{◌≡◌, refl, sym, ap, subst, ◌∙◌}
 use mathlib.Core.Bool.{Bool, true, false, cond}
 use mathlib.Core.List.{List}
-use mathlib.Core.Option.{Option, none, some}
+use mathlib.Core.Option.{Option, some}
 use native.Mathlib.Omega.{arith}
 use lib.Dec.{leb, ltb}
 use lib.ListN.{length, get_or, take}
 use lib.Seq.{take_all}
-use borrow.Author.Tests.{lt-leb, le-leb, lt-ltb, leb-true, leb-false, not-false}
-use Rattle.spec.specs.Lists.{◌and◌}
+use borrow.Author.Tests.{lt-ltb, leb-true, leb-false, not-false}
 use Rattle.spec.specs.Keys.{Key, same_key}
 use Rattle.spec.specs.Log.{Log, epoch_ends, entries_from}
 use Rattle.spec.specs.Layout.Format.{Bytes, number_at}
@@ -17,14 +16,12 @@ use Rattle.spec.specs.Node.Held as held
 use Rattle.spec.specs.Node.Worker.{Message, new_epoch_message, end_offset, sending, step_held}
 use Rattle.spec.specs.declared.Metric.{Metric}
 use Rattle.spec.specs.declared.Role.{Role}
-use Rattle.spec_laws.proofs.Lists.{not_both}
 use Rattle.spec_laws.proofs.Map.Orders.{same_key_lem}
 use Rattle.map_tables.specs.Names.{view_key}
 use Rattle.log_store.specs.Store.{Store, Sized, store_log}
 use Rattle.log_store.specs.View.{Columns, log_of}
 use Rattle.log_store.proofs.Columns.{log-length}
 use Rattle.log_store.proofs.Firsts.{firsts-take, firsts-length}
-use Rattle.node_shard.specs.declared.Held.{Held}
 use Rattle.node_shard.specs.Formed.{formed_held}
 use Rattle.node_log_write.specs.Writes.{view_stored}
 use Rattle.node_admit.specs.Steps.{step_word, Steps}
@@ -42,7 +39,7 @@ use Rattle.node_send.specs.declared.Request.TheVariants as R
 use Rattle.node_send.specs.Requested.{request_on, Requested}
 use Rattle.node_send.proofs.Answer.{nothing}
 use Rattle.node_send.proofs.Step.{Word, align_at_lem, by_word, request-by, send_within}
-use Rattle.node_lent.specs.Lend.{LentStore, store_of, Found}
+use Rattle.node_lent.specs.Lend.{LentStore, store_of}
 use Rattle.node_lent.specs.declared.Lent.TheVariants as L
 use Rattle.node_step.specs.Requests.{Requests}
 use Rattle.node_step.proofs.Requests.{sent}

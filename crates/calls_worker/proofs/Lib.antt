@@ -1,4 +1,3 @@
-pub mod CodeLaws
 pub mod AnswerLaws
 pub mod Some
 pub mod Found

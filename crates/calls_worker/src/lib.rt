@@ -33,19 +33,16 @@ pub fn step(
     if !text_fits(name, 32) {
         return 21;
     }
-    if 1 < metric {
+    let Some(m) = metric_of(metric) else {
         return 21;
-    }
+    };
     let key = key_named(name, shard);
     let found = find(header, stores, key);
     match found {
         Lent::Malformed => 24,
         Lent::Absent => stops(answer),
-        Lent::At(at) => {
-            let m = metric_of(metric);
-            step_at(
-                header, at, stores, name, shard, epoch, peer, m, request, answer,
-            )
-        }
+        Lent::At(at) => step_at(
+            header, at, stores, name, shard, epoch, peer, m, request, answer,
+        ),
     }
 }

@@ -1,13 +1,16 @@
 -- One of several sums in step, and a stored vector's components. Assumes nothing.
 use mathlib.Core.Path.{◌≡◌, refl, sym, ap, ◌∙◌, subst}
+use mathlib.Core.Bool.{Bool, true, false}
 use mathlib.Core.List.{List}
-use Prim.Native.Nat.{ℕ, ◌+◌, ◌-◌, ◌≤◌, ◌<◌}
+use Prim.Native.Nat.{ℕ, ◌+◌, ◌≤◌, ◌<◌, min}
 use native.Mathlib.Omega.{arith}
+use borrow.Author.Tests.{leb-true, leb-false}
+use lib.Dec.{leb}
 use lib.ListN.{length, drop, get_or, length-take, length-drop}
 use lib.Seq.{get_or-take, get_or-drop}
 use lib.Ieee.{Float, nan, binary32, add, mul}
 use Rattle.spec.specs.Nearest.Distance.{sum_from, plus_zero, dot}
-use Rattle.spec_laws.proofs.Nearest.Sums.{sum_step, sum_ends_right}
+use Rattle.spec_laws.proofs.Nearest.Sums.{sum_step, sum_ends_left, sum_ends_right}
 use Rattle.float_distance.specs.Lanes.{stored, Places, FourSums}
 
 -- ---- a stored vector
@@ -17,6 +20,15 @@ module _ (floats : List Float) (p n : ℕ) (fits : p + n ≤ length floats) wher
 
   pub stored_at : (i : ℕ) → i < n → get_or (stored floats p n) i nan ≡ get_or floats (p + i) nan
   stored_at i h = rw (get_or-take, get_or-drop)
+
+-- ---- a sum ends with the shorter
+pub sum_ends : (term : Float → Float → Float) (a b : List Float) (acc : Float) (i : ℕ) → min (length a) (length b) ≤ i
+    → sum_from term acc (drop i a) (drop i b) ≡ acc
+sum_ends term a b acc i h = shorter (leb (length a) (length b)) refl
+  where
+    shorter : (t : Bool) → leb (length a) (length b) ≡ t → sum_from term acc (drop i a) (drop i b) ≡ acc
+    shorter true e = sum_ends_left term a b acc i (let k = leb-true _ _ e in omega arith)
+    shorter false e = sum_ends_right term a b acc i (let k = leb-false _ _ e in omega arith)
 
 -- ---- a sum under way
 module _ (term : Float → Float → Float) (a b : List Float) where

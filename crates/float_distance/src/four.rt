@@ -39,8 +39,7 @@ pub fn squares_four(
     let mut b = 0.0f32;
     let mut c = 0.0f32;
     let mut d = 0.0f32;
-    let mut i = 0usize;
-    while i < n {
+    for i in 0..n {
         let x = query[i];
         let u = x - floats[p + i];
         let v = x - floats[q + i];
@@ -50,7 +49,6 @@ pub fn squares_four(
         b = b + v * v;
         c = c + w * w;
         d = d + y * y;
-        i += 1;
     }
     Four { a, b, c, d }
 }
@@ -76,8 +74,7 @@ fn products_four(
     let mut f = 0.0f32;
     let mut g = 0.0f32;
     let mut h = 0.0f32;
-    let mut i = 0usize;
-    while i < n {
+    for i in 0..n {
         let x = query[i];
         let u = floats[p + i];
         let v = floats[q + i];
@@ -91,7 +88,6 @@ fn products_four(
         f = f + v * v;
         g = g + w * w;
         h = h + y * y;
-        i += 1;
     }
     let dots = Four { a, b, c, d };
     let own = Four {

@@ -13,28 +13,25 @@ pub fn squares(a: &[f32], b: &[f32]) -> f32
     ensures { result ≡ Distance.squares a.now b.now }
 {
     let mut acc = 0.0f32;
-    let mut i = 0usize;
-    while i < a.len() && i < b.len() {
+    for i in 0..a.len().min(b.len()) {
         let x = a[i];
         let y = b[i];
         let d = x - y;
         acc = acc + d * d;
-        i += 1;
     }
     acc
 }
 
 // Internal: the sum of the products.
+// Stays two functions: with a closure for the term, each call would prove what its closure computes, which is longer than this loop.
 pub fn dot(a: &[f32], b: &[f32]) -> f32
     ensures { result ≡ Distance.dot a.now b.now }
 {
     let mut acc = 0.0f32;
-    let mut i = 0usize;
-    while i < a.len() && i < b.len() {
+    for i in 0..a.len().min(b.len()) {
         let x = a[i];
         let y = b[i];
         acc = acc + x * y;
-        i += 1;
     }
     acc
 }

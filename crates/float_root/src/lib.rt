@@ -71,6 +71,7 @@ fn raised(n: u64, q: u64) -> u64
     ensures { (n ≤ result * result + result) × (result < 2 ^ 26) }
 {
     let mut r = q;
+    // Stays a while: it counts no index, and how far `r` goes is what the loop finds.
     while r * r + r < n {
         r += 1;
     }
@@ -83,6 +84,7 @@ fn lowered(n: u64, q: u64) -> u64
     ensures { (n ≤ result * result + result) × (result * result < n + result) }
 {
     let mut r = q;
+    // Stays a while: it counts no index, and how far `r` goes is what the loop finds.
     while n + r <= r * r {
         r -= 1;
     }

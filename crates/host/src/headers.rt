@@ -75,5 +75,8 @@ pub fn catalogue_outcome(
 ) -> u32
     ensures { Outcomes header.old header.new name.now shard epoch peer command applied result }
 {
-    calls_outcome::outcome::outcome(header, name, shard, epoch, peer, command, applied)
+    match calls_outcome::outcome::outcome(header, name, shard, epoch, peer, command, applied) {
+        Ok(()) => 0,
+        Err(why) => u32::from(why),
+    }
 }

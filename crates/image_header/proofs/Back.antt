@@ -17,8 +17,8 @@ use Rattle.spec.specs.declared.Peer.{Peer}
 use Rattle.spec.specs.declared.Role.{Role}
 use Rattle.spec.specs.declared.Role.TheVariants.{Backup, Primary}
 use Rattle.node_admit.specs.View.{view_expiry}
-use Rattle.node_admit.specs.declared.Expiry.{Expiry}
-use Rattle.node_admit.specs.declared.Expiry.TheVariants.{Never, At}
+use Rattle.std.specs.Prelude.{Option}
+use Rattle.std.specs.Prelude.{None, Some}
 use Rattle.node_shard.specs.declared.Held.{Held}
 use Rattle.map_tables.proofs.Tables.{map-take}
 use Rattle.node_header.specs.View.{Stores, used, view_held_row, view_node}
@@ -76,13 +76,13 @@ role_small : (r : Role) → (role_value r).0.0 < 2
 role_small Backup = omega arith
 role_small (Primary e o) = omega arith
 
-expiry_back : (e : Expiry) → expiry_of (expiry_code e) (expiry_time e) ≡ e
-expiry_back Never = refl
-expiry_back (At t) = refl
+expiry_back : (e : Option ℕ) → expiry_of (expiry_code e) (expiry_time e) ≡ e
+expiry_back None = refl
+expiry_back (Some t) = refl
 
-expiry_small : (e : Expiry) → expiry_code e < 2
-expiry_small Never = omega arith
-expiry_small (At t) = omega arith
+expiry_small : (e : Option ℕ) → expiry_code e < 2
+expiry_small None = omega arith
+expiry_small (Some t) = omega arith
 
 -- ---- a held shard
 
@@ -136,10 +136,10 @@ head_f = u64 ▸ u64 ▸ u64 ▸ u64 ▸ u32 ▸ u32 ▸ u64
 abbrev head_value : Node → Value head_f
 head_value n = ((((((n.id.0, n.incarnation), n.version), in_use 8 n.count), 0), expiry_code n.expiry), expiry_time n.expiry)
 
-abbrev node_of : ℕ → ℕ → Expiry → ℕ → List held.Held → held.Node
+abbrev node_of : ℕ → ℕ → Option ℕ → ℕ → List held.Held → held.Node
 node_of i c e v l = record { id = i; incarnation = c; expiry = view_expiry e; version = v; held = l }
 
-same-node : {i j c d v w : ℕ} {e f : Expiry} {l m : List held.Held} → i ≡ j → c ≡ d → e ≡ f → v ≡ w → l ≡ m → node_of i c e v l ≡ node_of j d f w m
+same-node : {i j c d v w : ℕ} {e f : Option ℕ} {l m : List held.Held} → i ≡ j → c ≡ d → e ≡ f → v ≡ w → l ≡ m → node_of i c e v l ≡ node_of j d f w m
 same-node p q r s t = rw (p, q, r, s, t)
 
 module _ (n : Node) (fits : Fits n) where

@@ -7,8 +7,8 @@ use lib.ListN.{length, length-map}
 use lib.Seq.{sets}
 use native.Mathlib.Omega.{arith}
 use Rattle.node_admit.specs.View.{view_expiry}
-use Rattle.node_admit.specs.declared.Expiry.{Expiry}
-use Rattle.node_admit.specs.declared.Expiry.TheVariants.{Never, At}
+use Rattle.std.specs.Prelude.{Option}
+use Rattle.std.specs.Prelude.{None, Some}
 use Rattle.node_header.specs.View.{Stores, used, view_held_row, view_node}
 use Rattle.node_header.specs.Slots.{slots_of}
 use Rattle.node_header.specs.declared.Node.{Node}
@@ -22,13 +22,13 @@ use Rattle.image_header.proofs.Tidy.{image_rows_lem}
 use Rattle.image_header.proofs.Formed.{formed_as}
 use Rattle.image_header.proofs.Back.{Fits, length-put, codes_listed_lem, used-back, header-back, counted_back, count-within, slots-back}
 
-lease-code : (e : Expiry) → lease_code (view_expiry e) ≡ expiry_code e
-lease-code Never = refl
-lease-code (At t) = refl
+lease-code : (e : Option ℕ) → lease_code (view_expiry e) ≡ expiry_code e
+lease-code None = refl
+lease-code (Some t) = refl
 
-lease_time_lem : (e : Expiry) → lease_time (view_expiry e) ≡ expiry_time e
-lease_time_lem Never = refl
-lease_time_lem (At t) = refl
+lease_time_lem : (e : Option ℕ) → lease_time (view_expiry e) ≡ expiry_time e
+lease_time_lem None = refl
+lease_time_lem (Some t) = refl
 
 module _ (n : Node) (fits : Fits n) (st : Stores) (counted : Counted st) where
   image_count : length (map (view_held_row st) (used n)) ≡ in_use 8 n.count

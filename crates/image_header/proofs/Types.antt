@@ -15,9 +15,10 @@ use Rattle.spec.specs.declared.Role.{Role}
 use Rattle.spec.specs.declared.Role.TheVariants.{Backup, Primary}
 use Rattle.spec.specs.contracts.Peer as ofPeer
 use Rattle.spec.specs.contracts.Role as ofRole
-use Rattle.node_admit.specs.declared.Expiry.{Expiry}
-use Rattle.node_admit.specs.declared.Expiry.TheVariants.{Never, At}
-use Rattle.node_admit.specs.contracts.Expiry as ofExpiry
+use denote.Builtin.{u64}
+use Rattle.std.specs.contracts.option.Option as of_option
+use Rattle.std.specs.Prelude.{Option}
+use Rattle.std.specs.Prelude.{None, Some}
 use Rattle.node_shard.specs.declared.Held.{Held}
 use Rattle.node_shard.specs.contracts.Held as ofHeld
 use Rattle.node_header.specs.declared.HeldRow.{HeldRow}
@@ -67,9 +68,9 @@ kept_good : (x : HeldRow) (vs : List Val) → Is (row ofHeldRow.the_type) x vs �
 kept_good x vs p =
     ((((key_good x.key _ p.1.1.0, omega arith), p.1.1.1.0.1), p.1.1.1.1.0.1), held_good x.held _ p.1.1.1.1.1.0)
 
-expiry_good : (e : Expiry) (vs : List Val) → Is (enum.row ofExpiry.the_type) e vs → expiry_time e < 256 ^ 8
-expiry_good Never vs p = omega arith
-expiry_good (At t) vs p = p.1.1.1.1.0.1
+expiry_good : (e : Option ℕ) (vs : List Val) → Is (of_option.the_field u64).row ((of_option.the_field u64).into e) vs → expiry_time e < 256 ^ 8
+expiry_good None vs p = omega arith
+expiry_good (Some t) vs p = p.1.1.1.1.0.1
 
 pub node-fits : (n : Node) (vs : List Val) → Is (row of_node.the_type) n vs → Fits n
 node-fits n vs p =

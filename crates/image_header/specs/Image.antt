@@ -6,7 +6,7 @@ use Rattle.spec.specs.Lists.{◌and◌}
 use Rattle.spec.specs.Layout.Format.{number_at, bytes_of, concat_map}
 use Rattle.spec.specs.declared.Metric.TheVariants.{Euclidean}
 use Rattle.spec.specs.declared.Role.TheVariants.{Backup}
-use Rattle.node_admit.specs.declared.Expiry.TheVariants.{Never}
+use Rattle.std.specs.Prelude.{None}
 use Rattle.node_header.specs.declared.HeldRow.{HeldRow}
 use Rattle.node_header.specs.declared.Node.{Node}
 use Rattle.image_header.specs.declared.Lent.{Lent}
@@ -38,7 +38,7 @@ no_held_row = record {
 
 -- a header without shards
 unfoldable pub no_node : Node
-no_node = record { id = id_of 0; incarnation = 0; expiry = Never; version = 0; held = replicate 8 no_held_row; count = 0 }
+no_node = record { id = id_of 0; incarnation = 0; expiry = None; version = 0; held = replicate 8 no_held_row; count = 0 }
 
 -- ---- what the bytes are read as
 

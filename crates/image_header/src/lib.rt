@@ -9,7 +9,6 @@ ghost use Rattle.image_header_row.specs.Rows.{expiry_of, expiry_code, expiry_tim
 ghost use Rattle.image_header.specs.Image.{shard_codes, flags_listed, codes_listed, header_lent};
 
 use image_parts::bytes::{codes_below, count_at};
-use node_admit::Expiry;
 use node_header::Node;
 
 // The header that a buffer lends; without one, `node` has no shards.
@@ -20,31 +19,27 @@ pub struct Lent {
 }
 
 // Internal: a lease's end as a code and a time, and back.
-pub fn expiry_of(code: u32, time: u64) -> Expiry
+pub fn expiry_of(code: u32, time: u64) -> Option<u64>
     ensures { result ≡ expiry_of code time }
 {
-    if code == 0 {
-        Expiry::Never
-    } else {
-        Expiry::At(time)
-    }
+    if code == 0 { None } else { Some(time) }
 }
 
-pub fn expiry_code(e: Expiry) -> u32
+pub fn expiry_code(e: Option<u64>) -> u32
     ensures { result ≡ expiry_code e }
 {
     match e {
-        Expiry::Never => 0,
-        Expiry::At(_) => 1,
+        None => 0,
+        Some(_) => 1,
     }
 }
 
-pub fn expiry_time(e: Expiry) -> u64
+pub fn expiry_time(e: Option<u64>) -> u64
     ensures { result ≡ expiry_time e }
 {
     match e {
-        Expiry::Never => 0,
-        Expiry::At(t) => t,
+        None => 0,
+        Some(t) => t,
     }
 }
 
@@ -70,14 +65,12 @@ fn flags_listed(s: &[u8], n: usize) -> bool
     requires { (10288 ≤ length s.now) × (n ≤ 8) }
     ensures { result ≡ flags_listed s.now n 48 }
 {
-    let mut i: usize = 0;
-    while i < n {
+    for i in 0..n {
         let row = 48 + 1280 * i;
         let peers = count_at(s, row + 88, 32);
         if !codes_below(s, 16, 32, peers, row + 280) {
             return false;
         }
-        i += 1;
     }
     true
 }

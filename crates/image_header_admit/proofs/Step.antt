@@ -1,11 +1,10 @@
 -- The step by the numbers of a row, one law for each way out. Assumes nothing.
 use Prim.Native.Nat.{ℕ, ◌+◌, ◌*◌, ◌≤◌, ◌<◌}
-use mathlib.Core.Path.{◌≡◌, refl, sym, ap, ◌∙◌}
-use mathlib.Core.Bool.{Bool, true, false, not}
+use mathlib.Core.Path.{◌≡◌, sym, ap, ◌∙◌}
+use mathlib.Core.Bool.{Bool, true, false}
 use mathlib.Core.List.{List}
 use native.Mathlib.Omega.{arith}
 use lib.ListN.{length, take, get_or}
-use borrow.Author.Tests.{eq-eqb, ne_eqb}
 use Rattle.spec.specs.Lists.{any, lead}
 use Rattle.spec.specs.Layout.Format.{number_at}
 use Rattle.spec.specs.Node.Shards.{leads_at, on_node}
@@ -24,21 +23,6 @@ use Rattle.image_parts.specs.Parts.{replicas_at}
 use Rattle.image_header_row.specs.Rows.{peer_at, peers_at, role_at, held_row_at}
 use Rattle.image_header_check.proofs.Rows.{peers_long, peer-row, holders-is, count-is, peers-is, last-is}
 use Rattle.image_header_form.proofs.FrontLaws.{role_is, replicas-is}
-
--- ---- the row of a peer
-
-module _ (s : List ℕ) (at i node : ℕ) (lt : i < 32) where
-  row-node : (get_or (peers_at s at) i no_peer).node.0 ≡ number_at 8 s (at + 32 * i)
-  unfolding peer_at
-  row-node = ap (λ (p : Peer). p.node.0) (peer-row s at i no_peer lt)
-
-  pub row_same : (x : ℕ) → x ≡ number_at 8 s (at + 32 * i) → x ≡ node → others node (get_or (peers_at s at) i no_peer) ≡ false
-  row_same x e q = ap not (eq-eqb _ _ (row-node ∙ sym e ∙ q))
-
-  pub row_other : (x : ℕ) → x ≡ number_at 8 s (at + 32 * i) → (x ≡ node → ⊥) → others node (get_or (peers_at s at) i no_peer) ≡ true
-  row_other x e q = ap not (ne_eqb _ _ (λ z. q (e ∙ sym row-node ∙ z)))
-
--- ---- the ways out
 
 module _ (s : List ℕ) (row epoch peer : ℕ) (formed : formed_held (held_row_at s row).held ≡ true) where
   abbrev h : Held

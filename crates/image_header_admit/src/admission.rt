@@ -24,14 +24,10 @@ fn members(s: &[u8], at: usize, count: usize) -> u64
     ensures { (result ≡ length (filter is_member (take count (peers_at s.now at)))) × (result ≤ 32) }
 {
     let mut n: u64 = 0;
-    let mut i: usize = 0;
-    while i < count {
+    for i in 0..count {
         let p = peer_at(s, at + PEER * i);
         if p.member {
             n += 1;
-            i += 1;
-        } else {
-            i += 1;
         }
     }
     n

@@ -1,13 +1,12 @@
 // The worker's step (paper 01, 'The node'; node.rs, replicate_to). Internal.
-ghost use Rattle.std.specs.Prelude.{◌≡◌, true, ◌+◌, ◌≤◌, length, take};
-ghost use Rattle.spec.specs.Lists.{lead};
-ghost use Rattle.node_shard.specs.View.{others};
+ghost use Rattle.std.specs.Prelude.{◌≡◌, true, ◌+◌, ◌≤◌, length};
 ghost use Rattle.node_shard.specs.Formed.{formed_held};
 ghost use Rattle.node_admit.specs.Steps.{step_from, Steps};
-ghost use Rattle.image_header_row.specs.Rows.{peers_at, held_row_at};
+ghost use Rattle.image_header_row.specs.Rows.{held_row_at};
 
 use image_header_row::held::role_at;
 use image_header_row::peers::peer_at;
+use image_header_set::peers::place_of;
 use image_layout::header::{COUNT, HOLDERS, LAST, PEER, PEERS, REPLICAS, ROLE};
 use image_parts::replicas::replicas_at;
 use node_admit::Step;
@@ -24,32 +23,10 @@ fn sends(acked: u64, last: u64) -> Step
     if last <= acked {
         return Step::Wait;
     }
-    let rest = last - acked;
-    if rest < BATCH {
-        return Step::Send {
-            first: acked + 1,
-            count: rest,
-        };
-    }
     Step::Send {
         first: acked + 1,
-        count: BATCH,
+        count: BATCH.min(last - acked),
     }
-}
-
-// The place of the row of `node` among the peers from `at` on, or `count`.
-fn peer_place(s: &[u8], at: usize, count: usize, node: u64) -> usize
-    requires { (at + 1024 ≤ length s.now) × (count ≤ 32) }
-    ensures { result ≡ lead (others node) (take count (peers_at s.now at)) }
-{
-    let mut i: usize = 0;
-    while i < count {
-        if num::get8(s, at + PEER * i) == node {
-            return i;
-        }
-        i += 1;
-    }
-    i
 }
 
 // The step at the shard whose row begins at `row`, which is not malformed.
@@ -68,7 +45,7 @@ pub fn step(header: &[u8], row: usize, epoch: u64, peer: u64) -> Step
         return Step::Stop;
     }
     let count = num::get8(header, row + COUNT) as usize;
-    let at = peer_place(header, rows, count, peer);
+    let at = place_of(header, rows, count, peer);
     if count <= at {
         return Step::Align;
     }

@@ -18,12 +18,10 @@ fn acks_fit(s: &[u8], at: usize, count: usize) -> bool
     requires { (at + 1024 ≤ length s.now) × (count ≤ 32) }
     ensures { result ≡ every ack_fits (take count (peers_at s.now at)) }
 {
-    let mut i: usize = 0;
-    while i < count {
+    for i in 0..count {
         if LAST_TIME < num::get8(s, at + 32 * i + 8) {
             return false;
         }
-        i += 1;
     }
     true
 }
@@ -35,12 +33,10 @@ fn rows_rise(s: &[u8], at: usize, count: usize) -> bool
     if count == 0 {
         return true;
     }
-    let mut i: usize = 1;
-    while i < count {
+    for i in 1..count {
         if num::get8(s, at + 32 * i) <= num::get8(s, at + 32 * (i - 1)) {
             return false;
         }
-        i += 1;
     }
     true
 }
@@ -75,12 +71,10 @@ fn all_fit(s: &[u8], count: usize) -> bool
     requires { Counts s.now count }
     ensures { result ≡ every held_row_fits (take count (node_at s.now).held) }
 {
-    let mut i: usize = 0;
-    while i < count {
+    for i in 0..count {
         if !row_fits(s, 48 + 1280 * i) {
             return false;
         }
-        i += 1;
     }
     true
 }
@@ -93,29 +87,25 @@ fn keys_rise(s: &[u8], count: usize) -> bool
     if count == 0 {
         return true;
     }
-    let mut i: usize = 1;
-    while i < count {
+    for i in 1..count {
         let a = key_at(s, 48 + 1280 * (i - 1));
         let b = key_at(s, 48 + 1280 * i);
         if !key_below(a, b) {
             return false;
         }
-        i += 1;
     }
     true
 }
 
-// A shard from `from` on that has the slot.
-fn slot_after(s: &[u8], from: usize, count: usize, slot: u64) -> bool
+// Whether a shard from `from` on has the slot.
+pub fn slot_after(s: &[u8], from: usize, count: usize, slot: u64) -> bool
     requires { Counts s.now count × (from ≤ count) }
     ensures { result ≡ any (on_slot slot) (drop from (take count (node_at s.now).held)) }
 {
-    let mut i = from;
-    while i < count {
+    for i in from..count {
         if num::get8(s, 48 + 1280 * i + 48) == slot {
             return true;
         }
-        i += 1;
     }
     false
 }
@@ -125,8 +115,7 @@ fn slots_fit(s: &[u8], count: usize) -> bool
     requires { Counts s.now count }
     ensures { result ≡ slots_fit (take count (node_at s.now).held) }
 {
-    let mut i: usize = 0;
-    while i < count {
+    for i in 0..count {
         let slot = num::get8(s, 48 + 1280 * i + 48);
         if 8 <= slot {
             return false;
@@ -134,7 +123,6 @@ fn slots_fit(s: &[u8], count: usize) -> bool
         if slot_after(s, i + 1, count, slot) {
             return false;
         }
-        i += 1;
     }
     true
 }

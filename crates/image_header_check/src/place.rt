@@ -15,13 +15,11 @@ pub fn place_at(s: &[u8], count: usize, key: ShardKey) -> usize
     requires { Counts s.now count }
     ensures { result ≡ lead (other_key (view_key key)) (take count (node_at s.now).held) }
 {
-    let mut i: usize = 0;
-    while i < count {
+    for i in 0..count {
         let k = key_at(s, 48 + 1280 * i);
         if same_key(k, key) {
             return i;
         }
-        i += 1;
     }
-    i
+    count
 }

@@ -10,8 +10,8 @@ use lib.Seq.{sets, set_comm, set-set, get_or-set_same, get_or-set_other, take-se
 use Rattle.spec.specs.Layout.Format.{Bytes, bytes_of, number_at, concat_map, All}
 use Rattle.spec.specs.Layout.Parts.{metric_code}
 use Rattle.spec_laws.proofs.Wire.Bytes.{length-bytes}
-use Rattle.node_admit.specs.declared.Expiry.{Expiry}
-use Rattle.node_admit.specs.declared.Expiry.TheVariants.{Never, At}
+use Rattle.std.specs.Prelude.{Option}
+use Rattle.std.specs.Prelude.{None, Some}
 use Rattle.node_header.specs.declared.HeldRow.{HeldRow}
 use Rattle.node_header.specs.declared.Node.{Node}
 use Rattle.node_header.specs.View.{no_held_row, used}
@@ -164,7 +164,7 @@ module _ (s : List ℕ) (count row last stored : ℕ) (h : row < count) where
 time_below : (code time : ℕ) → time < 256 ^ 8 → expiry_time (expiry_of code time) < 256 ^ 8
 time_below code time h = go (eqb code 0)
   where
-    go : (b : Bool) → expiry_time (cond b Never (At time)) < 256 ^ 8
+    go : (b : Bool) → expiry_time (cond b None (Some time)) < 256 ^ 8
     go true = omega arith
     go false = h
 
@@ -185,7 +185,7 @@ all-at P (x ∷ l) (suc i) d h f = all-at P l i d (omega arith) f.1
 module _ (s : List ℕ) (count row last stored : ℕ) (counts : Counts s count) (under : row < count) (bytes : Bytes s) (hl : last < 256 ^ 8)
     (hs : stored < 256 ^ 8) where
   -- the lease as it is written
-  abbrev own : Expiry
+  abbrev own : Option ℕ
   own = expiry_of (number_at 4 s 36) (number_at 8 s 40)
 
   abbrev after : Node

@@ -29,14 +29,11 @@ fn rows_counted(out: &mut [u8], count: usize, row: usize, last: u64, stored: u64
     requires { (10288 ≤ length out.old) × (count ≤ 8) × (row < count) }
     ensures { out.new ≡ sets out.old 48 (concat_map held_row_bytes (map tidy_held_row (counted_rows out.old count row last stored))) }
 {
-    let mut i: usize = 0;
-    while i < count {
+    for i in 0..count {
         if i == row {
             row_counted(out, ROWS + ROW * i, last, stored);
-            i += 1;
         } else {
             row_tidied(out, ROWS + ROW * i);
-            i += 1;
         }
     }
 }

@@ -31,17 +31,14 @@ pub fn peers_waited(out: &mut [u8], at: usize, count: usize, last: u64, clock: u
     ensures { Stored out.old out.new at
         (peers_bytes (padded 32 no_peer (map (wait_row last clock timeout) (take count (peers_at out.old at))))) 1024 }
 {
-    let mut i: usize = 0;
-    while i < count {
+    for i in 0..count {
         let p = peer_at(out, at + 32 * i);
         let q = row_waited(p, last, clock, timeout);
         put_peer(out, at + 32 * i, q);
-        i += 1;
     }
-    while i < 32 {
+    for i in count..32 {
         let none = no_peer();
         put_peer(out, at + 32 * i, none);
-        i += 1;
     }
 }
 
@@ -61,16 +58,12 @@ pub fn shrinks_of(s: &[u8], at: usize, count: usize, last: u64, clock: u64, time
 {
     let mut items = [DataNodeId(0); 32];
     let mut n: usize = 0;
-    let mut i: usize = 0;
-    while i < count {
+    for i in 0..count {
         let p = peer_at(s, at + 32 * i);
         if shrinks(p, last, clock, timeout) {
             let node = p.node;
             items[n] = node;
             n += 1;
-            i += 1;
-        } else {
-            i += 1;
         }
     }
     Nodes {
@@ -84,13 +77,11 @@ pub fn all_acked(s: &[u8], at: usize, count: usize, offset: u64) -> bool
     requires { (at + 1024 ≤ length s.now) × (count ≤ 32) }
     ensures { result ≡ every (has_acked offset) (take count (peers_at s.now at)) }
 {
-    let mut i: usize = 0;
-    while i < count {
+    for i in 0..count {
         let p = peer_at(s, at + 32 * i);
         if is_late(p, offset) {
             return false;
         }
-        i += 1;
     }
     true
 }

@@ -31,10 +31,8 @@ fn rows_tidied(out: &mut [u8], count: usize)
     requires { (10288 ≤ length out.old) × (count ≤ 8) }
     ensures { out.new ≡ sets out.old 48 (concat_map held_row_bytes (map tidy_held_row (items count (held_row_at out.old) 1280 48))) }
 {
-    let mut i: usize = 0;
-    while i < count {
+    for i in 0..count {
         row_tidied(out, 48 + 1280 * i);
-        i += 1;
     }
 }
 

@@ -6,8 +6,8 @@ use Rattle.spec.specs.declared.Offset.{Offset}
 use Rattle.spec.specs.declared.Peer.{Peer}
 use Rattle.spec.specs.declared.Role.{Role}
 use Rattle.spec.specs.declared.Role.TheVariants.{Backup, Primary}
-use Rattle.node_admit.specs.declared.Expiry.{Expiry}
-use Rattle.node_admit.specs.declared.Expiry.TheVariants.{Never, At}
+use Rattle.std.specs.Prelude.{Option}
+use Rattle.std.specs.Prelude.{None, Some}
 use Rattle.node_shard.specs.declared.Held.{Held}
 use Rattle.node_header.specs.declared.HeldRow.{HeldRow}
 use Rattle.image_parts.specs.Shape.{Shape, Value, rep, ◌▸◌, u32, u64, value, encode}
@@ -104,16 +104,16 @@ held_row_value x = ((((key_value x.key, 0), x.slot), x.stored), held_value x.hel
 
 -- ---- a lease's end: 0 never, 1 at a time
 
-abbrev pub expiry_of : ℕ → ℕ → Expiry
-expiry_of code time = cond (eqb code 0) Never (At time)
+abbrev pub expiry_of : ℕ → ℕ → Option ℕ
+expiry_of code time = cond (eqb code 0) None (Some time)
 
-abbrev pub expiry_code : Expiry → ℕ
-expiry_code Never = 0
-expiry_code (At t) = 1
+abbrev pub expiry_code : Option ℕ → ℕ
+expiry_code None = 0
+expiry_code (Some t) = 1
 
-abbrev pub expiry_time : Expiry → ℕ
-expiry_time Never = 0
-expiry_time (At t) = t
+abbrev pub expiry_time : Option ℕ → ℕ
+expiry_time None = 0
+expiry_time (Some t) = t
 
 -- ---- the same at a position of an image, and as bytes
 

@@ -17,8 +17,8 @@ use Rattle.spec.specs.declared.Role.{Role}
 use Rattle.spec.specs.contracts.Peer as ofPeer
 use Rattle.spec.specs.declared.Role.TheVariants.{Backup}
 use Rattle.spec_laws.proofs.Wire.Bytes.{number-below, length-bytes}
-use Rattle.node_admit.specs.declared.Expiry.{Expiry}
-use Rattle.node_admit.specs.declared.Expiry.TheVariants.{Never, At}
+use Rattle.std.specs.Prelude.{Option}
+use Rattle.std.specs.Prelude.{None, Some}
 use Rattle.node_shard.specs.declared.Held.{Held}
 use Rattle.node_shard.specs.View.{with_rows}
 use Rattle.node_header.specs.declared.HeldRow.{HeldRow}
@@ -201,26 +201,26 @@ peer-typed p vs q =
 
 -- ---- the header that the bytes are read as then
 
-expiry_back : (e : Expiry) → expiry_of (expiry_code e) (expiry_time e) ≡ e
-expiry_back Never = refl
-expiry_back (At t) = refl
+expiry_back : (e : Option ℕ) → expiry_of (expiry_code e) (expiry_time e) ≡ e
+expiry_back None = refl
+expiry_back (Some t) = refl
 
-pub end_kept : (e : Expiry) (code end : ℕ) → code ≡ expiry_code e → end ≡ expiry_time e → EndOf code end
+pub end_kept : (e : Option ℕ) (code end : ℕ) → code ≡ expiry_code e → end ≡ expiry_time e → EndOf code end
 end_kept e code end c t =
     let q : expiry_of code end ≡ e = ap (λ (k : ℕ). expiry_of k end) c ∙ ap (expiry_of (expiry_code e)) t ∙ expiry_back e in
     (ap expiry_code q ∙ sym c, ap expiry_time q ∙ sym t)
 
-pub end_read : (s : List ℕ) (a b : ℕ) → a ≡ number_at 4 s 36 → b ≡ number_at 8 s 40 → (e : Expiry) → e ≡ expiry_of a b → e ≡ (node_at s).expiry
+pub end_read : (s : List ℕ) (a b : ℕ) → a ≡ number_at 4 s 36 → b ≡ number_at 8 s 40 → (e : Option ℕ) → e ≡ expiry_of a b → e ≡ (node_at s).expiry
 unfolding node_at
 end_read s a b p q e is = is ∙ ap (λ (k : ℕ). expiry_of k b) p ∙ ap (expiry_of (number_at 4 s 36)) q
 
-abbrev with_expiry : Node → Expiry → Node
+abbrev with_expiry : Node → Option ℕ → Node
 with_expiry n x = record { id = n.id; incarnation = n.incarnation; expiry = x; version = n.version; held = n.held; count = n.count }
 
 pub writes-same : {s t : List ℕ} {n m : Node} → n ≡ m → HeaderWrites s t n → HeaderWrites s t m
 writes-same {s} {t} {n} {m} e w = subst (λ (x : Node). HeaderWrites s t x) e w
 
-pub same_end : (s : List ℕ) (e : Expiry) → e ≡ (node_at s).expiry → (code end : ℕ) → code ≡ expiry_code e → end ≡ expiry_time e → with_end (node_at s) code end ≡ node_at s
+pub same_end : (s : List ℕ) (e : Option ℕ) → e ≡ (node_at s).expiry → (code end : ℕ) → code ≡ expiry_code e → end ≡ expiry_time e → with_end (node_at s) code end ≡ node_at s
 same_end s e is code end c t =
     ap (λ (k : ℕ). with_end (node_at s) k end) c ∙ ap (with_end (node_at s) (expiry_code e)) t ∙ ap (with_expiry (node_at s)) (expiry_back e ∙ is)
 

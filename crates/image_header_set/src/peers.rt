@@ -9,12 +9,10 @@ pub fn place_of(s: &[u8], at: usize, count: usize, node: u64) -> usize
     requires { (at + 1024 ≤ length s.now) × (count ≤ 32) }
     ensures { result ≡ lead (others node) (take count (peers_at s.now at)) }
 {
-    let mut i: usize = 0;
-    while i < count {
+    for i in 0..count {
         if num::get8(s, at + 32 * i) == node {
             return i;
         }
-        i += 1;
     }
-    i
+    count
 }

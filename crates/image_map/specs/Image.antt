@@ -15,7 +15,7 @@ use Rattle.map_tables.specs.declared.Collections.{Collections}
 use Rattle.map_tables.specs.declared.Shards.{Shards}
 use Rattle.map_tables.specs.declared.Sessions.{Sessions}
 use Rattle.map_tables.specs.declared.ShardMap.{ShardMap}
-use Rattle.map_tables.specs.declared.Primary.TheVariants.{Nobody}
+use Rattle.std.specs.Prelude.{None}
 use Rattle.map_tables.specs.declared.Outcome.TheVariants.{Applied}
 use Rattle.map_tables.specs.View.{view_map}
 use Rattle.image_map.specs.declared.Lent.{Lent}
@@ -38,7 +38,7 @@ unfoldable pub no_shard : ShardRow
 no_shard = record {
   key = no_key;
   replicas = record { items = replicate 8 no_replica; count = 0 };
-  primary = Nobody;
+  primary = None;
   insync = record { items = replicate 8 (id_of 0); count = 0 };
   epoch = epoch_of 0;
 }

@@ -1,7 +1,7 @@
 -- The map's test, table by table. Assumes nothing.
 use Prim.Native.Nat.{ℕ}
-use mathlib.Core.Path.{◌≡◌, refl, sym, ◌∙◌}
-use mathlib.Core.Bool.{Bool, true, false}
+use mathlib.Core.Path.{◌≡◌, sym, ◌∙◌}
+use mathlib.Core.Bool.{true, false}
 use mathlib.Core.List.{List}
 use Rattle.spec.specs.Lists.{◌and◌}
 use Rattle.map_check.specs.Lent.{nodes_fit, collections_fit, shards_fit, sessions_fit, well_formed_lent}

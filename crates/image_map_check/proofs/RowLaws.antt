@@ -1,37 +1,37 @@
 -- The rows of a map that the bytes are read as, each at its place in the bytes, and what its tests come to. Assumes nothing.
 use Prim.Native.Nat.{ℕ, zero, suc, ◌+◌, ◌-◌, ◌*◌, ◌≤◌, ◌<◌}
 use mathlib.Core.Path.{◌≡◌, refl, sym, ap, ◌∙◌}
-use mathlib.Core.Bool.{Bool, true, false, cond, not}
+use mathlib.Core.Bool.{Bool, true, false}
 use mathlib.Core.List.{List, [], ◌∷◌, ◌++◌, map}
-use lib.Dec.{leb, eqb, ltb}
-use lib.ListN.{length, get_or, take, drop, replicate, length-append, length-replicate, length-map}
-use borrow.Author.Tests.{le-leb, lt-leb, le-ltb, lt-ltb, eq-eqb, ne_eqb, leb-true}
+use lib.Dec.{leb, ltb}
+use lib.ListN.{length, get_or, take, drop, length-append, length-replicate, length-map}
+use borrow.Author.Tests.{le-leb, ne_eqb}
 use native.Mathlib.Omega.{arith}
+use Rattle.std.proofs.Common.{inl, inr}
+use Rattle.std.proofs.lemmas.Bool.{cases_lt}
 use native.Mathlib.Nat.{mul-suc}
-use Rattle.spec.specs.Lists.{◌and◌, rising, every, lead, any}
-use Rattle.spec.specs.Keys.{Key, name_below, key_below, same_name, same_key}
+use Rattle.spec.specs.Lists.{◌and◌, lead}
+use Rattle.spec.specs.Keys.{name_below, key_below, same_name, same_key}
 use Rattle.spec.specs.Layout.Format.{number_at}
-use Rattle.spec.specs.Map.Apply.{is_client, is_shard}
+use Rattle.spec.specs.Map.Apply.{is_shard}
 use Rattle.spec.specs.Map.Create.{is_named}
-use Rattle.spec.specs.Map.Change.{holds, is_on, id_below}
 use Rattle.spec.specs.Map.WellFormed.{table_fits}
-use Rattle.spec_laws.proofs.Lists.{by-test}
 use Rattle.spec.specs.declared.DataNodeId.{DataNodeId}
 use Rattle.spec.specs.declared.Replica.{Replica}
 use Rattle.map_tables.specs.declared.Name.{Name}
 use Rattle.map_tables.specs.declared.ShardKey.{ShardKey}
 use Rattle.map_tables.specs.Names.{view_name, view_key}
-use Rattle.map_tables.specs.View.{view_node, view_collection, view_shard, view_session, view_sessions, view_shards}
+use Rattle.map_tables.specs.View.{view_node, view_collection, view_shard}
 use Rattle.map_tables.proofs.Tables.{scan_on, scan_stop, scan_end}
 use Rattle.image_parts.specs.Shape.{value, rep, items, in_use, rows_at, u64}
 use Rattle.image_parts.specs.Codes.{id_of, coded, rejection_of, outcome_of}
-use Rattle.image_parts.specs.Parts.{name_at, key_at, replica_f, replica_read, replica_at, replicas_at, ids_at}
+use Rattle.image_parts.specs.Parts.{name_at, key_at, replica_f, replica_read, replicas_at, ids_at}
 use Rattle.image_parts.proofs.Images.{length-items, map-items}
 use Rattle.image_map_row.specs.Rows.{node_at, collection_at, shard_at, session_at}
-use Rattle.map_check.specs.Rows.{follows, node_under, node_ok, collection_under, collection_ok, shard_under, shard_ok, session_under, session_ok, outcome_counted, in_sync_fits, is_held}
+use Rattle.map_check.specs.Rows.{follows, node_under, node_ok, collection_under, collection_ok, shard_under, shard_ok, session_under, session_ok}
 use Rattle.map_check.specs.Lent.{table_counted}
 use Rattle.map_check.proofs.Scan.{Rest, rest-on, rest_stop, rest_end, table-start, table_over}
-use Rattle.map_check.proofs.Rows.{wrong_row, first-row, right-row, size_over, size-within, size_both, long_name, many-holders, many_synced, within-counts}
+use Rattle.map_check.proofs.Rows.{wrong_row, first-row, right-row, size_over, size-within, size_both}
 use Rattle.image_map.specs.Image.{map_lent, codes_listed}
 
 module _ {A : Type 0} where
@@ -106,6 +106,19 @@ module _ {A : Type 0} (limit w at : ℕ) (get : ℕ → A) (no : A) (n : ℕ) wh
         pub pass_end : n ≤ i → true ≡ Whole
         pass_end k = sym (rest_end under ok Rows n long i last q inv k)
 
+      left_to : (i : ℕ) → i ≤ n → ((k : ℕ) → k < i → At k (k - 1) ≡ true) → Left i (i - 1)
+      left_to zero le f = pass_start
+      left_to (suc i) le f =
+          let q : suc i ≡ i + 1 = omega arith in let z : i + 1 - 1 ≡ i = omega arith in
+          rw (q, z) (pass_on i (i - 1) refl (left_to i (omega arith) (λ k lt. f k (omega arith))) (omega arith) (f i (omega arith)))
+
+      -- each row follows the one before it, or the first that does not
+      pub pass_all : ((i : ℕ) → i < n → At i (i - 1) ≡ true) → true ≡ Whole
+      pass_all f = pass_end n (n - 1) refl (left_to n (omega arith) f) (omega arith)
+
+      pub pass_some : (i : ℕ) → i < n → ((k : ℕ) → k < i → At k (k - 1) ≡ true) → At i (i - 1) ≡ false → false ≡ Whole
+      pass_some i lt f e = pass_stop i (i - 1) refl (left_to i (omega arith) f) lt e
+
   -- where a row stands
   module _ {B : Type 0} (v : A → B) (p : B → Bool) where
     abbrev pub Scan : ℕ → Type 0
@@ -123,6 +136,19 @@ module _ {A : Type 0} (limit w at : ℕ) (get : ℕ → A) (no : A) (n : ℕ) wh
 
       pub led_end : n ≤ i → i ≡ lead p (map v (take n Rows))
       led_end k = scan_end v Rows n room p i inv k
+
+    -- the first row of which p is false, or the end
+    module _ (h : n ≤ limit) where
+      led_to : (i : ℕ) → i ≤ n → ((k : ℕ) → k < i → p (v (get (at + w * k))) ≡ true) → Scan i
+      led_to zero le f = omega arith
+      led_to (suc i) le f =
+          let q : suc i ≡ i + 1 = omega arith in
+          rw q (led_on h i (led_to i (omega arith) (λ k lt. f k (omega arith))) (omega arith) (f i (omega arith)))
+
+      pub led_first : (r : ℕ) → r ≤ n → ((k : ℕ) → k < r → p (v (get (at + w * k))) ≡ true) → (r < n → p (v (get (at + w * r))) ≡ false)
+          → r ≡ lead p (map v (take n Rows))
+      led_first r le f g =
+          elim (cases_lt r n) [ inl lt ↦ led_stop h r (led_to r le f) lt (g lt) | inr ge ↦ led_end h r (led_to r le f) ge ]
 
 -- ---- a buffer that is long enough
 

@@ -1,6 +1,6 @@
 -- One pass over the ids in sync of a shard, in its bytes. Assumes nothing.
 use Prim.Native.Nat.{ℕ, ◌+◌, ◌-◌, ◌*◌, ◌≤◌, ◌<◌}
-use mathlib.Core.Path.{◌≡◌, refl, sym, ap, ◌∙◌}
+use mathlib.Core.Path.{◌≡◌, sym, ap, ◌∙◌}
 use mathlib.Core.Bool.{Bool, true, false}
 use mathlib.Core.List.{List}
 use lib.ListN.{length, get_or, take}
@@ -10,7 +10,7 @@ use Rattle.spec.specs.Map.Change.{holds, id_below}
 use Rattle.spec.specs.declared.DataNodeId.{DataNodeId}
 use Rattle.spec.specs.declared.Replica.{Replica}
 use Rattle.image_parts.specs.Codes.{id_of}
-use Rattle.image_parts.specs.Parts.{replicas_at, ids_at}
+use Rattle.image_parts.specs.Parts.{replicas_at}
 use Rattle.image_map_row.specs.Rows.{shard_at}
 use Rattle.map_check.specs.Rows.{follows, is_held, in_sync_fits}
 use Rattle.map_check.proofs.Scan.{Rest, rest-on, rest_stop, rest_end, and_swap}

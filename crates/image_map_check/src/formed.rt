@@ -8,6 +8,7 @@ use crate::layout::{
     SESSIONS_USED, SHARD, SHARDS, SHARDS_USED,
 };
 use crate::rows::{collection_follows, node_follows, session_follows, shard_follows};
+use crate::table::each_follows;
 
 fn nodes_fit(s: &[u8]) -> bool
     requires { 26536 ≤ length s.now }
@@ -17,17 +18,9 @@ fn nodes_fit(s: &[u8]) -> bool
     if 32 < n {
         return false;
     }
-    let count = n as usize;
-    let mut i: usize = 0;
-    let mut last: usize = 0;
-    while i < count {
-        if !node_follows(s, i, NODES + NODE * last, NODES + NODE * i) {
-            return false;
-        }
-        last = i;
-        i += 1;
-    }
-    true
+    each_follows(n as usize, |i, last| {
+        node_follows(s, i, NODES + NODE * last, NODES + NODE * i)
+    })
 }
 
 fn collections_fit(s: &[u8]) -> bool
@@ -38,22 +31,14 @@ fn collections_fit(s: &[u8]) -> bool
     if 16 < n {
         return false;
     }
-    let count = n as usize;
-    let mut i: usize = 0;
-    let mut last: usize = 0;
-    while i < count {
-        if !collection_follows(
+    each_follows(n as usize, |i, last| {
+        collection_follows(
             s,
             i,
             COLLECTIONS + COLLECTION * last,
             COLLECTIONS + COLLECTION * i,
-        ) {
-            return false;
-        }
-        last = i;
-        i += 1;
-    }
-    true
+        )
+    })
 }
 
 fn shards_fit(s: &[u8]) -> bool
@@ -64,17 +49,9 @@ fn shards_fit(s: &[u8]) -> bool
     if 64 < n {
         return false;
     }
-    let count = n as usize;
-    let mut i: usize = 0;
-    let mut last: usize = 0;
-    while i < count {
-        if !shard_follows(s, i, SHARDS + SHARD * last, SHARDS + SHARD * i) {
-            return false;
-        }
-        last = i;
-        i += 1;
-    }
-    true
+    each_follows(n as usize, |i, last| {
+        shard_follows(s, i, SHARDS + SHARD * last, SHARDS + SHARD * i)
+    })
 }
 
 fn sessions_fit(s: &[u8]) -> bool
@@ -85,17 +62,9 @@ fn sessions_fit(s: &[u8]) -> bool
     if 64 < n {
         return false;
     }
-    let count = n as usize;
-    let mut i: usize = 0;
-    let mut last: usize = 0;
-    while i < count {
-        if !session_follows(s, i, SESSIONS + SESSION * last, SESSIONS + SESSION * i) {
-            return false;
-        }
-        last = i;
-        i += 1;
-    }
-    true
+    each_follows(n as usize, |i, last| {
+        session_follows(s, i, SESSIONS + SESSION * last, SESSIONS + SESSION * i)
+    })
 }
 
 // A map that is not malformed.

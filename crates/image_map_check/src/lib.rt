@@ -9,3 +9,4 @@ pub mod lent;
 pub mod place;
 pub mod room;
 mod rows;
+mod table;

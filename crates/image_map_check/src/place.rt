@@ -9,6 +9,7 @@ ghost use Rattle.image_map.specs.Image.{nodes_at, collections_at, shards_at, ses
 ghost use Rattle.image_map_check.specs.Places.{NodesCount, CollectionsCount, ShardsCount, SessionsCount};
 
 use crate::layout::{COLLECTION, COLLECTIONS, NODE, NODES, SESSION, SESSIONS, SHARD, SHARDS};
+use crate::table::first_passing;
 use image_parts::keys::{key_at, name_at};
 use map_tables::names::{same_key, same_name};
 use map_tables::{Name, ShardKey};
@@ -18,14 +19,7 @@ pub fn node_place(s: &[u8], count: usize, node: u64) -> usize
     requires { NodesCount s.now count }
     ensures { result ≡ first_at (is_node node) (view_nodes (nodes_at s.now)) }
 {
-    let mut i: usize = 0;
-    while i < count {
-        if num::get8(s, NODES + NODE * i) == node {
-            return i;
-        }
-        i += 1;
-    }
-    i
+    first_passing(count, |i| num::get8(s, NODES + NODE * i) == node)
 }
 
 // The place of the collection, or `count`.
@@ -33,15 +27,10 @@ pub fn collection_place(s: &[u8], count: usize, name: Name) -> usize
     requires { CollectionsCount s.now count }
     ensures { result ≡ first_at (is_named (view_name name)) (view_collections (collections_at s.now)) }
 {
-    let mut i: usize = 0;
-    while i < count {
+    first_passing(count, |i| {
         let k = name_at(s, COLLECTIONS + COLLECTION * i);
-        if same_name(k, name) {
-            return i;
-        }
-        i += 1;
-    }
-    i
+        same_name(k, name)
+    })
 }
 
 // The place of the client's session, or `count`.
@@ -49,14 +38,7 @@ pub fn session_place(s: &[u8], count: usize, client: u64) -> usize
     requires { SessionsCount s.now count }
     ensures { result ≡ first_at (is_client client) (view_sessions (sessions_at s.now)) }
 {
-    let mut i: usize = 0;
-    while i < count {
-        if num::get8(s, SESSIONS + SESSION * i) == client {
-            return i;
-        }
-        i += 1;
-    }
-    i
+    first_passing(count, |i| num::get8(s, SESSIONS + SESSION * i) == client)
 }
 
 // The place of the key's shard, or `count`.
@@ -64,13 +46,8 @@ pub fn shard_place(s: &[u8], count: usize, key: ShardKey) -> usize
     requires { ShardsCount s.now count }
     ensures { result ≡ first_at (is_shard (view_key key)) (view_shards (shards_at s.now)) }
 {
-    let mut i: usize = 0;
-    while i < count {
+    first_passing(count, |i| {
         let k = key_at(s, SHARDS + SHARD * i);
-        if same_key(k, key) {
-            return i;
-        }
-        i += 1;
-    }
-    i
+        same_key(k, key)
+    })
 }

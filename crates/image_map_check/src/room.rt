@@ -8,6 +8,7 @@ ghost use Rattle.image_map.specs.Image.{nodes_at, collections_at, shards_at, ses
 ghost use Rattle.image_map_check.specs.Places.{NodesCount, CollectionsCount, ShardsCount, SessionsCount};
 
 use crate::layout::{COLLECTION, COLLECTIONS, NODE, NODES, SESSION, SESSIONS, SHARD, SHARDS};
+use crate::table::first_passing;
 use image_parts::keys::{key_at, name_at};
 use map_tables::names::{key_below, name_below};
 use map_tables::{Name, ShardKey};
@@ -16,56 +17,32 @@ pub fn node_room(s: &[u8], count: usize, node: u64) -> usize
     requires { NodesCount s.now count }
     ensures { result ≡ lead (λ y. ltb y.node node) (view_nodes (nodes_at s.now)) }
 {
-    let mut i: usize = 0;
-    while i < count {
-        if node <= num::get8(s, NODES + NODE * i) {
-            return i;
-        }
-        i += 1;
-    }
-    i
+    first_passing(count, |i| node <= num::get8(s, NODES + NODE * i))
 }
 
 pub fn collection_room(s: &[u8], count: usize, name: Name) -> usize
     requires { CollectionsCount s.now count }
     ensures { result ≡ lead (λ y. name_below y.name (view_name name)) (view_collections (collections_at s.now)) }
 {
-    let mut i: usize = 0;
-    while i < count {
+    first_passing(count, |i| {
         let k = name_at(s, COLLECTIONS + COLLECTION * i);
-        if !name_below(k, name) {
-            return i;
-        }
-        i += 1;
-    }
-    i
+        !name_below(k, name)
+    })
 }
 
 pub fn shard_room(s: &[u8], count: usize, key: ShardKey) -> usize
     requires { ShardsCount s.now count }
     ensures { result ≡ lead (λ y. key_below y.key (view_key key)) (view_shards (shards_at s.now)) }
 {
-    let mut i: usize = 0;
-    while i < count {
+    first_passing(count, |i| {
         let k = key_at(s, SHARDS + SHARD * i);
-        if !key_below(k, key) {
-            return i;
-        }
-        i += 1;
-    }
-    i
+        !key_below(k, key)
+    })
 }
 
 pub fn session_room(s: &[u8], count: usize, client: u64) -> usize
     requires { SessionsCount s.now count }
     ensures { result ≡ lead (λ y. ltb y.client client) (view_sessions (sessions_at s.now)) }
 {
-    let mut i: usize = 0;
-    while i < count {
-        if client <= num::get8(s, SESSIONS + SESSION * i) {
-            return i;
-        }
-        i += 1;
-    }
-    i
+    first_passing(count, |i| client <= num::get8(s, SESSIONS + SESSION * i))
 }

@@ -41,12 +41,10 @@ fn is_held(s: &[u8], at: usize, count: usize, id: u64) -> bool
     requires { (at + 128 ≤ length s.now) × (count ≤ 8) }
     ensures { result ≡ holds id (take count (replicas_at s.now at)) }
 {
-    let mut i: usize = 0;
-    while i < count {
+    for i in 0..count {
         if num::get8(s, at + 16 * i) == id {
             return true;
         }
-        i += 1;
     }
     false
 }
@@ -58,16 +56,14 @@ fn in_sync_fits(s: &[u8], at: usize, held: usize, count: usize) -> bool
 {
     let first = at + 208;
     let replicas = at + 80;
-    let mut i: usize = 0;
     let mut last: usize = 0;
-    while i < count {
+    for i in 0..count {
         let before = num::get8(s, first + 8 * last);
         let id = num::get8(s, first + 8 * i);
         if !id_follows(s, replicas, held, i, before, id) {
             return false;
         }
         last = i;
-        i += 1;
     }
     true
 }

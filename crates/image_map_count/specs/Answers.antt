@@ -1,5 +1,5 @@
 -- Paper 02, 2.14: what the code's answer says, and what is answered of a lent map. Definitions only.
-use Rattle.std.specs.Prelude.{ℕ, List}
+use Rattle.std.specs.Prelude.{ℕ, List, Result, Ok, Err}
 use Rattle.spec.specs.Refusals as said
 use Rattle.map_tables.specs.Names.{view_name}
 use Rattle.map_tables.specs.View.{view_map, view_spec}
@@ -9,20 +9,16 @@ use Rattle.map_tables.specs.declared.Spec.{Spec}
 use Rattle.map_check.specs.Lent.{well_formed_lent}
 use Rattle.spec_count.specs.Counts.{Counts, six, beyond, too_wide, not_counted, placements_of, count_by}
 use Rattle.image_map_count.specs.Read.{view_ids, wide_lent, view_six}
-use Rattle.image_map_count.specs.declared.Counting.{Counting}
 use Rattle.image_map_count.specs.declared.IdSet.{IdSet}
-use Rattle.image_map_count.specs.declared.Ending.{Ending}
-use Rattle.image_map_count.specs.declared.Ending.TheVariants.{Counted, Beyond, TooWide, Malformed}
+use Rattle.image_map_count.specs.declared.Uncounted.{Uncounted}
+use Rattle.image_map_count.specs.declared.Uncounted.TheVariants.{Beyond, TooWide, Malformed}
 
 -- the case of spec_count's Counts, which gives its number
-abbrev pub counting_as : Ending → List ℕ → Counts
-counting_as Counted xs = six (view_six xs)
-counting_as Beyond xs = beyond
-counting_as TooWide xs = too_wide
-counting_as Malformed xs = not_counted said.malformed
-
-abbrev pub counting_of : Counting → Counts
-counting_of c = counting_as c.how c.six
+abbrev pub counting_of : Result (List ℕ) Uncounted → Counts
+counting_of (Ok xs) = six (view_six xs)
+counting_of (Err Beyond) = beyond
+counting_of (Err TooWide) = too_wide
+counting_of (Err Malformed) = not_counted said.malformed
 
 -- 24, 36, 35, then the counts by enumeration
 unfoldable pub count_lent : ShardMap → Name → Spec → IdSet → (lists nodes : ℕ) → Counts

@@ -12,13 +12,11 @@ fn stands_from(ids: IdSet, from: usize, id: u64) -> bool
     ensures { result ≡ any (eqb id) (drop from (view_ids ids)) }
 {
     let count = ids.count;
-    let mut i = from;
-    while i < count {
+    for i in from..count {
         let other = ids.items[i];
         if id == other {
             return true;
         }
-        i += 1;
     }
     false
 }
@@ -29,13 +27,11 @@ fn given_twice(ids: IdSet) -> bool
     ensures { result ≡ repeats (view_ids ids) }
 {
     let count = ids.count;
-    let mut i: usize = 0;
-    while i < count {
+    for i in 0..count {
         let id = ids.items[i];
         if stands_from(ids, i + 1, id) {
             return true;
         }
-        i += 1;
     }
     false
 }

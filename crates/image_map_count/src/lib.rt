@@ -8,7 +8,7 @@ ghost use Rattle.image_map.specs.Image.{map_at};
 ghost use Rattle.image_map_count.specs.Answers.{counting_of, count_lent};
 
 use crate::given::too_wide;
-use crate::six::{no_counts, six_of};
+use crate::six::six_of;
 use crate::sums::geometric;
 use image_map_check::formed::is_formed;
 use map_tables::{Name, Spec};
@@ -18,7 +18,7 @@ mod six;
 mod sums;
 mod tests;
 
-// The ids that nodes are drawn from: the first `count`; the rest is free.
+// The ids that nodes are drawn from: the first `count`; the rest is free. Stays an array with a count: there is no heap.
 #[derive(Clone, Copy)]
 pub struct IdSet {
     pub items: [u64; 4],
@@ -33,33 +33,15 @@ pub struct Summed {
     pub last: u64,
 }
 
-// How `count_placements` ends: six counts, 35, 36, or 24.
+// Why `count_placements` counts nothing: 35, 36, or 24.
 #[derive(Clone, Copy)]
-pub enum Ending {
-    Counted,
+pub enum Uncounted {
     Beyond,
     TooWide,
     Malformed,
 }
 
-// Accepted, 2, 3, 4, 5, 23. Unless `how` is `Counted`, all are 0.
-#[derive(Clone, Copy)]
-pub struct Counting {
-    pub how: Ending,
-    pub six: [u64; 6],
-}
-
-fn uncounted(how: Ending) -> Counting
-    ensures { result.how ≡ how }
-{
-    let none = no_counts();
-    Counting {
-        how: how,
-        six: none,
-    }
-}
-
-// 24, 36, 35, then the counts.
+// 24, 36, 35, then the counts: accepted, 2, 3, 4, 5, 23.
 pub fn count_placements(
     map: &[u8],
     name: Name,
@@ -67,25 +49,22 @@ pub fn count_placements(
     ids: IdSet,
     lists: u32,
     nodes: u32,
-) -> Counting
+) -> Result<[u64; 6], Uncounted>
     requires { 26536 ≤ length map.now }
     ensures { counting_of result ≡ count_lent (map_at map.now) name spec ids lists nodes }
 {
     if !is_formed(map) {
-        return uncounted(Ending::Malformed);
+        return Err(Uncounted::Malformed);
     }
     if too_wide(ids, lists, nodes) {
-        return uncounted(Ending::TooWide);
+        return Err(Uncounted::TooWide);
     }
     let given = ids.count as u64;
     let each = geometric(given, nodes);
     let total = geometric(each.sum, lists);
     if !total.fits {
-        return uncounted(Ending::Beyond);
+        return Err(Uncounted::Beyond);
     }
     let six = six_of(map, name, spec, ids, lists, nodes, total.sum);
-    Counting {
-        how: Ending::Counted,
-        six: six,
-    }
+    Ok(six)
 }

@@ -1,5 +1,5 @@
 // Internal: the six counts of a request whose total is within 64 bits.
-ghost use Rattle.std.specs.Prelude.{◌≡◌, min, ◌≤◌, length};
+ghost use Rattle.std.specs.Prelude.{◌≡◌, ◌≤◌, length};
 ghost use Rattle.spec.specs.Limits.{max_u64};
 ghost use Rattle.map_tables.specs.Names.{view_name};
 ghost use Rattle.map_tables.specs.View.{view_spec, view_map};
@@ -21,22 +21,12 @@ fn six(accepted: u64, two: u64, three: u64, four: u64, five: u64, full: u64) -> 
     all
 }
 
-pub fn no_counts() -> [u64; 6] {
-    [0u64; 6]
-}
-
-fn smaller(a: u32, b: u32) -> u32
-    ensures { result ≡ min a b }
-{
-    if a < b { a } else { b }
-}
-
 // How many placements of these lists have as many as there are shards, each with a node and no more than the replication, over so many ids.
 fn fitting(ids: u64, shards: u32, replication: u32, lists: u32, nodes: u32) -> u64
     requires { (shards ≤ lists) × (geometric ids nodes ≤ max_u64) × (total_of ids lists nodes ≤ max_u64) }
     ensures { result ≡ fitting_of shards replication ids lists nodes }
 {
-    let each = geometric(ids, smaller(nodes, replication));
+    let each = geometric(ids, nodes.min(replication));
     let all = geometric(each.sum - 1, shards);
     all.last
 }

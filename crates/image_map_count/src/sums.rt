@@ -22,8 +22,7 @@ pub fn geometric(base: u64, n: u32) -> Summed
 {
     let mut sum: u64 = 1;
     let mut last: u64 = 1;
-    let mut i: u32 = 0;
-    while i < n {
+    for i in 0..n {
         if !next_fits(sum, base) {
             return Summed {
                 fits: false,
@@ -34,7 +33,6 @@ pub fn geometric(base: u64, n: u32) -> Summed
         let next = sum * base + 1;
         last = next - sum;
         sum = next;
-        i += 1;
     }
     Summed {
         fits: true,

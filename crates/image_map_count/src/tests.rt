@@ -45,15 +45,12 @@ pub fn alive_among(map: &[u8], ids: IdSet) -> u64
     let known = num::get8(map, NODES_USED) as usize;
     let count = ids.count;
     let mut n: u64 = 0;
-    let mut i: usize = 0;
-    while i < count {
+    for i in 0..count {
         let id = ids.items[i];
-        if is_alive(map, known, id) {
-            n += 1;
-            i += 1;
-        } else {
-            i += 1;
+        if !is_alive(map, known, id) {
+            continue;
         }
+        n += 1;
     }
     n
 }
@@ -68,18 +65,15 @@ pub fn room_for(map: &[u8], name: Name, shards: u32) -> bool
     }
     let count = num::get8(map, SHARDS_USED) as usize;
     let mut total = count;
-    let mut i: u32 = 0;
-    while i < shards {
+    for i in 0..shards {
         let key = ShardKey {
             collection: name,
             shard: i,
         };
         if shard_place(map, count, key) < count {
-            i += 1;
-        } else {
-            total += 1;
-            i += 1;
+            continue;
         }
+        total += 1;
     }
     total <= 64
 }

@@ -13,7 +13,7 @@ use image_map_check::layout::{COLLECTIONS_USED, SHARDS_USED};
 use image_map_check::place::collection_place;
 use map_create::{lists_match, zero_in};
 use map_tables::answers::{applied, refused, rejected};
-use map_tables::{Name, Placement, Refusal, Rejection, ShardKey, Spec, Verdict, Walked};
+use map_tables::{Name, Placement, Refusal, Rejection, ShardKey, Spec, Verdict};
 
 // 23: a 17th collection or a 65th shard, of a placement with so many lists.
 fn has_room(map: &[u8], name: Name, lists: usize) -> bool
@@ -53,7 +53,7 @@ pub fn create_answer(map: &[u8], name: Name, spec: Spec, p: Placement) -> Verdic
         return rejected(Rejection::PlacementMismatch, key);
     }
     let walked = walk(map, p);
-    if let Walked::NotAlive(node) = walked {
+    if let Some(node) = walked {
         return rejected(Rejection::NotAlive(node), key);
     }
     if !has_room(map, name, lists) {

@@ -8,30 +8,24 @@ ghost use Rattle.image_map_put.specs.Rows.{read_as};
 
 use crate::nodes::is_alive;
 use map_create::list_size;
-use map_tables::{Placement, Walked};
+use map_tables::Placement;
+use spec::DataNodeId;
 
 // 5: the first node not alive, in placement order, ends both walks.
-pub fn walk(map: &[u8], p: Placement) -> Walked
+pub fn walk(map: &[u8], p: Placement) -> Option<DataNodeId>
     requires { Few map.now × (p.count ≤ 16) }
     ensures { result ≡ walked_of (first_not_alive (read_as map.now).nodes (view_placement p)) }
 {
     let lists = p.count;
-    let mut i: usize = 0;
-    let found: Walked = 'lists: loop {
-        if lists <= i {
-            break 'lists Walked::All;
-        }
+    for i in 0..lists {
         let list = p.lists[i];
         let n = list_size(list);
-        let mut j: usize = 0;
-        while j < n {
+        for j in 0..n {
             let node = list.nodes[j];
             if !is_alive(map, node) {
-                break 'lists Walked::NotAlive(node);
+                return Some(node);
             }
-            j += 1;
         }
-        i += 1;
-    };
-    found
+    }
+    None
 }

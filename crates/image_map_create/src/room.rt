@@ -16,18 +16,15 @@ pub fn absent_keys(map: &[u8], name: Name, n: usize) -> usize
 {
     let used = num::get8(map, SHARDS_USED) as usize;
     let mut free: usize = 0;
-    let mut i: usize = 0;
-    while i < n {
+    for i in 0..n {
         let key = ShardKey {
             collection: name,
             shard: i as u32,
         };
-        if used <= shard_place(map, used, key) {
-            free += 1;
-            i += 1;
-        } else {
-            i += 1;
+        if shard_place(map, used, key) < used {
+            continue;
         }
+        free += 1;
     }
     free
 }

@@ -30,8 +30,7 @@ fn listed_holders(map: &[u8], list: NodeList) -> Holders
         items: [none; 8],
         count: 0,
     };
-    let mut j: usize = 0;
-    while j < n {
+    for j in 0..n {
         let node = list.nodes[j];
         let incarnation = incarnation_of(map, node);
         let more = holder_added(
@@ -42,7 +41,6 @@ fn listed_holders(map: &[u8], list: NodeList) -> Holders
             },
         );
         out = more;
-        j += 1;
     }
     out
 }
@@ -73,11 +71,9 @@ pub fn shards_put(out: &mut [u8], name: Name, p: Placement)
     ensures { ShardsBecome out.old out.new (with_shards (read_as out.old).shards (read_as out.old).nodes (view_name name) 0 (view_placement p)) }
 {
     let count = p.count;
-    let mut i: usize = 0;
-    while i < count {
+    for i in 0..count {
         let list = p.lists[i];
         let row = new_shard(out, name, i as u32, list);
         shard_put(out, row);
-        i += 1;
     }
 }

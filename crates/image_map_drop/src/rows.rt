@@ -14,17 +14,14 @@ pub fn rows_without(out: &mut [u8], base: usize, words: usize, count: usize, nam
 {
     let row = 8 * words;
     let mut kept: usize = 0;
-    let mut i: usize = 0;
-    while i < count {
+    for i in 0..count {
         let at = base + row * i;
         let own = name_at(out, at);
         if same_name(own, name) {
-            i += 1;
-        } else {
-            move_down(out, at, base + row * kept, words);
-            kept += 1;
-            i += 1;
+            continue;
         }
+        move_down(out, at, base + row * kept, words);
+        kept += 1;
     }
     kept
 }

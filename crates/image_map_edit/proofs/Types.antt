@@ -11,8 +11,9 @@ use denote.Struct.Declared.{row}
 use Rattle.spec_laws.proofs.Wire.Data.{metric_of_lem, metric_below}
 use Rattle.map_tables.specs.declared.NodeRow.{NodeRow}
 use Rattle.map_tables.specs.declared.CollectionRow.{CollectionRow}
-use Rattle.map_tables.specs.declared.Primary.{Primary}
-use Rattle.map_tables.specs.declared.Primary.TheVariants.{Nobody, At}
+use Rattle.spec.specs.declared.DataNodeId.{DataNodeId}
+use Rattle.std.specs.Prelude.{Option}
+use Rattle.std.specs.Prelude.{None, Some}
 use Rattle.map_tables.specs.declared.ShardRow.{ShardRow}
 use Rattle.map_tables.specs.declared.Rejection.{Rejection}
 use Rattle.map_tables.specs.declared.Rejection.TheVariants.{
@@ -38,7 +39,8 @@ use Rattle.map_tables.specs.declared.Outcome.TheVariants.{Applied, Rejected}
 use Rattle.map_tables.specs.declared.SessionRow.{SessionRow}
 use Rattle.map_tables.specs.contracts.NodeRow as of_node
 use Rattle.map_tables.specs.contracts.CollectionRow as ofCollection
-use Rattle.map_tables.specs.contracts.Primary as ofPrimary
+use Rattle.std.specs.contracts.option.Option as of_option
+use Rattle.spec.specs.contracts.DataNodeId as of_id
 use Rattle.map_tables.specs.contracts.ShardRow as ofShard
 use Rattle.map_tables.specs.contracts.Rejection as ofRejection
 use Rattle.map_tables.specs.contracts.Outcome as ofOutcome
@@ -83,9 +85,10 @@ collection-back {s} {t} {at} r g p h = ap collection_of (value-encode collection
 
 -- ---- shards
 
-primary_good : (x : Primary) (vs : List Val) → Is (ofPrimary.the_field).row ((ofPrimary.the_field).into x) vs → primary_node x < 256 ^ 8
-primary_good Nobody vs p = omega arith
-primary_good (At n) vs p = p.1.1.1.1.0.1.1.0.1
+primary_good : (x : Option DataNodeId) (vs : List Val)
+    → Is (of_option.the_field of_id.the_row).row ((of_option.the_field of_id.the_row).into x) vs → primary_node x < 256 ^ 8
+primary_good None vs p = omega arith
+primary_good (Some n) vs p = p.1.1.1.1.0.1.1.0.1
 
 pub shard_good : (r : ShardRow) (vs : List Val) → Is (row ofShard.the_type) r vs → ShardFits r
 shard_good r vs p =

@@ -8,8 +8,9 @@ use Rattle.spec.specs.Refusals as said
 use Rattle.spec.specs.Map.Tables as tables
 use Rattle.map_tables.specs.Names.{view_key}
 use Rattle.map_tables.specs.View.{view_node, view_collection, view_primary, view_shard, rejection_of, outcome_of, view_session}
-use Rattle.map_tables.specs.declared.Primary.{Primary}
-use Rattle.map_tables.specs.declared.Primary.TheVariants.{Nobody, At}
+use Rattle.std.specs.declared.option.Option as option
+use Rattle.spec.specs.declared.DataNodeId.{DataNodeId}
+use Rattle.std.specs.Prelude.{None, Some}
 use Rattle.map_tables.specs.declared.Rejection.{Rejection}
 use Rattle.map_tables.specs.declared.Rejection.TheVariants.{
   Older,
@@ -43,9 +44,9 @@ pub none-key : no_key ≡ image_key key_of_none
 unfolding no_key no_name padded
 none-key = refl
 
-pub same-primary : (p : Primary) → image_primary (view_primary p) ≡ p
-same-primary Nobody = refl
-same-primary (At n) = refl
+pub same-primary : (p : option.Option DataNodeId) → image_primary (view_primary p) ≡ p
+same-primary None = refl
+same-primary (Some n) = refl
 
 same_rejection : (r : Rejection) (k : keys.Key) → image_rejection (rejection_of r k) ≡ r
 same_rejection Older k = refl

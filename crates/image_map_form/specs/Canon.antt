@@ -10,8 +10,8 @@ use Rattle.spec.specs.declared.DataNodeId.{DataNodeId}
 use Rattle.spec.specs.declared.Replica.{Replica}
 use Rattle.map_tables.specs.declared.NodeRow.{NodeRow}
 use Rattle.map_tables.specs.declared.CollectionRow.{CollectionRow}
-use Rattle.map_tables.specs.declared.Primary.{Primary}
-use Rattle.map_tables.specs.declared.Primary.TheVariants.{Nobody, At}
+use Rattle.std.specs.declared.option.Option as option
+use Rattle.std.specs.Prelude.{None, Some}
 use Rattle.map_tables.specs.declared.Holders.{Holders}
 use Rattle.map_tables.specs.declared.InSync.{InSync}
 use Rattle.map_tables.specs.declared.ShardRow.{ShardRow}
@@ -57,9 +57,9 @@ image_collection x = record {
   };
 }
 
-abbrev pub image_primary : Option ℕ → Primary
-image_primary none = Nobody
-image_primary (some n) = At (id_of n)
+abbrev pub image_primary : Option ℕ → option.Option DataNodeId
+image_primary none = None
+image_primary (some n) = Some (id_of n)
 
 abbrev pub image_holders : List Replica → Holders
 image_holders l = record { items = padded 8 no_replica l; count = length l }

@@ -9,7 +9,7 @@ use lib.ListN.{length, take, drop, set, length-set}
 use lib.Seq.{append_snoc}
 use borrow.Author.Tests.{le-leb, ne_eqb}
 use native.Mathlib.Omega.{arith}
-use Rattle.spec.specs.Lists.{◌and◌, every, any, filter, collect}
+use Rattle.spec.specs.Lists.{every, any, filter, collect}
 use Rattle.spec.specs.Layout.Format.{number_at}
 use Rattle.spec.specs.Map.Change.{is_on, holds}
 use Rattle.spec.specs.Map.Tables.{NodeInfo}

@@ -8,9 +8,8 @@ use lib.ListN.{length, take, drop, get_or, drop_of_length-le}
 use lib.Dec.{leb}
 use borrow.Author.Tests.{leb-true}
 use native.Mathlib.Omega.{arith}
-use Rattle.spec.specs.Lists.{◌and◌, find}
+use Rattle.spec.specs.Lists.{find}
 use Rattle.spec.specs.Layout.Format.{number_at}
-use Rattle.spec.specs.Map.Tables as tables
 use Rattle.spec_laws.proofs.Lists.{and_left}
 use Rattle.map_tables.specs.Counted.{row_counted, ShardsCounted}
 use Rattle.map_tables.specs.Find.{first_at}

@@ -24,19 +24,16 @@ pub fn live_loads(s: &[u8]) -> Loads
     let mut ids = [0u64; 32];
     let mut counts = [0u64; 32];
     let mut n: usize = 0;
-    let mut i: usize = 0;
-    while i < nodes {
+    for i in 0..nodes {
         let at = NODES + NODE * i;
-        if is_alive(s, at) {
-            let id = num::get8(s, at);
-            let count = replicas_of(s, shards, id);
-            ids[n] = id;
-            counts[n] = count;
-            n += 1;
-            i += 1;
-        } else {
-            i += 1;
+        if !is_alive(s, at) {
+            continue;
         }
+        let id = num::get8(s, at);
+        let count = replicas_of(s, shards, id);
+        ids[n] = id;
+        counts[n] = count;
+        n += 1;
     }
     Loads {
         ids: ids,

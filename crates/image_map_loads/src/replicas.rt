@@ -22,14 +22,11 @@ pub fn replicas_on(s: &[u8], at: usize, count: usize, node: u64) -> u64
     ensures { (result ≡ on_node node (take count (replicas_at s.now at))) × (result ≤ 8) }
 {
     let mut n: u64 = 0;
-    let mut i: usize = 0;
-    while i < count {
-        if num::get8(s, at + REPLICA * i) == node {
-            n += 1;
-            i += 1;
-        } else {
-            i += 1;
+    for i in 0..count {
+        if num::get8(s, at + REPLICA * i) != node {
+            continue;
         }
+        n += 1;
     }
     n
 }
@@ -40,12 +37,10 @@ pub fn replicas_of(s: &[u8], shards: usize, node: u64) -> u64
     ensures { (result ≡ replicas_of node (view_shards (shards_at s.now))) × (result ≤ 512) }
 {
     let mut n: u64 = 0;
-    let mut i: usize = 0;
-    while i < shards {
+    for i in 0..shards {
         let at = SHARDS + SHARD * i;
         let held = num::get8(s, at + HELD) as usize;
         n += replicas_on(s, at + REPLICAS, held, node);
-        i += 1;
     }
     n
 }

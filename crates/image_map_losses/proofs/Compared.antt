@@ -1,4 +1,4 @@
--- The loops that compare two lists, and two answers by their numbers. Assumes nothing.
+-- The loops that compare two lists. Assumes nothing.
 use Prim.Native.Nat.{ℕ, suc, ◌+◌, ◌≤◌, ◌<◌}
 use native.Mathlib.Omega.{arith}
 use native.Mathlib.Numerals.{add-one}
@@ -10,15 +10,10 @@ use lib.Seq.{drop-cons, get_or-take}
 use lib.Dec.{eqb}
 use borrow.Author.Tests.{eq-eqb, ne_eqb}
 use Rattle.spec.specs.Lists.{◌and◌}
-use Rattle.spec.specs.Refusals.{Refusal, unknown_shard, not_primary, no_lease, too_few_in_sync, undecodable, outside_domain, no_room, malformed, last_epoch, no_worker, number_of}
 use Rattle.spec.specs.declared.DataNodeId.{DataNodeId}
 use Rattle.map_tables.specs.View.{view_placement, refusal_of}
 use Rattle.map_tables.specs.declared.Placement.{Placement}
-use Rattle.map_place.specs.Answers.{placed_as}
-use Rattle.map_place.specs.declared.Placing.{Placing}
-use Rattle.map_place.specs.declared.Placing.TheVariants as placing
 use Rattle.spec_losses.specs.Losses.{same_all, same_lists, same_placed}
-use Rattle.image_map_losses.specs.Codes.{code_as}
 
 -- ---- two lists, place by place
 
@@ -63,50 +58,3 @@ module _ {A B : Type 0} (v : A → B) (same : B → B → Bool) (xs ys : List A)
   unfolding same_all
   compare_end h =
       sym (inv ∙ rw (drop_of_length-le (map v (take n xs)) {i = i} (rw (length-map (take n xs) v, long) h), drop_of_length-le (map v (take m ys)) {i = i} (rw (length-map (take m ys) v, long') h)))
-
--- ---- two answers
-
--- no refusal has the number of none or of lists
-pub above_16 : (r : Refusal) → 16 < number_of r
-above_16 unknown_shard = omega arith
-above_16 (not_primary e) = omega arith
-above_16 no_lease = omega arith
-above_16 too_few_in_sync = omega arith
-above_16 undecodable = omega arith
-above_16 outside_domain = omega arith
-above_16 no_room = omega arith
-above_16 malformed = omega arith
-above_16 last_epoch = omega arith
-above_16 no_worker = omega arith
-
-module _ (p q : Placement) where
-  pub codes_apart : (g h : Placing) → (code_as g ≡ code_as h → ⊥) → false ≡ same_placed (placed_as g p) (placed_as h q)
-  unfolding same_placed
-  codes_apart placing.Nowhere placing.Nowhere n = absurd (n refl)
-  codes_apart placing.Nowhere placing.Placed n = refl
-  codes_apart placing.Nowhere (placing.Refused s) n = refl
-  codes_apart placing.Placed placing.Nowhere n = refl
-  codes_apart placing.Placed placing.Placed n = absurd (n refl)
-  codes_apart placing.Placed (placing.Refused s) n = refl
-  codes_apart (placing.Refused r) placing.Nowhere n = refl
-  codes_apart (placing.Refused r) placing.Placed n = refl
-  codes_apart (placing.Refused r) (placing.Refused s) n = sym (ne_eqb (number_of (refusal_of r)) (number_of (refusal_of s)) n)
-
-  -- no lists to compare
-  pub codes_same : (g h : Placing) → code_as g ≡ code_as h → (code_as g ≡ 0 → ⊥) → true ≡ same_placed (placed_as g p) (placed_as h q)
-  unfolding same_placed
-  codes_same placing.Nowhere placing.Nowhere e n = refl
-  codes_same placing.Nowhere placing.Placed e n = absurd (omega arith)
-  codes_same placing.Nowhere (placing.Refused s) e n = absurd (omega (arith, above_16 (refusal_of s)))
-  codes_same placing.Placed h e n = absurd (n refl)
-  codes_same (placing.Refused r) placing.Nowhere e n = absurd (omega (arith, above_16 (refusal_of r)))
-  codes_same (placing.Refused r) placing.Placed e n = absurd (omega (arith, above_16 (refusal_of r)))
-  codes_same (placing.Refused r) (placing.Refused s) e n = sym (eq-eqb (number_of (refusal_of r)) (number_of (refusal_of s)) e)
-
-  pub codes_lists : (g h : Placing) → code_as g ≡ code_as h → code_as g ≡ 0 → same_lists (view_placement p) (view_placement q) ≡ same_placed (placed_as g p) (placed_as h q)
-  unfolding same_placed
-  codes_lists placing.Placed placing.Placed e z = refl
-  codes_lists placing.Placed placing.Nowhere e z = absurd (omega arith)
-  codes_lists placing.Placed (placing.Refused s) e z = absurd (omega (arith, above_16 (refusal_of s)))
-  codes_lists placing.Nowhere h e z = absurd (omega arith)
-  codes_lists (placing.Refused r) h e z = absurd (omega (arith, above_16 (refusal_of r)))

@@ -4,10 +4,10 @@ ghost use Rattle.spec_losses.specs.Losses.{same_all, same_lists, same_placed};
 ghost use Rattle.spec.specs.Refusals.{number_of};
 ghost use Rattle.map_tables.specs.View.{view_list, view_placement, refusal_of};
 ghost use Rattle.map_place.specs.Answers.{placed_of};
-ghost use Rattle.image_map_losses.specs.Codes.{code_as};
+ghost use Rattle.image_map_losses.specs.Codes.{code_of};
 
 use image_parts::bytes::in_use;
-use map_place::{PlaceAnswer, Placing};
+use map_place::PlaceAnswer;
 use map_tables::{NodeList, Placement, Refusal};
 
 fn same_nodes(a: NodeList, b: NodeList) -> bool
@@ -17,14 +17,12 @@ fn same_nodes(a: NodeList, b: NodeList) -> bool
     if in_use(8, b.count) != n {
         return false;
     }
-    let mut i: usize = 0;
-    while i < n {
+    for i in 0..n {
         let x = a.nodes[i];
         let y = b.nodes[i];
         if x.0 != y.0 {
             return false;
         }
-        i += 1;
     }
     true
 }
@@ -36,14 +34,12 @@ fn same_lists(a: Placement, b: Placement) -> bool
     if in_use(16, b.count) != n {
         return false;
     }
-    let mut i: usize = 0;
-    while i < n {
+    for i in 0..n {
         let x = a.lists[i];
         let y = b.lists[i];
         if !same_nodes(x, y) {
             return false;
         }
-        i += 1;
     }
     true
 }
@@ -60,28 +56,25 @@ fn refusal_code(r: Refusal) -> u64
 }
 
 // Internal: 0 for lists, 1 for none, a refusal's number.
-pub fn answer_code(how: Placing) -> u64
-    ensures { result ≡ code_as how }
+pub fn answer_code(a: PlaceAnswer) -> u64
+    ensures { result ≡ code_of (placed_of a) }
 {
-    match how {
-        Placing::Nowhere => 1,
-        Placing::Placed => 0,
-        Placing::Refused(r) => refusal_code(r),
+    match a {
+        Ok(None) => 1,
+        Ok(Some(_)) => 0,
+        Err(r) => refusal_code(r),
     }
 }
 
 // Internal: both none, both with the same lists, or both refused with the same number.
+#[tactic(auto, unfolding(spec_losses::specs::Losses::same_placed))]
 pub fn same_answer(a: PlaceAnswer, b: PlaceAnswer) -> bool
     ensures { result ≡ same_placed (placed_of a) (placed_of b) }
 {
-    let mine = a.how;
-    let other = b.how;
-    let code = answer_code(mine);
-    if answer_code(other) != code {
-        return false;
+    match (a, b) {
+        (Ok(None), Ok(None)) => true,
+        (Ok(Some(x)), Ok(Some(y))) => same_lists(x, y),
+        (Err(x), Err(y)) => refusal_code(x) == refusal_code(y),
+        _ => false,
     }
-    if code != 0 {
-        return true;
-    }
-    same_lists(a.placement, b.placement)
 }

@@ -14,18 +14,15 @@ pub fn loads_without(l: Loads, node: DataNodeId) -> Loads
     let mut ids = l.ids;
     let mut counts = l.counts;
     let mut n: usize = 0;
-    let mut i: usize = 0;
-    while i < count {
+    for i in 0..count {
         let id = l.ids[i];
         let load = l.counts[i];
         if id == node.0 {
-            i += 1;
-        } else {
-            ids[n] = id;
-            counts[n] = load;
-            n += 1;
-            i += 1;
+            continue;
         }
+        ids[n] = id;
+        counts[n] = load;
+        n += 1;
     }
     Loads {
         ids: ids,

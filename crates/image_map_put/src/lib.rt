@@ -24,10 +24,8 @@ fn nodes_tidied(out: &mut [u8], count: usize)
     requires { (26536 ≤ length out.old) × (count ≤ 32) }
     ensures { (out.new ≡ sets out.old 40 (concat_map node_bytes (map image_node (map view_node (items count (node_at out.old) 96 40))))) × (drop (40 + 96 * count) out.new ≡ drop (40 + 96 * count) out.old) }
 {
-    let mut i: usize = 0;
-    while i < count {
+    for i in 0..count {
         node_tidied(out, NODES + NODE * i);
-        i += 1;
     }
 }
 
@@ -35,10 +33,8 @@ fn collections_tidied(out: &mut [u8], count: usize)
     requires { (26536 ≤ length out.old) × (count ≤ 16) }
     ensures { (out.new ≡ sets out.old 3112 (concat_map collection_bytes (map image_collection (map view_collection (items count (collection_at out.old) 56 3112))))) × (drop (3112 + 56 * count) out.new ≡ drop (3112 + 56 * count) out.old) }
 {
-    let mut i: usize = 0;
-    while i < count {
+    for i in 0..count {
         collection_tidied(out, COLLECTIONS + COLLECTION * i);
-        i += 1;
     }
 }
 
@@ -46,10 +42,8 @@ fn shards_tidied(out: &mut [u8], count: usize)
     requires { (26536 ≤ length out.old) × (count ≤ 64) }
     ensures { (out.new ≡ sets out.old 4008 (concat_map shard_bytes (map image_shard (map view_shard (items count (shard_at out.old) 272 4008))))) × (drop (4008 + 272 * count) out.new ≡ drop (4008 + 272 * count) out.old) }
 {
-    let mut i: usize = 0;
-    while i < count {
+    for i in 0..count {
         shard_tidied(out, SHARDS + SHARD * i);
-        i += 1;
     }
 }
 
@@ -57,10 +51,8 @@ fn sessions_tidied(out: &mut [u8], count: usize)
     requires { (26536 ≤ length out.old) × (count ≤ 64) }
     ensures { (out.new ≡ sets out.old 21416 (concat_map session_bytes (map image_session (map view_session (items count (session_at out.old) 80 21416))))) × (drop (21416 + 80 * count) out.new ≡ drop (21416 + 80 * count) out.old) }
 {
-    let mut i: usize = 0;
-    while i < count {
+    for i in 0..count {
         session_tidied(out, SESSIONS + SESSION * i);
-        i += 1;
     }
 }
 

@@ -1,18 +1,16 @@
 -- Paper 02, 2.4: what the code's sheet says, and what is answered of a lent map. Definitions only.
-use Rattle.std.specs.Prelude.{ℕ, ◌≤◌, ◌≡◌, cond, List, map, take}
+use Rattle.std.specs.Prelude.{ℕ, ◌≤◌, ◌≡◌, cond, List, map, take, Result, Ok, Err}
 use Rattle.spec_sheet.specs.Sheet as sheet
 use Rattle.spec_sheet.specs.Sheet.{sheet_of}
 use Rattle.spec.specs.Lists.{◌and◌}
 use Rattle.spec.specs.Refusals as said
 use Rattle.map_tables.specs.View.{view_map, refusal_of}
+use Rattle.map_tables.specs.declared.Refusal.{Refusal}
 use Rattle.map_check.specs.Lent.{well_formed_lent}
 use Rattle.image_map.specs.Image.{map_at, map_lent}
 use Rattle.image_map_sheet.specs.declared.Load.{Load}
 use Rattle.image_map_sheet.specs.declared.Loads.{Loads}
 use Rattle.image_map_sheet.specs.declared.SheetOf.{SheetOf}
-use Rattle.image_map_sheet.specs.declared.Sheeting.{Sheeting}
-use Rattle.image_map_sheet.specs.declared.Sheeting.TheVariants.{Made, Refused}
-use Rattle.image_map_sheet.specs.declared.SheetAnswer.{SheetAnswer}
 
 abbrev pub view_load : Load → sheet.Loaded
 view_load l = record { node = l.node.0; count = l.count }
@@ -33,12 +31,9 @@ pub data Answer : Type 0 where
   made : sheet.Sheet → Answer
   not_made : said.Refusal → Answer
 
-abbrev pub answer_as : Sheeting → SheetOf → Answer
-answer_as Made s = made (view_sheet s)
-answer_as (Refused r) s = not_made (refusal_of r)
-
-abbrev pub answer_of : SheetAnswer → Answer
-answer_of a = answer_as a.how a.sheet
+abbrev pub answer_of : Result SheetOf Refusal → Answer
+answer_of (Ok s) = made (view_sheet s)
+answer_of (Err r) = not_made (refusal_of r)
 
 -- 24 of a buffer that lends no map, and of a malformed map; then the sheet
 unfoldable pub sheet_lent : List ℕ → Answer

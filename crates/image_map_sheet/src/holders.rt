@@ -24,15 +24,12 @@ pub fn unknown_on(s: &[u8], at: usize, held: usize, nodes: usize) -> u64
     ensures { (result ≡ unknown_on (view_nodes (nodes_at s.now)) (take held (replicas_at s.now at))) × (result ≤ 8) }
 {
     let mut n: u64 = 0;
-    let mut i: usize = 0;
-    while i < held {
+    for i in 0..held {
         let node = num::get8(s, at + REPLICA * i);
         if is_known(s, nodes, node) {
-            i += 1;
-        } else {
-            n += 1;
-            i += 1;
+            continue;
         }
+        n += 1;
     }
     n
 }

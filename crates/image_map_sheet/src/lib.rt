@@ -3,14 +3,13 @@
 #![tactic(auto)]
 
 ghost use Rattle.std.specs.Prelude.{◌≡◌};
-ghost use Rattle.spec.specs.Refusals.{malformed};
 ghost use Rattle.spec_sheet.specs.Sheet.{sheet_of};
 ghost use Rattle.map_tables.specs.View.{view_map};
 ghost use Rattle.image_map.specs.Image.{map_at};
 ghost use Rattle.image_map_loads.specs.Loads.{Used};
-ghost use Rattle.image_map_sheet.specs.Answers.{SheetAs, answer_of, not_made, sheet_lent};
+ghost use Rattle.image_map_sheet.specs.Answers.{SheetAs, answer_of, sheet_lent};
 
-use crate::lines::{lines, no_lines};
+use crate::lines::lines;
 use crate::shards::{records_in, unknown_in};
 use image_map_check::formed::is_formed;
 use image_map_check::layout::{NODES_USED, SHARDS_USED};
@@ -29,7 +28,7 @@ pub struct Load {
     pub count: u64,
 }
 
-// The lines in use are the first `count`, by rising id; the rest is free.
+// The lines in use are the first `count`, by rising id; the rest is free. Stays an array with a count: there is no heap.
 #[derive(Drop)]
 pub struct Loads {
     pub items: [Load; 32],
@@ -41,20 +40,6 @@ pub struct SheetOf {
     pub lines: Loads,
     pub unknown: u64,
     pub total: u64,
-}
-
-// How `sheet` ends: a sheet, or 24.
-#[derive(Drop)]
-pub enum Sheeting {
-    Made,
-    Refused(Refusal),
-}
-
-// Unless `how` is `Made`, the sheet is empty.
-#[derive(Drop)]
-pub struct SheetAnswer {
-    pub how: Sheeting,
-    pub sheet: SheetOf,
 }
 
 // Internal: of a map that passed the 24 test.
@@ -74,34 +59,16 @@ pub fn sheet_of(map: &[u8]) -> SheetOf
     }
 }
 
-fn refused() -> SheetAnswer
-    ensures { answer_of result ≡ not_made malformed }
-{
-    let none = no_lines();
-    let empty = SheetOf {
-        lines: none,
-        unknown: 0,
-        total: 0,
-    };
-    SheetAnswer {
-        how: Sheeting::Refused(Refusal::Malformed),
-        sheet: empty,
-    }
-}
-
 // 24 for a buffer that lends no map, and for a malformed map.
-pub fn sheet(map: &[u8]) -> SheetAnswer
+pub fn sheet(map: &[u8]) -> Result<SheetOf, Refusal>
     ensures { answer_of result ≡ sheet_lent map.now }
 {
     if !is_lent(map) {
-        return refused();
+        return Err(Refusal::Malformed);
     }
     if !is_formed(map) {
-        return refused();
+        return Err(Refusal::Malformed);
     }
     let made = sheet_of(map);
-    SheetAnswer {
-        how: Sheeting::Made,
-        sheet: made,
-    }
+    Ok(made)
 }

@@ -13,18 +13,6 @@ use image_map_check::layout::{NODE, NODES};
 use image_map_loads::replicas::replicas_of;
 use spec::DataNodeId;
 
-pub fn no_lines() -> Loads
-    ensures { result.count ≡ 0 }
-{
-    Loads {
-        items: [Load {
-            node: DataNodeId(0),
-            count: 0,
-        }; 32],
-        count: 0,
-    }
-}
-
 pub fn lines(s: &[u8], nodes: usize, shards: usize) -> Loads
     requires { (NodesCount s.now nodes) × (number_at 8 s.now 24 ≡ shards) × ShardsCounted (shards_at s.now) }
     ensures { (view_loads result ≡ map (loaded_of (view_shards (shards_at s.now))) (view_nodes (nodes_at s.now))) × (result.count ≤ 32) }
@@ -33,15 +21,13 @@ pub fn lines(s: &[u8], nodes: usize, shards: usize) -> Loads
         node: DataNodeId(0),
         count: 0,
     }; 32];
-    let mut i: usize = 0;
-    while i < nodes {
+    for i in 0..nodes {
         let id = num::get8(s, NODES + NODE * i);
         let n = replicas_of(s, shards, id);
         items[i] = Load {
             node: DataNodeId(id),
             count: n,
         };
-        i += 1;
     }
     Loads {
         items: items,

@@ -17,12 +17,10 @@ pub fn unknown_in(s: &[u8], nodes: usize, shards: usize) -> u64
     ensures { result ≡ unknown_in (view_nodes (nodes_at s.now)) (view_shards (shards_at s.now)) }
 {
     let mut n: u64 = 0;
-    let mut i: usize = 0;
-    while i < shards {
+    for i in 0..shards {
         let at = SHARDS + SHARD * i;
         let held = num::get8(s, at + HELD) as usize;
         n += unknown_on(s, at + REPLICAS, held, nodes);
-        i += 1;
     }
     n
 }
@@ -33,10 +31,8 @@ pub fn records_in(s: &[u8], shards: usize) -> u64
     ensures { result ≡ records_in (view_shards (shards_at s.now)) }
 {
     let mut n: u64 = 0;
-    let mut i: usize = 0;
-    while i < shards {
+    for i in 0..shards {
         n += num::get8(s, SHARDS + SHARD * i + HELD);
-        i += 1;
     }
     n
 }

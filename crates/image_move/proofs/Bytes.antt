@@ -1,11 +1,10 @@
 -- Bytes that are the same are read the same, wherever they stand. Assumes nothing.
 use Prim.Native.Nat.{ℕ, zero, suc, ◌+◌, ◌-◌, ◌*◌, ◌≤◌, ◌<◌}
 use mathlib.Core.Path.{◌≡◌, refl, sym, ap, ◌∙◌}
-use mathlib.Core.List.{List, [], ◌∷◌, ◌++◌}
-use lib.ListN.{length, get_or, take, drop}
+use mathlib.Core.List.{List}
+use lib.ListN.{length, get_or, drop}
 use lib.Seq.{sets, drop-drop, get_or-drop}
 use native.Mathlib.Omega.{arith}
-use native.Mathlib.Nat.{mul-suc}
 use Rattle.spec.specs.Layout.Format.{number_at}
 use Rattle.spec_laws.proofs.Wire.Bytes.{cut-append}
 use Rattle.image_parts.specs.Shape.{Shape, byte, word, ◌▸◌, rep, size, items, value, Stored}

@@ -8,9 +8,7 @@ pub fn move_up(out: &mut [u8], from: usize, to: usize, words: usize)
     requires { (from ≤ to) × (to + 8 * words ≤ length out.old) }
     ensures { Moved out.old out.new from to (8 * words) }
 {
-    let mut i = words;
-    while 0 < i {
-        i -= 1;
+    for i in (0..words).rev() {
         let word = num::get8(out, from + 8 * i);
         num::put8(out, to + 8 * i, word);
     }
@@ -20,10 +18,8 @@ pub fn move_down(out: &mut [u8], from: usize, to: usize, words: usize)
     requires { (to ≤ from) × (from + 8 * words ≤ length out.old) }
     ensures { Moved out.old out.new from to (8 * words) }
 {
-    let mut i: usize = 0;
-    while i < words {
+    for i in 0..words {
         let word = num::get8(out, from + 8 * i);
         num::put8(out, to + 8 * i, word);
-        i += 1;
     }
 }

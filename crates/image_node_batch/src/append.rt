@@ -61,14 +61,12 @@ pub fn append_all(
     let mut at = p.at;
     let mut c = count;
     let mut k = stored;
-    let mut i: usize = 0;
-    while i < n {
+    for i in 0..n {
         let e = entry_at(s, at);
         let t = append_next(out, base, c, k, s, e);
         c = t.count;
         k = t.stored;
         at = e.next;
-        i += 1;
     }
     Stock {
         count: c,

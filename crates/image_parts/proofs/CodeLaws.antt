@@ -29,8 +29,8 @@ use Rattle.map_tables.specs.declared.Rejection.TheVariants.{
 }
 use Rattle.map_tables.specs.declared.Outcome.{Outcome}
 use Rattle.map_tables.specs.declared.Outcome.TheVariants.{Applied, Rejected}
-use Rattle.map_tables.specs.declared.Primary.{Primary}
-use Rattle.map_tables.specs.declared.Primary.TheVariants.{Nobody, At}
+use Rattle.std.specs.Prelude.{Option}
+use Rattle.std.specs.Prelude.{None, Some}
 use Rattle.image_parts.specs.Parts.{replica_read, replica_value, id_value}
 use Rattle.image_parts.specs.Codes.{id_of, flag_of, flag_code, primary_of, primary_code, primary_node, coded, rejection_of, outcome_of, rejection_coded, outcome_coded}
 
@@ -69,13 +69,13 @@ pub flag_small : (b : Bool) → flag_code b < 2
 flag_small false = omega arith
 flag_small true = omega arith
 
-pub primary-back : (p : Primary) → primary_of (primary_code p) (primary_node p) ≡ p
-primary-back Nobody = refl
-primary-back (At n) = refl
+pub primary-back : (p : Option DataNodeId) → primary_of (primary_code p) (primary_node p) ≡ p
+primary-back None = refl
+primary-back (Some n) = refl
 
-pub primary_small : (p : Primary) → primary_code p < 2
-primary_small Nobody = omega arith
-primary_small (At n) = omega arith
+pub primary_small : (p : Option DataNodeId) → primary_code p < 2
+primary_small None = omega arith
+primary_small (Some n) = omega arith
 
 rejection_back : (r : Rejection) → outcome_of (coded (rejection_coded r).code (rejection_coded r).first (rejection_coded r).second) ≡ Rejected r
 unfolding outcome_of rejection_of

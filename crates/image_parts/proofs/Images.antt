@@ -42,6 +42,12 @@ singles (x ∷ v) = ap (λ (l : List ℕ). x ∷ l) (singles v)
 pub stored_bytes : (n : ℕ) (v : List ℕ) {s t : List ℕ} {at : ℕ} → t ≡ sets s at v → length v ≡ n → Stored s t at (concat_map (encode byte) v) n
 stored_bytes n v {s} {t} {at} e l = record { image = e ∙ ap (λ (b : List ℕ). sets s at b) (sym (singles v)); long = ap length (singles v) ∙ l }
 
+-- the bytes that stand at a position
+pub bytes-items : (s : List ℕ) (n at : ℕ) → at + n ≤ length s → take n (drop at s) ≡ items n (λ (p : ℕ). get_or s p 0) 1 at
+bytes-items s zero at h = refl
+bytes-items s (suc n) at h =
+    rw (drop-cons s at 0 (omega arith)) (ap (λ (l : List ℕ). get_or s at 0 ∷ l) (rw (← add-one) (bytes-items s n (at + 1) (omega arith))))
+
 -- ---- loops: one row more is read
 
 module _ {A : Type 0} where

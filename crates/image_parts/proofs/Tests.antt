@@ -1,5 +1,5 @@
 -- Four tests in a row. Assumes nothing.
-use mathlib.Core.Path.{◌≡◌, refl, sym, ◌∙◌}
+use mathlib.Core.Path.{◌≡◌, sym, ◌∙◌}
 use mathlib.Core.Bool.{Bool, true, false}
 use Rattle.spec.specs.Lists.{◌and◌}
 use Rattle.spec_laws.proofs.Wire.Tests.{and_true, and_false}

@@ -4,8 +4,8 @@
 use Rattle.std.specs.Prelude.{ℕ, Bool, true, false, not, cond, List, [], ◌∷◌, get_or, eqb}
 use Rattle.spec.specs.declared.DataNodeId.{DataNodeId}
 use Rattle.spec.specs.declared.Epoch.{Epoch}
-use Rattle.map_tables.specs.declared.Primary.{Primary}
-use Rattle.map_tables.specs.declared.Primary.TheVariants.{Nobody, At}
+use Rattle.std.specs.Prelude.{Option}
+use Rattle.std.specs.Prelude.{None, Some}
 use Rattle.map_tables.specs.declared.Outcome.{Outcome}
 use Rattle.map_tables.specs.declared.Outcome.TheVariants.{Applied, Rejected}
 use Rattle.map_tables.specs.declared.Rejection.{Rejection}
@@ -44,16 +44,16 @@ flag_code false = 0
 flag_code true = 1
 
 -- 0 nobody, 1 a node
-abbrev pub primary_of : ℕ → ℕ → Primary
-primary_of n node = cond (eqb n 0) Nobody (At (id_of node))
+abbrev pub primary_of : ℕ → ℕ → Option DataNodeId
+primary_of n node = cond (eqb n 0) None (Some (id_of node))
 
-abbrev pub primary_code : Primary → ℕ
-primary_code Nobody = 0
-primary_code (At n) = 1
+abbrev pub primary_code : Option DataNodeId → ℕ
+primary_code None = 0
+primary_code (Some n) = 1
 
-abbrev pub primary_node : Primary → ℕ
-primary_node Nobody = 0
-primary_node (At n) = n.0
+abbrev pub primary_node : Option DataNodeId → ℕ
+primary_node None = 0
+primary_node (Some n) = n.0
 
 -- an outcome in three numbers: 0 applied, 1 to 16 the rejection's reason, with the numbers among its operands
 abbrev pub coded : ℕ → ℕ → ℕ → Coded

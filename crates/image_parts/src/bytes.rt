@@ -2,31 +2,13 @@
 ghost use Rattle.std.specs.Prelude.{◌≡◌, ◌+◌, ◌*◌, ◌≤◌, length};
 ghost use Rattle.image_parts.specs.Shape.{value, byte, rep, u64, in_use, codes_below};
 
-// Internal: 32 bytes.
-pub fn bytes32(s: &[u8], at: usize) -> [u8; 32]
-    requires { at + 32 ≤ length s.now }
-    ensures { result ≡ value (rep 32 byte) s.now at }
+// N bytes.
+pub(crate) fn bytes_at<const N: usize>(s: &[u8], at: usize) -> [u8; N]
+    requires { at + N ≤ length s.now }
+    ensures { result ≡ value (rep N byte) s.now at }
 {
-    let mut out = [0u8; 32];
-    let mut i: usize = 0;
-    while i < 32 {
-        out[i] = s[at + i];
-        i += 1;
-    }
-    out
-}
-
-// Internal: 64 bytes.
-pub fn bytes64(s: &[u8], at: usize) -> [u8; 64]
-    requires { at + 64 ≤ length s.now }
-    ensures { result ≡ value (rep 64 byte) s.now at }
-{
-    let mut out = [0u8; 64];
-    let mut i: usize = 0;
-    while i < 64 {
-        out[i] = s[at + i];
-        i += 1;
-    }
+    let mut out = [0u8; N];
+    out.copy_from_slice(&s[at..at + N]);
     out
 }
 
@@ -50,12 +32,10 @@ pub fn codes_below(s: &[u8], limit: u32, w: usize, n: usize, at: usize) -> bool
     requires { at + w * n + 4 ≤ length s.now + w }
     ensures { result ≡ codes_below limit w s.now n at }
 {
-    let mut i: usize = 0;
-    while i < n {
+    for i in 0..n {
         if limit <= num::get4(s, at + w * i) {
             return false;
         }
-        i += 1;
     }
     true
 }

@@ -4,7 +4,7 @@ ghost use Rattle.spec.specs.Layout.Parts.{metric_of, metric_code};
 ghost use Rattle.image_parts.specs.Codes.{flag_of, flag_code, primary_of, primary_code, primary_node, coded, rejection_of, outcome_of, rejection_coded, outcome_coded};
 
 use crate::Coded;
-use map_tables::{Outcome, Primary, Rejection};
+use map_tables::{Outcome, Rejection};
 use spec::{DataNodeId, Epoch, Metric};
 
 // Internal: a flag's code, and back.
@@ -41,31 +41,31 @@ pub fn metric_code(m: Metric) -> u32
 }
 
 // Internal: a primary's code and node, and back.
-pub fn primary_of(code: u32, node: u64) -> Primary
+pub fn primary_of(code: u32, node: u64) -> Option<DataNodeId>
     ensures { result ≡ primary_of code node }
 {
     if code == 0 {
-        Primary::Nobody
+        None
     } else {
-        Primary::At(DataNodeId(node))
+        Some(DataNodeId(node))
     }
 }
 
-pub fn primary_code(p: Primary) -> u32
+pub fn primary_code(p: Option<DataNodeId>) -> u32
     ensures { result ≡ primary_code p }
 {
     match p {
-        Primary::Nobody => 0,
-        Primary::At(_) => 1,
+        None => 0,
+        Some(_) => 1,
     }
 }
 
-pub fn primary_node(p: Primary) -> u64
+pub fn primary_node(p: Option<DataNodeId>) -> u64
     ensures { result ≡ primary_node p }
 {
     match p {
-        Primary::Nobody => 0,
-        Primary::At(n) => n.0,
+        None => 0,
+        Some(n) => n.0,
     }
 }
 

@@ -4,7 +4,7 @@ ghost use Rattle.image_parts.specs.Shape.{Stored};
 ghost use Rattle.image_parts.specs.Parts.{name_at, name_bytes, address_at, address_bytes, key_at, key_bytes};
 ghost use Rattle.image_parts.specs.Parts.{no_name, no_key};
 
-use crate::bytes::{bytes32, bytes64};
+use crate::bytes::bytes_at;
 use map_tables::{Address, Name, ShardKey};
 use wire_write::put::put_bytes;
 
@@ -13,7 +13,7 @@ pub fn name_at(s: &[u8], at: usize) -> Name
     requires { at + 40 ≤ length s.now }
     ensures { result ≡ name_at s.now at }
 {
-    let bytes = bytes32(s, at + 8);
+    let bytes = bytes_at(s, at + 8);
     let len = num::get8(s, at) as usize;
     Name {
         bytes: bytes,
@@ -35,7 +35,7 @@ pub fn address_at(s: &[u8], at: usize) -> Address
     requires { at + 72 ≤ length s.now }
     ensures { result ≡ address_at s.now at }
 {
-    let bytes = bytes64(s, at + 8);
+    let bytes = bytes_at(s, at + 8);
     let len = num::get8(s, at) as usize;
     Address {
         bytes: bytes,

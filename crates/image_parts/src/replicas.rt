@@ -34,10 +34,8 @@ pub fn replicas_at(s: &[u8], at: usize) -> [Replica; 8]
         incarnation: 0,
     };
     let mut out = [none; 8];
-    let mut i: usize = 0;
-    while i < 8 {
+    for i in 0..8 {
         out[i] = replica_at(s, at + 16 * i);
-        i += 1;
     }
     out
 }
@@ -46,10 +44,8 @@ pub fn put_replicas(out: &mut [u8], at: usize, rs: [Replica; 8])
     requires { at + 128 ≤ length out.old }
     ensures { Stored out.old out.new at (replicas_bytes rs) 128 }
 {
-    let mut i: usize = 0;
-    while i < 8 {
+    for i in 0..8 {
         put_replica(out, at + 16 * i, rs[i]);
-        i += 1;
     }
 }
 
@@ -60,11 +56,9 @@ pub fn ids_at(s: &[u8], at: usize) -> [DataNodeId; 8]
 {
     let none = DataNodeId(0);
     let mut out = [none; 8];
-    let mut i: usize = 0;
-    while i < 8 {
+    for i in 0..8 {
         let id = DataNodeId(num::get8(s, at + 8 * i));
         out[i] = id;
-        i += 1;
     }
     out
 }
@@ -73,10 +67,8 @@ pub fn put_ids(out: &mut [u8], at: usize, ids: [DataNodeId; 8])
     requires { at + 64 ≤ length out.old }
     ensures { Stored out.old out.new at (ids_bytes ids) 64 }
 {
-    let mut i: usize = 0;
-    while i < 8 {
+    for i in 0..8 {
         let id = ids[i];
         num::put8(out, at + 8 * i, id.0);
-        i += 1;
     }
 }

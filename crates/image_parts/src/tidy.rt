@@ -10,37 +10,20 @@ use crate::bytes::in_use;
 use map_tables::{Address, Name, ShardKey};
 use spec::{DataNodeId, Replica};
 
-fn first32(bytes: [u8; 32], count: usize) -> [u8; 32]
-    ensures { result ≡ padded 32 0 (take count bytes) }
+// The first `count` items, or all where there are fewer; past them what says nothing.
+fn padded<T: Copy, const N: usize>(all: [T; N], count: usize, none: T) -> [T; N]
+    ensures { result ≡ padded N none (take count all) }
 {
-    let n = in_use(32, count);
-    let mut out = [0u8; 32];
-    let mut i: usize = 0;
-    while i < n {
-        out[i] = bytes[i];
-        i += 1;
-    }
-    out
-}
-
-fn first64(bytes: [u8; 64], count: usize) -> [u8; 64]
-    ensures { result ≡ padded 64 0 (take count bytes) }
-{
-    let n = in_use(64, count);
-    let mut out = [0u8; 64];
-    let mut i: usize = 0;
-    while i < n {
-        out[i] = bytes[i];
-        i += 1;
-    }
+    let n = in_use(N, count);
+    let mut out = [none; N];
+    out[..n].copy_from_slice(&all[..n]);
     out
 }
 
 pub fn tidy_name(n: Name) -> Name
     ensures { result ≡ image_name (view_name n) }
 {
-    let all = n.bytes;
-    let bytes = first32(all, n.len);
+    let bytes = padded(n.bytes, n.len, 0);
     let len = in_use(32, n.len);
     Name {
         bytes: bytes,
@@ -51,8 +34,7 @@ pub fn tidy_name(n: Name) -> Name
 pub fn tidy_address(a: Address) -> Address
     ensures { result ≡ image_address (view_address a) }
 {
-    let all = a.bytes;
-    let bytes = first64(all, a.len);
+    let bytes = padded(a.bytes, a.len, 0);
     let len = in_use(64, a.len);
     Address {
         bytes: bytes,
@@ -73,32 +55,15 @@ pub fn tidy_key(k: ShardKey) -> ShardKey
 pub fn tidy_replicas(rs: [Replica; 8], count: usize) -> [Replica; 8]
     ensures { result ≡ padded 8 no_replica (take count rs) }
 {
-    let n = in_use(8, count);
     let none = Replica {
         node: DataNodeId(0),
         incarnation: 0,
     };
-    let mut out = [none; 8];
-    let mut i: usize = 0;
-    while i < n {
-        let r = rs[i];
-        out[i] = r;
-        i += 1;
-    }
-    out
+    padded(rs, count, none)
 }
 
 pub fn tidy_ids(ids: [DataNodeId; 8], count: usize) -> [DataNodeId; 8]
     ensures { result ≡ padded 8 (id_of 0) (take count ids) }
 {
-    let n = in_use(8, count);
-    let none = DataNodeId(0);
-    let mut out = [none; 8];
-    let mut i: usize = 0;
-    while i < n {
-        let id = ids[i];
-        out[i] = id;
-        i += 1;
-    }
-    out
+    padded(ids, count, DataNodeId(0))
 }

@@ -2,7 +2,7 @@
 use Prim.Native.Nat.{ℕ, zero, suc, ◌+◌, ◌-◌, ◌*◌, ◌^◌, ◌≤◌, ◌<◌}
 use mathlib.Core.Path.{◌≡◌, refl, sym, ap, ◌∙◌, subst}
 use mathlib.Core.Bool.{Bool, true, false, not}
-use mathlib.Core.List.{List, [], ◌∷◌, ◌++◌, map, append_assoc}
+use mathlib.Core.List.{List, [], ◌++◌, map, append_assoc}
 use native.Mathlib.Omega.{arith}
 use native.Mathlib.Nat.{add-zero, mul-zero, mul-suc, mul_comm}
 use borrow.Author.Tests.{eq-eqb, ne_eqb}
@@ -11,7 +11,7 @@ use lib.Ieee.{binary32}
 use lib.Ieee.Bits.{to_bits-of_bits, nan_bits_is}
 use lib.ListN.{length, get_or, take, drop, set, length-drop}
 use lib.Seq.{sets, take-append_seam, length-take-le}
-use Rattle.spec.specs.Lists.{◌and◌, every}
+use Rattle.spec.specs.Lists.{every}
 use Rattle.spec.specs.Log.{Entry, Log, components}
 use Rattle.spec.specs.Layout.Format.{Bytes, bytes_of, number_at, concat_map}
 use Rattle.spec.specs.Nearest.Order.{bits_in_domain}
@@ -23,7 +23,7 @@ use Rattle.wire_write.specs.Written.{op_bytes, op_size}
 use Rattle.wire_write.specs.Rows.{rows_size}
 use Rattle.wire_write.proofs.Rows.{size_step}
 use Rattle.wire_write.proofs.Writes.{sets_then, length-words, upsert_put}
-use Rattle.log_store.specs.View.{Columns, op_from, op_of, entry_of, log_of}
+use Rattle.log_store.specs.View.{Columns, op_from, entry_of, log_of}
 use Rattle.log_store.specs.Store.{Sized}
 use Rattle.log_store.proofs.Bits.{domain_number}
 use Rattle.log_store.proofs.Columns.{look_at}

@@ -13,12 +13,6 @@ use image_store_check::columns::{CODES, FLOATS, FLOATS_OF_ONE, IDS, LENGTHS, OFF
 use node_send_entries::entries::entry_size;
 use wire_write::put::{put_byte, put_bytes};
 
-fn wide(x: u8) -> usize
-    ensures { (result ≡ x) × (result < 256) }
-{
-    x as usize
-}
-
 // An Upsert of the n patterns that stand from `from` on: they are copied as they are.
 fn put_upsert(out: &mut [u8], at: usize, id: u64, s: &[u8], from: usize, n: usize)
     requires { (at + (10 + 4 * n) ≤ length out.old) × (n ≤ 32) × (from + 4 * n ≤ length s.now) × Bytes s.now }
@@ -46,7 +40,7 @@ pub fn put_op(out: &mut [u8], at: usize, s: &[u8], base: usize, count: usize, i:
 {
     let id = num::get8(s, base + IDS + i * 8);
     if s[base + CODES + i] == 1 {
-        let n = wide(s[base + LENGTHS + i]);
+        let n = s[base + LENGTHS + i] as usize;
         put_upsert(out, at, id, s, base + FLOATS + i * FLOATS_OF_ONE, n);
     } else {
         put_delete(out, at, id);
@@ -74,10 +68,8 @@ pub fn entries_size(s: &[u8], base: usize, from: usize, end: usize) -> usize
     let codes = base + CODES;
     let lengths = base + LENGTHS;
     let mut total: usize = 0;
-    let mut i = from;
-    while i < end {
+    for i in from..end {
         total += entry_size(s[codes + i], s[lengths + i]);
-        i += 1;
     }
     total
 }
@@ -99,10 +91,8 @@ pub fn put_entries(
     let codes = base + CODES;
     let lengths = base + LENGTHS;
     let mut p = at;
-    let mut i = from;
-    while i < end {
+    for i in from..end {
         put_entry(out, p, s, base, count, i);
         p += entry_size(s[codes + i], s[lengths + i]);
-        i += 1;
     }
 }

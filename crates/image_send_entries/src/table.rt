@@ -24,13 +24,9 @@ pub fn pairs_of(s: &[u8], base: usize, n: usize) -> usize
     ensures { (result ≡ length (epoch_ends (log_at s.now base n))) × (result ≤ n) }
 {
     let mut pairs: usize = 0;
-    let mut i: usize = 0;
-    while i < n {
+    for i in 0..n {
         if ends_run(s, base, n, i) {
             pairs += 1;
-            i += 1;
-        } else {
-            i += 1;
         }
     }
     pairs
@@ -42,17 +38,13 @@ pub fn put_pairs(out: &mut [u8], at: usize, s: &[u8], base: usize, n: usize)
     ensures { out.new ≡ sets out.old at (pairs_bytes (epoch_ends (log_at s.now base n))) }
 {
     let mut p = at;
-    let mut i: usize = 0;
-    while i < n {
+    for i in 0..n {
         if ends_run(s, base, n, i) {
             let epoch = num::get8(s, base + i * 8);
             let offset = num::get8(s, base + OFFSETS + i * 8);
             num::put8(out, p, epoch);
             num::put8(out, p + 8, offset);
             p += 16;
-            i += 1;
-        } else {
-            i += 1;
         }
     }
 }

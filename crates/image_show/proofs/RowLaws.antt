@@ -26,8 +26,8 @@ use Rattle.map_tables.specs.declared.ShardRow.{ShardRow}
 use Rattle.map_tables.specs.declared.Holders.{Holders}
 use Rattle.map_tables.specs.View.{view_holders, view_shard}
 use Rattle.node_shard.specs.declared.Held.{Held}
-use Rattle.node_shard.specs.declared.Leader.{Leader}
-use Rattle.node_shard.specs.declared.Leader.TheVariants.{Nobody, At}
+use Rattle.std.specs.declared.option.Option as option
+use Rattle.std.specs.Prelude.{None, Some}
 use Rattle.node_shard.specs.Shows.{leader_is, leader_of, rises}
 use Rattle.node_shard.specs.View.{view_held}
 use Rattle.node_shard.proofs.Loops.{take_next}
@@ -128,11 +128,11 @@ module _ (me : ℕ) (i : ShardInfo) (metric : Metric) (h : held.Held) (same : h.
 
 -- ---- and by the tests
 
-pub leader-is : (l : Leader) (me : ℕ) → leader_is l me ≡ show.is_primary (leader_of l) me
-leader-is Nobody me = refl
-leader-is (At n) me = refl
+pub leader-is : (l : option.Option ℕ) (me : ℕ) → leader_is l me ≡ show.is_primary (leader_of l) me
+leader-is None me = refl
+leader-is (Some n) me = refl
 
-module _ (h : Held) (me : ℕ) (row : ShardRow) (holders : HoldsAs h row.replicas) (leader : Leader) (is : leader_of leader ≡ (view_shard row).primary) where
+module _ (h : Held) (me : ℕ) (row : ShardRow) (holders : HoldsAs h row.replicas) (leader : option.Option ℕ) (is : leader_of leader ≡ (view_shard row).primary) where
   named : (b : Bool) → leader_is leader me ≡ b → show.is_primary (view_shard row).primary me ≡ b
   named b e = ap (λ (o : Option ℕ). show.is_primary o me) (sym is) ∙ sym (leader-is leader me) ∙ e
 

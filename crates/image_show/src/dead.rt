@@ -14,13 +14,11 @@ pub fn dead_in(map: &[u8], count: usize, id: u64, incarnation: u64) -> bool
     requires { NodesCount map.now count }
     ensures { result ≡ any (dead_at id incarnation) (take (nodes_at map.now).count (nodes_at map.now).items) }
 {
-    let mut i: usize = 0;
-    while i < count {
+    for i in 0..count {
         let x = node_at(map, NODES + NODE * i);
         if is_dead(x, id, incarnation) {
             return true;
         }
-        i += 1;
     }
     false
 }

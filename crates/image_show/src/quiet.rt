@@ -23,8 +23,7 @@ pub fn is_quiet(header: &[u8], count: usize, map: &[u8]) -> bool
     let me = num::get8(header, ID);
     let own = num::get8(header, INCARNATION);
     let mut j: usize = 0;
-    let mut i: usize = 0;
-    while i < total {
+    for i in 0..total {
         let row = shard_at(map, SHARDS + SHARD * i);
         let list = row.replicas;
         if is_listed(list, me, own) {
@@ -39,9 +38,6 @@ pub fn is_quiet(header: &[u8], count: usize, map: &[u8]) -> bool
                 return false;
             }
             j += 1;
-            i += 1;
-        } else {
-            i += 1;
         }
     }
     j == count

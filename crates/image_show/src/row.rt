@@ -16,7 +16,7 @@ use image_layout::header::{COUNT, EPOCH, HOLDERS, OWN, PEERS, REPLICAS, ROLE};
 use image_parts::codes::flag_of;
 use image_parts::replicas::replicas_at;
 use map_tables::{Holders, ShardRow};
-use node_shard::rows::{both, is_holder};
+use node_shard::rows::is_holder;
 use node_show_row::rows::leader_of;
 use node_show_shard::{is_leader, rising_to};
 use spec::{Peer, Replica, Role};
@@ -27,7 +27,7 @@ fn is_lost(p: Peer, replicas: [Replica; 8], holders: usize) -> bool
     ensures { result ≡ lost (take holders replicas) p }
 {
     let listed = is_holder(replicas, holders, p.node.0);
-    both(p.member, !listed)
+    p.member && !listed
 }
 
 // One of the peers from `at` on.
@@ -35,13 +35,11 @@ fn any_lost(s: &[u8], at: usize, count: usize, replicas: [Replica; 8], holders: 
     requires { (at + 1024 ≤ length s.now) × (count ≤ 32) × (holders ≤ 8) }
     ensures { result ≡ any (lost (take holders replicas)) (take count (peers_at s.now at)) }
 {
-    let mut i: usize = 0;
-    while i < count {
+    for i in 0..count {
         let p = peer_at(s, at + 32 * i);
         if is_lost(p, replicas, holders) {
             return true;
         }
-        i += 1;
     }
     false
 }
@@ -58,17 +56,14 @@ fn any_missing(
     requires { (at + 1024 ≤ length s.now) × (count ≤ 32) × (holders ≤ 8) }
     ensures { result ≡ false → with_rows me [] (take holders replicas) (take count (peers_at s.now at)) ≡ take count (peers_at s.now at) }
 {
-    let mut i: usize = 0;
-    while i < holders {
+    for i in 0..holders {
         let r = replicas[i];
         let node = r.node;
         if node.0 == me {
-            i += 1;
-        } else {
-            if count <= place_of(s, at, count, node.0) {
-                return true;
-            }
-            i += 1;
+            continue;
+        }
+        if count <= place_of(s, at, count, node.0) {
+            return true;
         }
     }
     false
@@ -79,14 +74,12 @@ fn same_replicas(a: [Replica; 8], b: [Replica; 8], count: usize) -> bool
     requires { count ≤ 8 }
     ensures { result ≡ true → take count a ≡ take count b }
 {
-    let mut i: usize = 0;
-    while i < count {
+    for i in 0..count {
         let x = a[i];
         let y = b[i];
-        if !both(x.node.0 == y.node.0, x.incarnation == y.incarnation) {
+        if x.node.0 != y.node.0 || x.incarnation != y.incarnation {
             return false;
         }
-        i += 1;
     }
     true
 }

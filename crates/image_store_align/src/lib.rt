@@ -21,13 +21,11 @@ fn agrees(message: &[u8], table: Part, end: u64, epoch: u64, offset: u64) -> boo
         return false;
     }
     let n = table.len;
-    let mut i: usize = 0;
-    while i < n {
+    for i in 0..n {
         let pair = end_at(message, table, i);
         if offset <= pair.end.0 {
             return pair.epoch.0 == epoch;
         }
-        i += 1;
     }
     false
 }
@@ -45,14 +43,12 @@ pub fn kept(
     ensures { KeptOf (words 8 1024 stores.now base) (offsets_in stores.now base) count end (table_in message.now table) result }
 {
     let offsets = base + OFFSETS;
-    let mut i: usize = 0;
-    while i < count {
+    for i in 0..count {
         let epoch = num::get8(stores, base + 8 * i);
         let offset = num::get8(stores, offsets + 8 * i);
         if !agrees(message, table, end, epoch, offset) {
             return i;
         }
-        i += 1;
     }
     count
 }

@@ -1,5 +1,5 @@
 -- The bytes of one entry, and a store one entry longer: its table is that of the longer log. Assumes nothing.
-use Prim.Native.Nat.{ℕ, zero, suc, ◌+◌, ◌-◌, ◌*◌, ◌^◌, ◌≤◌, ◌<◌, min}
+use Prim.Native.Nat.{ℕ, zero, suc, ◌+◌, ◌*◌, ◌^◌, ◌≤◌, ◌<◌}
 use mathlib.Core.Path.{◌≡◌, refl, sym, ap, ◌∙◌, subst}
 use mathlib.Core.Bool.{Bool, true, false, not}
 use mathlib.Core.List.{List, [], ◌∷◌, ◌++◌, map}
@@ -7,13 +7,13 @@ use native.Mathlib.Omega.{arith}
 use native.Mathlib.Numerals.{add-one}
 use borrow.Author.Tests.{leb-true, le-leb}
 use lib.Dec.{T, leb}
-use lib.Ieee.{Float, binary32, of_bits, fits, is_nan}
+use lib.Ieee.{Float, binary32, of_bits, fits}
 use lib.Ieee.Bits.{of_bits-fits, to_bits-of_bits, nan_bits_is}
-use lib.ListN.{length, get_or, take, drop, set, length-append}
+use lib.ListN.{length, drop, length-append}
 use lib.Seq.{sets, drop-cons, drop-length, drop-append_seam}
 use Rattle.spec.specs.Lists.{◌and◌, every, put, filter, rising}
-use Rattle.spec.specs.Log.{Op, upsert, delete, Entry, Log, components}
-use Rattle.spec.specs.Layout.Format.{Bytes, bytes_of, number_at, concat_map, All}
+use Rattle.spec.specs.Log.{upsert, delete, Entry, Log}
+use Rattle.spec.specs.Layout.Format.{Bytes, bytes_of, number_at, concat_map}
 use Rattle.spec.specs.Nearest.Order.{in_domain, bits_in_domain}
 use Rattle.spec.specs.Node.Wire.{float_of, bits_of, floats_of}
 use Rattle.spec.specs.Node.WellFormed.{component, numbered_from, well_formed_vector, well_formed_entry}
@@ -21,7 +21,7 @@ use Rattle.spec_laws.proofs.Lists.{and_true, and_left, and_right}
 use Rattle.spec_laws.proofs.Wire.Bytes.{length-bytes, number-below}
 use Rattle.spec_laws.proofs.Map.Rows.{every_tail, every_cons}
 use Rattle.log_store.specs.Table.{Row, rows_of, row_below, other_row, row_op, play_rows}
-use Rattle.log_store.specs.Store.{every_below, same_rows}
+use Rattle.log_store.specs.Store.{every_below}
 use Rattle.log_store.proofs.Bits.{domain_number, floats-length}
 use Rattle.log_store.proofs.Facts.{same-rows}
 use Rattle.log_store.proofs.Firsts.{firsts-length}

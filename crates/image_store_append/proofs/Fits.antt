@@ -1,12 +1,12 @@
 -- The numbers of a longer log and of its table fit their columns: what was written of them can be read. Assumes nothing.
-use Prim.Native.Nat.{ℕ, zero, suc, ◌+◌, ◌*◌, ◌^◌, ◌≤◌, ◌<◌}
+use Prim.Native.Nat.{ℕ, zero, suc, ◌+◌, ◌*◌, ◌^◌, ◌<◌}
 use mathlib.Core.Path.{◌≡◌, refl, sym, ap, ◌∙◌, subst}
 use mathlib.Core.Bool.{Bool, true, false, cond}
 use mathlib.Core.List.{List, [], ◌∷◌, ◌++◌}
 use native.Mathlib.Omega.{arith}
 use lib.Dec.{eqb, leb}
-use lib.ListN.{length, get_or}
-use Rattle.spec.specs.Lists.{◌and◌, every, put, filter}
+use lib.ListN.{get_or}
+use Rattle.spec.specs.Lists.{every, put, filter}
 use Rattle.spec.specs.Log.{Op, upsert, delete, Entry, Log}
 use Rattle.spec.specs.Layout.Format.{Bytes, number_at, All}
 use Rattle.spec.specs.Node.Wire.{floats_of}
@@ -15,10 +15,10 @@ use Rattle.spec_laws.proofs.Lists.{and_left, and_right}
 use Rattle.spec_laws.proofs.Wire.Bytes.{number-below}
 use Rattle.log_store.specs.View.{firsts, op_from}
 use Rattle.log_store.specs.Table.{Row, row_below, other_row, row_op, play_rows, play_rows_from}
-use Rattle.log_store.specs.Store.{every_below, same_rows}
+use Rattle.log_store.specs.Store.{every_below}
 use Rattle.log_store.proofs.Bits.{every-at}
 use Rattle.log_store.proofs.Firsts.{firsts-length, firsts_at}
-use Rattle.image_store.specs.Image.{patterns, op_at, entry_at, log_at, rows_at, code_fits_at, well_formed_image}
+use Rattle.image_store.specs.Image.{patterns, op_at, entry_at, log_at, code_fits_at, well_formed_image}
 use Rattle.image_store.specs.Write.{Fits, RowFits, id_of}
 use Rattle.image_store_append.specs.Put.{longer}
 

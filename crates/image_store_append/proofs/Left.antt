@@ -1,20 +1,20 @@
 -- The columns that a contract over a lent store speaks of after an append (`left` of `WriteServed`), written down and never made: they hold
 -- the longer log and its table, and the bytes that the append in place leaves are those that the contract gives for them. Assumes nothing.
-use Prim.Native.Nat.{ℕ, zero, suc, ◌+◌, ◌-◌, ◌*◌, ◌≤◌, ◌<◌, min}
+use Prim.Native.Nat.{ℕ, suc, ◌+◌, ◌-◌, ◌≤◌, ◌<◌}
 use mathlib.Core.Path.{◌≡◌, refl, sym, ap, ◌∙◌, subst}
-use mathlib.Core.Bool.{Bool, true, false, cond}
+use mathlib.Core.Bool.{Bool, true, cond}
 use mathlib.Core.List.{List, [], ◌∷◌, ◌++◌, map}
 use native.Mathlib.Omega.{arith}
 use lib.Ieee.{Float}
-use lib.ListN.{length, take, drop, replicate, length-map, length-append, length-drop, length-replicate}
+use lib.ListN.{length, take, drop, length-map, length-append, length-drop, length-replicate}
 use lib.Seq.{take_at, drop-append-add, drop-drop}
 use Rattle.spec.specs.Lists.{put, filter}
 use Rattle.spec.specs.Log.{Op, upsert, delete, Entry, Log}
 use Rattle.spec.specs.Node.Wire.{float_of}
 use Rattle.spec_laws.proofs.Lists.{by-test, and_left, and_right}
-use Rattle.log_store.specs.View.{Columns, op_from, log_of, written}
+use Rattle.log_store.specs.View.{op_from, log_of, written}
 use Rattle.log_store.specs.Table.{Row, row_below, other_row, zipped, rows_of, row_op, play_rows, Tabled}
-use Rattle.log_store.specs.Store.{Store, lent, store_log, store_rows, well_formed_store, Sized, Storable, Pushed}
+use Rattle.log_store.specs.Store.{Store, store_log, store_rows, well_formed_store, Sized, Storable, Pushed}
 use Rattle.log_store.proofs.Facts.{facts}
 use Rattle.log_store.proofs.Push.{pushed}
 use Rattle.log_store.proofs.PlayRows.{rows_snoc}
@@ -23,8 +23,8 @@ use Rattle.log_store.proofs.Written.{written-log}
 use Rattle.log_store.proofs.Facts.{room_of_lem}
 use Rattle.node_header.specs.declared.HeldRow.{HeldRow}
 use Rattle.node_lent.specs.Lend.{LentStore, store_in, store_of}
-use Rattle.image_store.specs.Image.{keys_in, places_in, log_at, rows_at, well_formed_image}
-use Rattle.image_store.specs.Read.{codes_in, lengths_in, columns_at, all_readable}
+use Rattle.image_store.specs.Image.{keys_in, places_in, log_at, well_formed_image}
+use Rattle.image_store.specs.Read.{columns_at, all_readable}
 use Rattle.image_store.proofs.Words.{words-length}
 use Rattle.image_store.proofs.Reading.{bytes-length}
 use Rattle.image_store.proofs.Read.{image_log}

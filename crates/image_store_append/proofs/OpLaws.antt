@@ -1,12 +1,11 @@
 -- An operation of a message as a store takes it. Assumes nothing.
-use Prim.Native.Nat.{ℕ, zero, suc, ◌+◌, ◌*◌, ◌≤◌, ◌<◌}
+use Prim.Native.Nat.{ℕ, zero, suc, ◌+◌, ◌*◌, ◌≤◌}
 use mathlib.Core.Path.{◌≡◌, refl, sym, ap, ◌∙◌, subst}
 use mathlib.Core.Bool.{true}
-use mathlib.Core.List.{List, [], ◌∷◌}
+use mathlib.Core.List.{List, ◌∷◌}
 use native.Mathlib.Omega.{arith}
 use lib.ListN.{length}
 use Rattle.spec.specs.Lists.{every}
-use Rattle.spec.specs.Log.{Entry}
 use Rattle.spec.specs.Layout.Format.{number_at, value, next, value_n}
 use Rattle.spec.specs.Layout.Parts.{u32}
 use Rattle.spec.specs.Nearest.Order.{bits_in_domain}

@@ -13,7 +13,7 @@ use Rattle.spec.specs.Lists.{lead, put, filter, rising}
 use Rattle.spec.specs.Layout.Format.{Bytes, bytes_of, number_at, concat_map}
 use Rattle.log_store.specs.Table.{Row, zipped, rows_of, row_below, other_row, inserted, removed}
 use Rattle.log_store.proofs.Put.{lead_true, lead_false}
-use Rattle.log_store.proofs.Rows.{zipped-length, inserted-take, removed-take, set-level, set-between, rows-length}
+use Rattle.log_store.proofs.Rows.{zipped-length, inserted-take, removed-take, set-level, set-between}
 use Rattle.log_store.proofs.Without.{drop-level, drop-absent}
 use Rattle.log_check.specs.Conditions.{Decides, Rises, Parted}
 use Rattle.log_check.proofs.Answers.{grant, deny}

@@ -1,13 +1,13 @@
 -- The bytes that an append in place leaves are those that the present contracts give: `store_with` of the longer log, and `store_put` of any
 -- columns that hold it. Assumes nothing.
-use Prim.Native.Nat.{ℕ, ◌+◌, ◌≤◌, ◌<◌, min}
-use mathlib.Core.Path.{◌≡◌, refl, sym, ap, ◌∙◌}
-use mathlib.Core.List.{List, [], ◌∷◌, ◌++◌}
+use Prim.Native.Nat.{ℕ, ◌+◌, min}
+use mathlib.Core.Path.{◌≡◌, sym, ap, ◌∙◌}
+use mathlib.Core.List.{List, [], ◌∷◌}
 use native.Mathlib.Omega.{arith}
 use lib.ListN.{length, length-append}
 use Rattle.spec.specs.Log.{Entry, Log}
 use Rattle.log_store.specs.View.{log_of}
-use Rattle.log_store.specs.Table.{Row, rows_of, play_rows}
+use Rattle.log_store.specs.Table.{rows_of, play_rows}
 use Rattle.log_store.proofs.Firsts.{firsts-length}
 use Rattle.node_header.specs.declared.HeldRow.{HeldRow}
 use Rattle.node_lent.specs.Lend.{LentStore}

@@ -1,16 +1,16 @@
 -- Numbers of 8 bytes moved where they stand: what is left is the column written anew. Assumes nothing.
 use Prim.Native.Nat.{ℕ, zero, suc, ◌+◌, ◌-◌, ◌*◌, ◌/◌, ◌%◌, ◌≤◌, ◌<◌}
-use mathlib.Core.Path.{◌≡◌, refl, sym, ap, ◌∙◌, subst}
+use mathlib.Core.Path.{◌≡◌, refl, sym, ap, ◌∙◌}
 use mathlib.Core.List.{List, [], ◌∷◌, ◌++◌, append_assoc}
 use native.Mathlib.Omega.{arith}
 use native.Mathlib.Numerals.{add-one}
 use native.Mathlib.Nat.{add-zero}
 use lib.ListN.{length, get_or, take, drop, set, length-append, length-drop, drop_of_length-le, take-append-drop}
-use lib.Seq.{sets, set_comm, set-get_or, drop-cons, take-suc, take_all, get_or-drop, set_split, split_at, length-take-le, length-sets}
+use lib.Seq.{sets, set_comm, set-get_or, drop-cons, take-suc, take_all, get_or-drop, set_split, length-take-le}
 use Rattle.spec.specs.Layout.Format.{Bytes, bytes_of, number_at, concat_map}
 use Rattle.spec_laws.proofs.Wire.Bytes.{length-bytes}
 use Rattle.image_store.specs.Image.{words}
-use Rattle.image_store.proofs.Stored.{apart, number_same, words_same, words_take}
+use Rattle.image_store.proofs.Stored.{apart, number_same, words_take}
 use Rattle.image_store.proofs.Words.{words-length, words-at}
 use Rattle.image_store_append.specs.Put.{words_put}
 

@@ -16,11 +16,9 @@ fn put_patterns(out: &mut [u8], at: usize, s: &[u8], from: usize, n: usize)
     requires { (at + 4 * n ≤ length out.old) × (from + 4 * n ≤ length s.now) }
     ensures { out.new ≡ sets out.old at (concat_map (bytes_of 4) (words 4 n s.now from)) }
 {
-    let mut i: usize = 0;
-    while i < n {
+    for i in 0..n {
         let x = num::get4(s, from + 4 * i);
         num::put4(out, at + 4 * i, x);
-        i += 1;
     }
 }
 

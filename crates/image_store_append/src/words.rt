@@ -8,9 +8,7 @@ pub fn insert_word(out: &mut [u8], at: usize, n: usize, i: usize, v: u64)
     requires { (i ≤ n) × (at + 8 * (n + 1) ≤ length out.old) }
     ensures { out.new ≡ words_put out.old at (take i (words 8 n out.old at) ++ v ∷ drop i (words 8 n out.old at)) }
 {
-    let mut k = n;
-    while i < k {
-        k -= 1;
+    for k in (i..n).rev() {
         let x = num::get8(out, at + 8 * k);
         num::put8(out, at + 8 * (k + 1), x);
     }
@@ -22,10 +20,8 @@ pub fn remove_word(out: &mut [u8], at: usize, n: usize, i: usize)
     requires { (i < n) × (at + 8 * n ≤ length out.old) }
     ensures { out.new ≡ words_put out.old at (take i (words 8 n out.old at) ++ drop (i + 1) (words 8 n out.old at)) }
 {
-    let mut k = i;
-    while k + 1 < n {
+    for k in i..n - 1 {
         let x = num::get8(out, at + 8 * (k + 1));
         num::put8(out, at + 8 * k, x);
-        k += 1;
     }
 }

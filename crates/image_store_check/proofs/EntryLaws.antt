@@ -1,13 +1,13 @@
 -- The clauses of 24 that speak of the entries, told by the bytes, way by way. Assumes nothing.
-use Prim.Native.Nat.{ℕ, zero, suc, ◌+◌, ◌-◌, ◌*◌, ◌≤◌, ◌<◌}
+use Prim.Native.Nat.{ℕ, zero, suc, ◌+◌, ◌*◌, ◌≤◌, ◌<◌}
 use mathlib.Core.Path.{◌≡◌, refl, sym, ap, ◌∙◌, subst}
 use mathlib.Core.Bool.{Bool, true, false, cond}
-use mathlib.Core.List.{List, [], ◌∷◌}
+use mathlib.Core.List.{List}
 use native.Mathlib.Omega.{arith}
-use native.Mathlib.Nat.{mul_comm, mul-suc, mul-zero, add-zero}
-use borrow.Author.Tests.{eqb-true, eqb-false, eq-eqb, ne_eqb, leb-true, le-leb}
+use native.Mathlib.Nat.{mul-suc, mul-zero, add-zero}
+use borrow.Author.Tests.{eqb-true, eq-eqb, leb-true}
 use lib.Dec.{eqb, leb}
-use lib.ListN.{length, get_or, take, drop}
+use lib.ListN.{get_or}
 use Rattle.spec.specs.Lists.{◌and◌, every}
 use Rattle.spec.specs.Layout.Format.{number_at}
 use Rattle.spec.specs.Nearest.Order.{bits_in_domain}
@@ -18,7 +18,7 @@ use Rattle.log_store.proofs.Facts.{below_fact, fact_below}
 use Rattle.log_check.specs.Entries.{number_fits, shape_fits, shape_at}
 use Rattle.log_check.proofs.Answers.{false_if, true_if}
 use Rattle.image_store.specs.Image.{words, patterns}
-use Rattle.image_store.specs.Read.{codes_in, lengths_in, used, used_at, readable}
+use Rattle.image_store.specs.Read.{codes_in, lengths_in, used_at, readable}
 use Rattle.image_store.proofs.Words.{words-at}
 use Rattle.image_store.proofs.Reading.{used-none, used-short, used-within}
 use Rattle.image_store.proofs.Read.{byte_at}

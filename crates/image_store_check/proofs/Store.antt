@@ -1,17 +1,17 @@
 -- The test of the bytes is what the paper asks of the log and the rows that the bytes are. Assumes nothing.
-use Prim.Native.Nat.{ℕ, zero, suc, ◌+◌, ◌-◌, ◌*◌, ◌≤◌, ◌<◌}
+use Prim.Native.Nat.{ℕ, zero, suc, ◌+◌, ◌*◌, ◌≤◌, ◌<◌}
 use mathlib.Core.Path.{◌≡◌, refl, sym, ap, ◌∙◌, subst}
 use mathlib.Core.Bool.{Bool, true, false, cond}
-use mathlib.Core.List.{List, [], ◌∷◌, ◌++◌, map}
+use mathlib.Core.List.{List, [], ◌∷◌, map}
 use native.Mathlib.Omega.{arith}
 use native.Mathlib.Nat.{mul_comm}
-use borrow.Author.Tests.{eqb-true, eqb-false, eq-eqb, ne_eqb, leb-true, le-leb}
+use borrow.Author.Tests.{eqb-true, eqb-false, eq-eqb, leb-true, le-leb}
 use lib.Dec.{T, eqb, leb}
-use lib.Ieee.{Float, binary32, of_bits, fits}
+use lib.Ieee.{binary32, of_bits, fits}
 use lib.Ieee.Bits.{of_bits-fits}
 use lib.ListN.{length, get_or}
 use Rattle.spec.specs.Lists.{◌and◌, every}
-use Rattle.spec.specs.Log.{Op, upsert, delete, Entry, Log}
+use Rattle.spec.specs.Log.{upsert, delete, Entry}
 use Rattle.spec.specs.Layout.Format.{number_at}
 use Rattle.spec.specs.Nearest.Order.{in_domain, bits_in_domain}
 use Rattle.spec.specs.Node.Wire.{float_of, floats_of}
@@ -23,15 +23,15 @@ use Rattle.log_store.specs.View.{firsts, op_from}
 use Rattle.log_store.specs.Table.{Row, row_op, row_by, rows_played, play_rows, play_rows_from}
 use Rattle.log_store.specs.Store.{every_below, same_rows}
 use Rattle.log_store.proofs.Bits.{every-at, floats-length}
-use Rattle.log_store.proofs.Facts.{below_fact, fact_below, same-rows, rows_same}
+use Rattle.log_store.proofs.Facts.{below_fact, fact_below}
 use Rattle.log_store.proofs.Firsts.{firsts-length, firsts_at, nth-firsts}
 use Rattle.log_store.proofs.PlayRows.{rows_snoc}
 use Rattle.log_store.proofs.Push.{every_snoc, set-op, drop-op}
 use Rattle.log_store.proofs.Rebuilt.{by-set, by-drop}
-use Rattle.log_check.specs.Entries.{shape_fits, shape_at}
+use Rattle.log_check.specs.Entries.{shape_fits}
 use Rattle.log_check.proofs.Answers.{false_if, true_if}
 use Rattle.image_store.specs.Image.{words, patterns, op_at, entry_at, log_at, rows_at, code_fits_at, well_formed_image}
-use Rattle.image_store.specs.Read.{codes_in, lengths_in, readable}
+use Rattle.image_store.specs.Read.{codes_in, readable}
 use Rattle.image_store.proofs.Words.{words-length}
 use Rattle.image_store_check.specs.Test.{offsets_in, ids_in, entry_fits}
 use Rattle.image_store_check.proofs.EntryLaws.{shape-short, code_in, length_in, word_in, shape_in, fits_of, of_fits, readable-none, readable-is}

@@ -1,10 +1,10 @@
 -- The clauses of 24 that speak of the table: where there are as many rows as entries; and each row and entry told by the bytes. Assumes
 -- nothing.
-use Prim.Native.Nat.{ℕ, zero, suc, ◌+◌, ◌-◌, ◌*◌, ◌≤◌, ◌<◌}
+use Prim.Native.Nat.{ℕ, ◌+◌, ◌-◌, ◌*◌, ◌≤◌, ◌<◌}
 use mathlib.Core.Path.{◌≡◌, refl, sym, ap, ◌∙◌, subst}
 use mathlib.Core.Bool.{Bool, true, false, not}
 use mathlib.Core.List.{List}
-use mathlib.Core.Logic.{inl, inr}
+use mathlib.Core.Logic.{inl}
 use native.Mathlib.Omega.{arith}
 use lib.Dec.{eqb, ltb}
 use lib.ListN.{length, get_or}
@@ -13,7 +13,7 @@ use Rattle.spec_laws.proofs.Nearest.Tests.{Test, less, same, more, test}
 use Rattle.log_store.specs.Table.{rows_of, rows_played}
 use Rattle.log_store.specs.Store.{same_rows}
 use Rattle.log_store.proofs.Facts.{same-rows}
-use Rattle.log_check.specs.Conditions.{Decides, Rises, Names, Parted, RowsFit, AllSettled}
+use Rattle.log_check.specs.Conditions.{Decides, Rises, Parted, RowsFit, AllSettled}
 use Rattle.log_check.proofs.Answers.{grant, false_if}
 use Rattle.log_check.proofs.Played.{fit-rises, played-fit}
 use Rattle.log_check.proofs.Walking.{row_zero, row-far, row_other, row_delete, row-top, row_next, agrees-found, agrees-none, all-answered}

@@ -3,7 +3,7 @@
 use Rattle.std.specs.Prelude.{ℕ, ◌+◌, ◌≤◌, Bool, List, length}
 use Rattle.spec.specs.Lists.{◌and◌}
 use Rattle.log_check.specs.Entries.{number_fits, shape_at}
-use Rattle.log_check.specs.Conditions.{RowFits, RowsFit, Tested, Parted, Rises, Agrees, Again, Settled, AllSettled, Walk}
+use Rattle.log_check.specs.Conditions.{RowFits, RowsFit, Tested, Agrees, Settled, AllSettled, Walk}
 use Rattle.image_store.specs.Image.{offsets_at, ids_at, store_size, words, keys_in, places_in}
 use Rattle.image_store.specs.Read.{codes_in, lengths_in, readable}
 

@@ -12,24 +12,16 @@ ghost use Rattle.image_store_check.specs.Test.{Stands, offsets_in, entry_fits};
 
 use crate::columns::{CODES, FLOATS, FLOATS_OF_ONE, LENGTHS, OFFSETS};
 
-fn wide(x: u8) -> usize
-    ensures { (result ≡ x) × (result < 256) }
-{
-    x as usize
-}
-
 // Whether n patterns from a position on lie in the domain.
 pub fn all_inside(s: &[u8], at: usize, n: usize) -> bool
     requires { at + 4 * n ≤ length s.now }
     ensures { result ≡ every bits_in_domain (words 4 n s.now at) }
 {
     let mut ok = true;
-    let mut i: usize = 0;
-    while i < n {
+    for i in 0..n {
         if !float_distance::order::bits_in_domain(num::get4(s, at + 4 * i)) {
             ok = false;
         }
-        i += 1;
     }
     ok
 }
@@ -63,8 +55,7 @@ fn entry_fits(s: &[u8], base: usize, i: usize) -> bool
     if code != 1 {
         return true;
     }
-    let n = wide(len);
-    all_inside(s, base + FLOATS + i * FLOATS_OF_ONE, n)
+    all_inside(s, base + FLOATS + i * FLOATS_OF_ONE, len as usize)
 }
 
 // .. of each of the first `count` entries, one by one.
@@ -72,14 +63,7 @@ fn each_fits(s: &[u8], base: usize, count: usize) -> bool
     requires { (count ≤ 1024) × Stands s.now base }
     ensures { result ≡ every_below (entry_fits s.now base) count }
 {
-    let mut i: usize = 0;
-    while i < count {
-        if !entry_fits(s, base, i) {
-            return false;
-        }
-        i += 1;
-    }
-    true
+    (0..count).all(|i| entry_fits(s, base, i))
 }
 
 // Whether the offsets of the first `count` entries are 1, 2, 3 and so on.
@@ -89,12 +73,10 @@ fn numbered(s: &[u8], base: usize, count: usize) -> bool
 {
     let at = base + OFFSETS;
     let mut ok = true;
-    let mut i: usize = 0;
-    while i < count {
+    for i in 0..count {
         if num::get8(s, at + 8 * i) != (i + 1) as u64 {
             ok = false;
         }
-        i += 1;
     }
     ok
 }
@@ -107,12 +89,10 @@ fn listed(s: &[u8], base: usize, count: usize) -> bool
     let codes = base + CODES;
     let lengths = base + LENGTHS;
     let mut ok = true;
-    let mut i: usize = 0;
-    while i < count {
+    for i in 0..count {
         if !is_listed(s[codes + i], s[lengths + i]) {
             ok = false;
         }
-        i += 1;
     }
     ok
 }

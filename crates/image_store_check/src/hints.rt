@@ -15,10 +15,6 @@ fn slot(id: u64) -> usize
     (id % SLOTS as u64) as usize
 }
 
-fn place_of(hint: u16) -> usize {
-    hint as usize
-}
-
 // Whether an entry behind place i with its id is found by a few steps. Each place is tested, and an answer of false says nothing.
 pub fn hinted(s: &[u8], base: usize, heads: &[u16], nexts: &[u16], count: usize, i: usize) -> bool
     requires { (i < count) × (count ≤ 1024) × Stands s.now base × (length nexts.now ≡ 1024) × (length heads.now ≡ 2039) }
@@ -27,9 +23,8 @@ pub fn hinted(s: &[u8], base: usize, heads: &[u16], nexts: &[u16], count: usize,
     let ids = base + IDS;
     let id = num::get8(s, ids + 8 * i);
     let at = slot(id);
-    let mut k = place_of(heads[at]);
-    let mut steps: usize = 0;
-    while steps < 8 {
+    let mut k = heads[at] as usize;
+    for _ in 0..8 {
         if k <= i {
             return false;
         }
@@ -39,8 +34,7 @@ pub fn hinted(s: &[u8], base: usize, heads: &[u16], nexts: &[u16], count: usize,
         if num::get8(s, ids + 8 * k) == id {
             return true;
         }
-        k = place_of(nexts[k]);
-        steps += 1;
+        k = nexts[k] as usize;
     }
     false
 }

@@ -38,14 +38,7 @@ pub fn rows_fit(s: &[u8], base: usize, count: usize, stored: usize) -> bool
     requires { (count ≤ 1024) × (stored ≤ 1024) × Stands s.now base }
     ensures { Decides result (RowsFitIn s.now base count stored) }
 {
-    let mut j: usize = 0;
-    while j < stored {
-        if !row_fits(s, base, count, j) {
-            return false;
-        }
-        j += 1;
-    }
-    true
+    (0..stored).all(|j| row_fits(s, base, count, j))
 }
 
 // The same; the entries that the rows name are marked by 1.
@@ -53,14 +46,12 @@ pub fn mark_rows(s: &[u8], base: usize, marks: &mut [u8], count: usize, stored: 
     requires { (count ≤ 1024) × (stored ≤ 1024) × Stands s.now base × (length marks.old ≡ 1024) × ((i : ℕ) → get_or marks.old i 0 ≡ 0) }
     ensures { TestedIn s.now base marks.new count stored result }
 {
-    let mut j: usize = 0;
-    while j < stored {
+    for j in 0..stored {
         if !row_fits(s, base, count, j) {
             return false;
         }
         let i = (num::get8(s, base + PLACES + 8 * j) - 1) as usize;
         marks[i] = 1;
-        j += 1;
     }
     true
 }
@@ -73,6 +64,7 @@ pub fn seek(s: &[u8], base: usize, n: usize, id: u64) -> usize
     let at = base + KEYS;
     let mut low: usize = 0;
     let mut high = n;
+    // Stays a while: a binary search, whose two ends close in on the place.
     while low < high {
         let mid = low + (high - low) / 2;
         if num::get8(s, at + 8 * mid) < id {

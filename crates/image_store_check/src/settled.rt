@@ -13,21 +13,21 @@ use crate::columns::{CODES, ENTRIES, IDS, KEYS, PLACES};
 use crate::hints::{SLOTS, hinted, remember};
 use crate::rows::{mark_rows, rows_fit, seek};
 
+// Whether entries i and k have one id.
+fn same_id(s: &[u8], base: usize, i: usize, k: usize) -> bool
+    requires { (i < 1024) × (k < 1024) × Stands s.now base }
+    ensures { Decides result (get_or (ids_in s.now base) k 0 ≡ get_or (ids_in s.now base) i 0) }
+{
+    let ids = base + IDS;
+    num::get8(s, ids + 8 * k) == num::get8(s, ids + 8 * i)
+}
+
 // Whether an entry behind place i has its id.
 fn comes_again(s: &[u8], base: usize, count: usize, i: usize) -> bool
     requires { (i < count) × (count ≤ 1024) × Stands s.now base }
     ensures { Decides result (Again (ids_in s.now base) count i) }
 {
-    let ids = base + IDS;
-    let id = num::get8(s, ids + 8 * i);
-    let mut k = i + 1;
-    while k < count {
-        if num::get8(s, ids + 8 * k) == id {
-            return true;
-        }
-        k += 1;
-    }
-    false
+    (i + 1..count).any(|k| same_id(s, base, i, k))
 }
 
 // Whether entry i agrees with the rows.
@@ -87,9 +87,7 @@ fn all_settled(
     ensures { Decides result (AllSettledIn s.now base count stored) }
 {
     let ids = base + IDS;
-    let mut i = count;
-    while 0 < i {
-        i -= 1;
+    for i in (0..count).rev() {
         if !is_settled(s, base, marks, heads, nexts, count, stored, i) {
             return false;
         }

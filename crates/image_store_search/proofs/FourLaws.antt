@@ -17,7 +17,7 @@ use Rattle.image_store.proofs.Words.{words-length, words-at}
 use Rattle.float_distance.specs.declared.four.Four.{Four}
 use Rattle.float_distance.specs.Halves.{element_of}
 use Rattle.float_distance.proofs.Lanes.{lane_step, lane_end}
-use Rattle.image_store_search.specs.Four.{vector_at, Pattern, Patterns, Reach, Places, Lane, Sums, FourElements}
+use Rattle.image_store_search.specs.Four.{vector_at, Pattern, Patterns, Reach, Places, Taken, Lane, Sums, FourElements}
 
 -- ---- a vector
 
@@ -53,6 +53,30 @@ module _ (s : List ℕ) (p n i : ℕ) (h : i < n) (y : Float) (made : y ≡ floa
   pub own_on : Lane (mul binary32) (vector_at s p n) (vector_at s p n) i acc
       → Lane (mul binary32) (vector_at s p n) (vector_at s p n) (i + 1) (add binary32 acc (mul binary32 y y))
   own_on l = lane_step (mul binary32) (vector_at s p n) (vector_at s p n) i acc y y inside inside is is l
+
+-- steps one after the other
+module _ {S : Type 0} (R : ℕ → S → S → Type 0) (a : S) where
+  pub taken_none : Taken R 0 a a
+  unfolding Taken
+  taken_none = refl
+
+  pub taken_on : (i j : ℕ) (x y : S) → j ≡ i + 1 → Taken R i a x → R i x y → Taken R j a y
+  unfolding Taken
+  taken_on i j x y e t r =
+      let q : suc i ≡ j = omega arith in
+      subst (λ (k : ℕ). Taken R k a y) q (x, t, r)
+
+  pub taken_four : (i j : ℕ) (x x₁ x₂ x₃ x₄ : S) → j ≡ i + 4 → Taken R i a x → R i x x₁ → R (i + 1) x₁ x₂ → R (i + 2) x₂ x₃ → R (i + 3) x₃ x₄ → Taken R j a x₄
+  taken_four i j x x₁ x₂ x₃ x₄ e t p q r s =
+      taken_on (i + 3) j x₃ x₄ (omega arith) (taken_on (i + 2) (i + 3) x₂ x₃ (omega arith) (taken_on (i + 1) (i + 2) x₁ x₂ (omega arith) (taken_on i (i + 1) x x₁ refl t p) q) r) s
+
+  -- what each step keeps
+  pub taken_kept : (P : ℕ → S → Type 0) (n : ℕ) → P 0 a → ((i : ℕ) (x y : S) → i < n → P i x → R i x y → P (i + 1) y) → (b : S) → Taken R n a b → P n b
+  unfolding Taken
+  taken_kept P zero z f b t = subst (P 0) (sym t) z
+  taken_kept P (suc n) z f b t =
+      let q : n + 1 ≡ suc n = omega arith in
+      subst (λ (k : ℕ). P k b) q (f n t.0 b (omega arith) (taken_kept P n z (λ i x y h. f i x y (omega arith)) t.0 t.1) t.2)
 
 -- four components more
 pub four-steps : {A : Type 0} (P : ℕ → A → Type 0) (i : ℕ) (f f₁ f₂ f₃ f₄ : A) → (P i f → P (i + 1) f₁) → (P (i + 1) f₁ → P (i + 1 + 1) f₂)

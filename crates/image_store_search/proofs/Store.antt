@@ -1,17 +1,16 @@
 -- A store that passed its test (24), as a search over its bytes finds it. Assumes nothing.
 use Prim.Native.Nat.{ℕ, suc, ◌+◌, ◌-◌, ◌*◌, ◌≤◌, ◌<◌}
-use mathlib.Core.Path.{◌≡◌, refl, sym, ap, subst, ◌∙◌}
+use mathlib.Core.Path.{◌≡◌, sym, ap, subst, ◌∙◌}
 use mathlib.Core.Bool.{Bool, true, cond}
 use mathlib.Core.List.{List}
-use mathlib.Core.Option.{some}
 use native.Mathlib.Omega.{arith}
 use lib.Dec.{eqb, leb}
 use lib.Ieee.{Float, nan}
-use lib.ListN.{length, get_or, take, replicate, length-replicate}
+use lib.ListN.{length, get_or, replicate, length-replicate}
 use borrow.Author.Tests.{eq-eqb, leb-true}
 use Rattle.spec.specs.declared.Metric.{Metric}
-use Rattle.spec.specs.Lists.{◌and◌, nth}
-use Rattle.spec.specs.Log.{Log, lookup, entry_at, components, components_at}
+use Rattle.spec.specs.Lists.{◌and◌}
+use Rattle.spec.specs.Log.{Log, lookup, entry_at, components_at}
 use Rattle.spec.specs.Layout.Format.{number_at}
 use Rattle.spec.specs.Nearest.Order.{bits_in_domain}
 use Rattle.spec.specs.Nearest.Distance.{norm, Bounded}
@@ -21,7 +20,7 @@ use Rattle.spec_laws.proofs.Lists.{and_left, and_right}
 use Rattle.log_store.specs.View.{log_of, op_from}
 use Rattle.log_store.specs.View as view
 use Rattle.log_store.specs.Table.{vectors_of}
-use Rattle.log_store.specs.Store.{Store, Sized, well_formed_store, code_fits}
+use Rattle.log_store.specs.Store.{Store, Sized, well_formed_store}
 use Rattle.log_store.proofs.Columns.{log-at}
 use Rattle.log_store.proofs.Bits.{every-at}
 use Rattle.log_store.proofs.Facts.{Facts, facts, below_fact}

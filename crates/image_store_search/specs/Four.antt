@@ -1,6 +1,6 @@
 -- What four sums in step ask and promise, where the vectors are patterns in bytes: each is the sum of paper 01 over its own vector.
 -- Definitions only.
-use Rattle.std.specs.Prelude.{ℕ, ◌+◌, ◌*◌, ◌≤◌, ◌<◌, ◌≡◌, true, List, Float, length, drop}
+use Rattle.std.specs.Prelude.{ℕ, zero, suc, ◌+◌, ◌*◌, ◌≤◌, ◌<◌, ◌≡◌, true, List, Float, length, drop}
 use Rattle.std.specs.Float.{binary32}
 use Rattle.std.specs.Float.Ieee.{mul}
 use Rattle.spec.specs.declared.Metric.{Metric}
@@ -66,6 +66,11 @@ SumsOn term query s p q r t i f g = (n : ℕ) → i < n → Sums term query s p 
 
 abbrev pub OwnOn : (s : List ℕ) → (p q r t i : ℕ) → (before after : Four) → Type 0
 OwnOn s p q r t i f g = (n : ℕ) → i < n → OwnSums s p q r t n i f → OwnSums s p q r t n (i + 1) g
+
+-- n steps of R, from a to b
+unfoldable pub Taken : {S : Type 0} → (ℕ → S → S → Type 0) → (n : ℕ) → (a b : S) → Type 0
+Taken R zero a b = b ≡ a
+Taken {S} R (suc n) a b = (x : S) × Taken R n a x × R n x b
 
 -- 'Nearest objects': the elements of the four vectors
 pub record FourElements (metric : Metric) (query : List Float) (qnorm : Float) (s : List ℕ) (p q r t n : ℕ) (f : Four) : Type 0 where

@@ -11,21 +11,13 @@ use crate::four::{elements_four, float_at};
 use image_store_check::columns::{FLOATS, LENGTHS, PLACES};
 use spec::Metric;
 
-fn wide(x: u8) -> usize
-    ensures { result ≡ x }
-{
-    x as usize
-}
-
 // 1,024 numbers from a position on.
 pub fn read_words(s: &[u8], at: usize, out: &mut [u64])
     requires { (at + 8192 ≤ length s.now) × (length out.old ≡ 1024) }
     ensures { out.new ≡ words 8 1024 s.now at }
 {
-    let mut i: usize = 0;
-    while i < out.len() {
+    for i in 0..out.len() {
         out[i] = num::get8(s, at + 8 * i);
-        i += 1;
     }
 }
 
@@ -34,10 +26,8 @@ fn read_vector(s: &[u8], at: usize, n: usize, out: &mut [f32])
     requires { Patterns s.now at n × (n ≤ length out.old) }
     ensures { (length out.new ≡ length out.old) × (take n out.new ≡ vector_at s.now at n) }
 {
-    let mut i: usize = 0;
-    while i < n {
+    for i in 0..n {
         out[i] = float_at(s, at + 4 * i);
-        i += 1;
     }
 }
 
@@ -55,7 +45,7 @@ fn length_of(s: &[u8], base: usize, stored: usize, i: usize) -> usize
     ensures { result ≡ length_of s.now base i }
 {
     let e = entry_of(s, base, stored, i);
-    wide(s[base + LENGTHS + e])
+    s[base + LENGTHS + e] as usize
 }
 
 // Where their patterns begin.
@@ -122,6 +112,7 @@ pub fn fill(
 {
     let n = query.len();
     let mut i: usize = 0;
+    // Stays a while: a cursor that goes on by four rows or by one, as the lengths that it reads say.
     while i < stored {
         if four_long(s, base, stored, i, n) {
             let p = start_of(s, base, stored, i);

@@ -1,13 +1,13 @@
 // Paper 01, 'Nearest objects': the sums over four stored vectors, in step, from their patterns. Each sum runs from left to right by itself.
 // Four components are taken at a time, so that whole parts of a vector are loaded. The patterns begin at the positions p, q, r, t.
 
-ghost use Rattle.std.specs.Prelude.{◌≡◌};
+ghost use Rattle.std.specs.Prelude.{◌≡◌, ℕ, ◌<◌};
 ghost use Rattle.std.specs.Float.{binary32};
 ghost use Rattle.std.specs.Float.Ieee.{mul};
 ghost use Rattle.spec.specs.Layout.Format.{number_at};
 ghost use Rattle.spec.specs.Nearest.Distance.{square};
 ghost use Rattle.spec.specs.Node.Wire.{float_of};
-ghost use Rattle.image_store_search.specs.Four.{Pattern, Places, Reach, Sums, OwnSums, SumsOn, OwnOn, FourElements};
+ghost use Rattle.image_store_search.specs.Four.{Pattern, Places, Reach, Taken, Sums, OwnSums, SumsOn, OwnOn, FourElements};
 
 use float_distance::four::{Four, Products};
 use spec::Metric;
@@ -47,33 +47,6 @@ fn squares_on(
     }
 }
 
-// The four sums of squared differences over n components.
-fn squares_four(query: &[f32], s: &[u8], p: usize, q: usize, r: usize, t: usize, n: usize) -> Four
-    requires { Places query.now s.now p q r t n }
-    ensures { Sums square query.now s.now p q r t n n result }
-{
-    let mut f = Four {
-        a: 0.0,
-        b: 0.0,
-        c: 0.0,
-        d: 0.0,
-    };
-    let mut i: usize = 0;
-    while i < n {
-        if i + 4 <= n {
-            let f1 = squares_on(query, s, p, q, r, t, i, f);
-            let f2 = squares_on(query, s, p, q, r, t, i + 1, f1);
-            let f3 = squares_on(query, s, p, q, r, t, i + 2, f2);
-            f = squares_on(query, s, p, q, r, t, i + 3, f3);
-            i += 4;
-        } else {
-            f = squares_on(query, s, p, q, r, t, i, f);
-            i += 1;
-        }
-    }
-    f
-}
-
 // Four sums of products with the query, and four of the vectors' own, with the terms of component i.
 fn products_on(
     query: &[f32],
@@ -111,6 +84,42 @@ fn products_on(
     Products { query, own }
 }
 
+// No sum has a term yet.
+const NONE: Four = Four {
+    a: 0.0,
+    b: 0.0,
+    c: 0.0,
+    d: 0.0,
+};
+
+// Sums over n components, each component's terms added by `on`.
+fn over<S: Copy, F: Fn(usize, S) -> S>(n: usize, none: S, on: F) -> S
+    requires { (i : ℕ) (x : S) → i < n → F.pre on i x }
+    ensures { Taken (λ i x y. F.post on i x y) n none result }
+{
+    let mut sums = none;
+    let fours = n / 4;
+    for k in 0..fours {
+        let i = 4 * k;
+        let one = on(i, sums);
+        let two = on(i + 1, one);
+        let three = on(i + 2, two);
+        sums = on(i + 3, three);
+    }
+    for i in 4 * fours..n {
+        sums = on(i, sums);
+    }
+    sums
+}
+
+// The four sums of squared differences over n components.
+fn squares_four(query: &[f32], s: &[u8], p: usize, q: usize, r: usize, t: usize, n: usize) -> Four
+    requires { Places query.now s.now p q r t n }
+    ensures { Sums square query.now s.now p q r t n n result }
+{
+    over(n, NONE, |i, sums| squares_on(query, s, p, q, r, t, i, sums))
+}
+
 // The eight sums over n components.
 fn products_four(
     query: &[f32],
@@ -124,30 +133,13 @@ fn products_four(
     requires { Places query.now s.now p q r t n }
     ensures { Sums (mul binary32) query.now s.now p q r t n n result.query × OwnSums s.now p q r t n n result.own }
 {
-    let none = Four {
-        a: 0.0,
-        b: 0.0,
-        c: 0.0,
-        d: 0.0,
+    let none = Products {
+        query: NONE,
+        own: NONE,
     };
-    let mut f = Products {
-        query: none,
-        own: none,
-    };
-    let mut i: usize = 0;
-    while i < n {
-        if i + 4 <= n {
-            let f1 = products_on(query, s, p, q, r, t, i, f);
-            let f2 = products_on(query, s, p, q, r, t, i + 1, f1);
-            let f3 = products_on(query, s, p, q, r, t, i + 2, f2);
-            f = products_on(query, s, p, q, r, t, i + 3, f3);
-            i += 4;
-        } else {
-            f = products_on(query, s, p, q, r, t, i, f);
-            i += 1;
-        }
-    }
-    f
+    over(n, none, |i, sums| {
+        products_on(query, s, p, q, r, t, i, sums)
+    })
 }
 
 // The elements of four vectors of n components. The query's norm is given.

@@ -24,16 +24,13 @@ fn played(stores: &[u8], base: usize, count: usize, keys: &mut [u64], places: &m
     let ids = base + IDS;
     let codes = base + CODES;
     let mut n: usize = 0;
-    let mut i: usize = 0;
-    while i < count {
+    for i in 0..count {
         let id = num::get8(stores, ids + 8 * i);
         if stores[codes + i] == 1 {
             let offset = num::get8(stores, offsets + 8 * i);
             n = set_row(keys, places, n, id, Offset(offset));
-            i += 1;
         } else {
             n = drop_row(keys, places, n, id);
-            i += 1;
         }
     }
     n

@@ -12,7 +12,7 @@ use test_input::input::refill;
 use test_input::start::start;
 use test_lines::words::{line, number};
 
-// The image becomes that of the map after the last request. Nothing says that an input ends, so the turns are counted down, from a number that no run
+// The image becomes that of the map after the last request. Nothing says that an input ends, so the turns are counted, up to a number that no run
 // uses up.
 fn last_map<R: Input>(rt: &R, map: &mut [u8], buf: &mut [u8])
     requires { (26536 ≤ length map.old) × (length buf.old ≤ 8192) }
@@ -20,8 +20,7 @@ fn last_map<R: Input>(rt: &R, map: &mut [u8], buf: &mut [u8])
 {
     start(map);
     let mut n: usize = 0;
-    let mut turns = u64::MAX;
-    while 0 < turns {
+    for _ in 0..u64::MAX {
         let done = drain(map, &buf[..n]);
         let at = done.at;
         let rest = n - at;
@@ -33,7 +32,6 @@ fn last_map<R: Input>(rt: &R, map: &mut [u8], buf: &mut [u8])
             return;
         }
         n = more;
-        turns -= 1;
     }
 }
 
@@ -47,11 +45,9 @@ fn print_load(x: Load) {
 fn print_lines(l: Loads)
     requires { l.count ≤ 32 }
 {
-    let mut i: usize = 0;
-    while i < l.count {
+    for i in 0..l.count {
         let x = l.items[i];
         print_load(x);
-        i += 1;
     }
 }
 

@@ -52,8 +52,7 @@ fn store_all(
     let mut at = p.at;
     let mut c = count;
     let mut k = stored;
-    let mut i: usize = 0;
-    while i < n {
+    for i in 0..n {
         let e = entry_at(s, at);
         let under = e.epoch;
         let offset = e.offset;
@@ -65,7 +64,6 @@ fn store_all(
         c = t.count;
         k = t.stored;
         at = e.next;
-        i += 1;
     }
     Stock {
         count: c,

@@ -21,10 +21,8 @@ fn read_bits(s: &[u8], v: Part, out: &mut [u32])
     ensures { (length out.new ≡ length out.old) × (take v.len out.new ≡ bits_in s.now v) }
 {
     let n = v.len;
-    let mut i: usize = 0;
-    while i < n {
+    for i in 0..n {
         out[i] = component(s, v, i);
-        i += 1;
     }
 }
 

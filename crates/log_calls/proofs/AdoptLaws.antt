@@ -3,7 +3,7 @@ use Prim.Native.Nat.{ℕ, ◌<◌, ◌≤◌}
 use mathlib.Core.Path.{◌≡◌, refl, sym, ap, ◌∙◌}
 use mathlib.Core.Bool.{Bool, true, false, cond}
 use mathlib.Core.List.{List}
-use mathlib.Core.Option.{none, some}
+use mathlib.Core.Option.{some}
 use lib.Dec.{ltb}
 use borrow.Author.Tests.{lt-ltb, le-ltb}
 use Rattle.spec.specs.Refusals.{undecodable, malformed}
@@ -22,10 +22,10 @@ use Rattle.log_store.specs.Align.{Aligned}
 use Rattle.log_store.specs.declared.replica.Adoption.{Adoption}
 use Rattle.log_arrive.specs.Parts.{table_in}
 use Rattle.log_arrive.proofs.Messages.{new_epoch_part_lem, new_epoch_table}
-use Rattle.log_arrive.proofs.Stores.{last-is, own-epoch}
+use Rattle.log_arrive.proofs.Stores.{last-is}
 use Rattle.log_store.proofs.Spared.{spares_none}
 use Rattle.log_calls.specs.Fits.{lent_fits}
-use Rattle.log_calls.specs.Calls.{After, tested, adopt_to, adopt_lent, Calls}
+use Rattle.log_calls.specs.Calls.{adopt_to, adopt_lent, Calls}
 use Rattle.log_calls.specs.declared.Answer.TheVariants as A
 use Rattle.log_calls.proofs.FitLaws.{fits-from}
 use Rattle.log_calls.proofs.Calls.{none_of, tested-none, tested_malformed, tested-there, calls-refused}

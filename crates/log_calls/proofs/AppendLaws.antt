@@ -3,12 +3,11 @@ use Prim.Native.Nat.{ℕ, ◌+◌, ◌<◌}
 use mathlib.Core.Path.{◌≡◌, refl, sym, ap, ◌∙◌}
 use mathlib.Core.Bool.{Bool, true, false, cond}
 use mathlib.Core.List.{List}
-use mathlib.Core.Option.{none, some}
+use mathlib.Core.Option.{some}
 use native.Mathlib.Omega.{arith}
-use lib.Dec.{ltb}
 use borrow.Author.Tests.{lt-ltb, le-ltb}
 use Rattle.spec.specs.Refusals.{undecodable, outside_domain, malformed, no_room}
-use Rattle.spec.specs.Log.{Op, Entry, ShardReplica, last_offset, push, append}
+use Rattle.spec.specs.Log.{Op, ShardReplica, last_offset, push, append}
 use Rattle.spec.specs.Layout.Message as message
 use Rattle.spec.specs.Layout.Parts.{WireOp}
 use Rattle.spec.specs.Node.Wire.{op_in_domain, stored_op}
@@ -27,7 +26,7 @@ use Rattle.log_arrive.specs.Parts.{op_in}
 use Rattle.log_arrive.proofs.Messages.{write-op}
 use Rattle.log_arrive.proofs.Stores.{last-is}
 use Rattle.log_calls.specs.Fits.{lent_fits}
-use Rattle.log_calls.specs.Calls.{After, refused, tested, append_to, append_lent, Calls}
+use Rattle.log_calls.specs.Calls.{refused, append_to, append_lent, Calls}
 use Rattle.log_calls.specs.declared.Answer.TheVariants as A
 use Rattle.log_calls.proofs.FitLaws.{fits-from}
 use Rattle.log_calls.proofs.Calls.{none_of, tested-none, tested_outside, tested_malformed, tested-there, calls-refused}

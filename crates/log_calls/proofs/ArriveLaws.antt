@@ -26,7 +26,7 @@ use Rattle.log_arrive.specs.Arrivals.{Arrives}
 use Rattle.log_arrive.specs.Arrivals as arrivals
 use Rattle.log_arrive.proofs.Messages.{replicate_part_lem, replicate_op}
 use Rattle.log_calls.specs.Fits.{lent_fits}
-use Rattle.log_calls.specs.Calls.{After, refused, tested, stored_as, store_to, store_lent, outcome_as, turned_down, Calls}
+use Rattle.log_calls.specs.Calls.{refused, stored_as, store_to, store_lent, outcome_as, turned_down, Calls}
 use Rattle.log_calls.specs.declared.Answer.{Answer}
 use Rattle.log_calls.specs.declared.Answer.TheVariants as A
 use Rattle.log_calls.proofs.FitLaws.{fits-from}

@@ -1,7 +1,7 @@
 -- Laws of the checks that every call on a replica makes first. Assumes nothing.
 use Prim.Native.Nat.{ℕ}
-use mathlib.Core.Path.{◌≡◌, refl, sym, ap, ◌∙◌}
-use mathlib.Core.Bool.{Bool, true, false, not, cond}
+use mathlib.Core.Path.{◌≡◌, refl, sym}
+use mathlib.Core.Bool.{Bool, true, false}
 use mathlib.Core.Option.{Option, none, some}
 use Rattle.spec.specs.Refusals.{Refusal, number_of, undecodable, outside_domain, malformed}
 use Rattle.spec.specs.Log.{ShardReplica}

@@ -6,9 +6,11 @@ use mathlib.Core.List.{List}
 use mathlib.Core.Logic.{inl, inr}
 use native.Mathlib.Omega.{arith}
 use lib.Dec.{eqb, ltb}
-use borrow.Author.Tests.{eqb-true}
-use lib.ListN.{length, get_or, set, replicate}
-use lib.Seq.{get_or-set_other}
+use borrow.Author.Tests.{eqb-true, ltb-true, ltb-false}
+use lib.ListN.{length, take, get_or, set, replicate}
+use lib.Seq.{length-take-le, get_or-set_other, get_or-take}
+use Rattle.std.specs.List.Sorted.{IsPartitionPoint, IsPartitionedBy}
+use Rattle.std.proofs.lemmas.List.Sorted.{IsNonDecreasingBy-from_default, IsPartitionedBy-ltb}
 use Rattle.spec_laws.proofs.Lists.{not_both}
 use Rattle.spec_laws.proofs.Nearest.Tests.{Test, less, same, more, test}
 use Rattle.log_store.specs.Table.{rows_of, rows_played}
@@ -120,16 +122,29 @@ module _ (is cs ks ps : List ℕ) (n : ℕ) where
 -- ---- the place of an id among keys that rise
 
 module _ (ks : List ℕ) (n id : ℕ) (f : Rises ks n) where
-  pub seek_up : (mid : ℕ) → mid < n → get_or ks mid 0 < id → (j : ℕ) → j < mid + 1 → get_or ks j 0 < id
-  seek_up mid h l = below_on (λ (j : ℕ). get_or ks j 0 < id) mid (λ j g. (let u = f j mid g h in omega arith)) l
-
-  pub seek_down : (mid : ℕ) → id ≤ get_or ks mid 0 → (j : ℕ) → mid ≤ j → j < n → id ≤ get_or ks j 0
-  seek_down mid l j h g = go (test mid j)
+  rising-on : (i j : ℕ) → i ≤ j → j < n → get_or ks i 0 ≤ get_or ks j 0
+  rising-on i j h g = go (test i j)
     where
-      go : Test mid j → id ≤ get_or ks j 0
-      go (less a b c) = let u = f mid j a g in omega arith
-      go (same a b c) = subst (λ (k : ℕ). id ≤ get_or ks k 0) a l
+      go : Test i j → get_or ks i 0 ≤ get_or ks j 0
+      go (less a b c) = let u = f i j a g in omega arith
+      go (same a b c) = subst (λ (k : ℕ). get_or ks i 0 ≤ get_or ks k 0) a (omega arith)
       go (more a b c) = absurd (omega arith)
+
+  module _ (h : n ≤ length ks) where
+    -- what the library's search asks of the first n
+    pub seek-parted : IsPartitionedBy (λ (k : ℕ). ltb k id) (take n ks)
+    seek-parted =
+        IsPartitionedBy-ltb (λ (k : ℕ). k) (take n ks) id (IsNonDecreasingBy-from_default (λ (k : ℕ). k) (take n ks) 0
+        (λ i j le lt. (let l = length-take-le n ks h in let g : j < n = omega arith in
+        let a = get_or-take n ks i 0 (omega arith) in let b = get_or-take n ks j 0 g in let u = rising-on i j le g in omega arith)))
+
+    -- .. and what it answers
+    pub seek-done : (r : ℕ) → r ≤ length (take n ks) → IsPartitionPoint (λ (k : ℕ). ltb k id ≡ true) (λ (k : ℕ). ltb k id ≡ false) (take n ks) r → Parted ks n id r
+    seek-done r m p = let l = length-take-le n ks h in record {
+      most = omega arith;
+      below = λ j g. (let a = get_or-take n ks j 0 (omega arith) in let u = ltb-true (get_or (take n ks) j 0) id (p.0 j 0 (omega arith) g) in omega arith);
+      above = λ j g t. (let a = get_or-take n ks j 0 t in let u = ltb-false (get_or (take n ks) j 0) id (p.1 j 0 g (omega arith)) in omega arith);
+    }
 
   -- the key there is another's, or there is none
   pub no_key_lem : (at : ℕ) → Parted ks n id at → (at < n → get_or ks at 0 ≡ id → ⊥) → NoRow ks n id

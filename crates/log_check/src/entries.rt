@@ -13,12 +13,10 @@ pub fn all_in_domain(vector: &[f32]) -> bool
     ensures { result ≡ every component vector.now }
 {
     let mut ok = true;
-    let mut i: usize = 0;
-    while i < vector.len() {
-        if !float_distance::order::in_domain(vector[i]) {
+    for x in vector {
+        if !float_distance::order::in_domain(*x) {
             ok = false;
         }
-        i += 1;
     }
     ok
 }
@@ -59,12 +57,10 @@ fn each_fits(offsets: &[u64], codes: &[u8], lengths: &[u8], floats: &[f32], coun
     requires { (count ≤ 1024) × (length offsets.now ≡ 1024) × (length codes.now ≡ 1024) × (length lengths.now ≡ 1024) × (32768 ≤ length floats.now) }
     ensures { EntriesFit offsets.now codes.now lengths.now floats.now count result }
 {
-    let mut i: usize = 0;
-    while i < count {
+    for i in 0..count {
         if !entry_fits(offsets, codes, lengths, floats, i) {
             return false;
         }
-        i += 1;
     }
     true
 }
@@ -75,12 +71,10 @@ fn numbered(offsets: &[u64], count: usize) -> bool
     ensures { result ≡ every_below (number_fits offsets.now) count }
 {
     let mut ok = true;
-    let mut i: usize = 0;
-    while i < count {
+    for i in 0..count {
         if offsets[i] != (i + 1) as u64 {
             ok = false;
         }
-        i += 1;
     }
     ok
 }
@@ -104,12 +98,10 @@ fn listed(codes: &[u8], lengths: &[u8], count: usize) -> bool
     ensures { result ≡ every_below (shape_at codes.now lengths.now) count }
 {
     let mut ok = true;
-    let mut i: usize = 0;
-    while i < count {
+    for i in 0..count {
         if !is_listed(codes[i], lengths[i]) {
             ok = false;
         }
-        i += 1;
     }
     ok
 }

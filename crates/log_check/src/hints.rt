@@ -24,8 +24,7 @@ pub fn hinted(ids: &[u64], heads: &[u16], nexts: &[u16], count: usize, i: usize)
 {
     let at = slot(ids[i]);
     let mut k = place_of(heads[at]);
-    let mut steps: usize = 0;
-    while steps < 8 {
+    for _ in 0..8 {
         if k <= i {
             return false;
         }
@@ -36,7 +35,6 @@ pub fn hinted(ids: &[u64], heads: &[u16], nexts: &[u16], count: usize, i: usize)
             return true;
         }
         k = place_of(nexts[k]);
-        steps += 1;
     }
     false
 }

@@ -42,14 +42,12 @@ pub fn mark_rows(
         × (length marks.old ≡ 1024) × ((i : ℕ) → get_or marks.old i 0 ≡ 0) }
     ensures { Tested ids.now codes.now keys.now places.now marks.new count stored result }
 {
-    let mut j: usize = 0;
-    while j < stored {
+    for j in 0..stored {
         if !row_fits(ids, codes, keys, places, count, j) {
             return false;
         }
         let i = (places[j] - 1) as usize;
         marks[i] = 1;
-        j += 1;
     }
     true
 }
@@ -59,15 +57,5 @@ pub fn seek(keys: &[u64], n: usize, id: u64) -> usize
     requires { (n ≤ length keys.now) × Rises keys.now n }
     ensures { Parted keys.now n id result }
 {
-    let mut low: usize = 0;
-    let mut high = n;
-    while low < high {
-        let mid = low + (high - low) / 2;
-        if keys[mid] < id {
-            low = mid + 1;
-        } else {
-            high = mid;
-        }
-    }
-    low
+    keys[..n].partition_point(|k| *k < id)
 }

@@ -12,12 +12,10 @@ fn comes_again(ids: &[u64], count: usize, i: usize) -> bool
     ensures { Decides result (Again ids.now count i) }
 {
     let id = ids[i];
-    let mut k = i + 1;
-    while k < count {
+    for k in i + 1..count {
         if ids[k] == id {
             return true;
         }
-        k += 1;
     }
     false
 }
@@ -85,9 +83,7 @@ fn all_settled(
     ensures { Decides result (AllSettled ids.now codes.now keys.now places.now count stored) }
 {
     let kept = stored < count;
-    let mut i = count;
-    while 0 < i {
-        i -= 1;
+    for i in (0..count).rev() {
         if !is_settled(
             ids, codes, keys, places, marks, heads, nexts, count, stored, i,
         ) {

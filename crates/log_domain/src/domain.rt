@@ -16,13 +16,9 @@ fn vector_in_domain(s: &[u8], v: Part) -> bool
 {
     let n = v.len;
     let mut ok = true;
-    let mut i: usize = 0;
-    while i < n {
-        if bits_in_domain(component(s, v, i)) {
-            i += 1;
-        } else {
+    for i in 0..n {
+        if !bits_in_domain(component(s, v, i)) {
             ok = false;
-            i += 1;
         }
     }
     ok
@@ -46,15 +42,13 @@ pub fn entries_in_domain(s: &[u8], p: Part) -> bool
 {
     let n = p.len;
     let mut at = p.at;
-    let mut i: usize = 0;
-    while i < n {
+    for i in 0..n {
         let e = entry_at(s, at);
         let o = e.op;
         if !op_in_domain(s, o) {
             return false;
         }
         at = e.next;
-        i += 1;
     }
     true
 }

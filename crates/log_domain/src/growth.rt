@@ -28,13 +28,11 @@ pub fn grows_to(s: &[u8], p: Part, count: usize) -> usize
     let n = p.len;
     let mut at = p.at;
     let mut last = count;
-    let mut i: usize = 0;
-    while i < n {
+    for i in 0..n {
         let e = entry_at(s, at);
         let offset = e.offset;
         last = after(last, offset);
         at = e.next;
-        i += 1;
     }
     last
 }

@@ -18,12 +18,10 @@ fn read_table(s: &[u8], p: Part, froms: &mut [u64], ends: &mut [u64])
         × (table_of froms.new ends.new p.len ≡ table_in s.now p) }
 {
     let n = p.len;
-    let mut i: usize = 0;
-    while i < n {
+    for i in 0..n {
         let pair = end_at(s, p, i);
         froms[i] = pair.epoch.0;
         ends[i] = pair.end.0;
-        i += 1;
     }
 }
 

@@ -114,6 +114,7 @@ pub fn fill(
 {
     let n = query.len();
     let mut i: usize = 0;
+    // Stays a while: a step is four rows or one, by what the rows hold.
     while i < stored {
         if four_whole(codes, lengths, places, count, stored, i, n) {
             let p = start_of(places[i]);

@@ -13,12 +13,10 @@ pub fn query_fits(query: &[f32]) -> bool
     if 32 < query.len() {
         return false;
     }
-    let mut i: usize = 0;
-    while i < query.len() {
-        if !float_distance::order::in_domain(query[i]) {
+    for x in query {
+        if !float_distance::order::in_domain(*x) {
             return false;
         }
-        i += 1;
     }
     true
 }

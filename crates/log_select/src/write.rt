@@ -12,11 +12,9 @@ pub fn write_hits(h: Hits, found: &mut [u64], distances: &mut [f32])
         × (distances.new ≡ map distance_of (take h.count h.items) ++ drop h.count distances.old) }
 {
     let n = h.count;
-    let mut i: usize = 0;
-    while i < n {
+    for i in 0..n {
         let x = h.items[i];
         found[i] = x.id;
         distances[i] = x.distance;
-        i += 1;
     }
 }

@@ -1,29 +1,27 @@
 -- What each way out of `adopt` leaves, by `spec`'s adopted. Assumes nothing.
-use Prim.Native.Nat.{ℕ, zero, suc, ◌+◌, ◌≤◌, ◌<◌}
+use Prim.Native.Nat.{ℕ, zero, suc, ◌≤◌, ◌<◌}
 use mathlib.Core.Path.{◌≡◌, refl, sym, ap, ◌∙◌, subst}
-use mathlib.Core.Bool.{Bool, true, false, cond}
-use mathlib.Core.List.{List, [], ◌∷◌, ◌++◌}
+use mathlib.Core.Bool.{Bool, true, cond}
+use mathlib.Core.List.{List, [], ◌∷◌}
 use native.Mathlib.Omega.{arith}
-use lib.Dec.{ltb}
 use borrow.Author.Tests.{eq-eqb, ne_eqb, lt-ltb, le-ltb}
 use lib.ListN.{length, take}
 use mathlib.Core.Option.{some}
 use Rattle.spec.specs.Lists.{nth, every, lead}
 use Rattle.spec.specs.Node.WellFormed.{well_formed_entry}
 use Rattle.spec.specs.Log.{Entry, End, Log, Vectors, ShardReplica, last_offset, agrees, keep, play, cut_to, adopted}
-use Rattle.spec.specs.Layout.Message.{Reply, reply_stale, reply_adopted}
+use Rattle.spec.specs.Layout.Message.{reply_stale, reply_adopted}
 use Rattle.spec.specs.declared.Metric.{Metric}
 use Rattle.spec.specs.declared.Epoch.{Epoch}
 use Rattle.spec.specs.declared.Offset.{Offset}
 use Rattle.spec_laws.proofs.Lists.{take_within}
 use Rattle.spec_laws.proofs.Map.Rows.{every_tail, every_cons}
-use Rattle.spec_laws.proofs.Log.Numbered.{Numbered, numbered_within}
+use Rattle.spec_laws.proofs.Log.Numbered.{numbered_within}
 use Rattle.spec_laws.proofs.Log.Keep.{keep-lead}
-use Rattle.log_store.specs.View.{Columns, firsts, entry_of, log_of, written_all}
-use Rattle.log_store.specs.Table.{Row, Tabled, rows_of, play_rows, rows_played, vectors_of}
-use Rattle.log_store.specs.Store.{Store, lent, store_log, store_rows, replica_in, well_formed_store, Sized, Spares}
-use Rattle.log_store.specs.Align.{KeptOf, Aligned, adoption_of}
-use Rattle.log_store.specs.declared.replica.Adoption.{Adoption}
+use Rattle.log_store.specs.View.{Columns, entry_of, log_of, written_all}
+use Rattle.log_store.specs.Table.{Tabled, rows_of, play_rows, rows_played}
+use Rattle.log_store.specs.Store.{Store, lent, store_log, replica_in, well_formed_store, Sized, Spares}
+use Rattle.log_store.specs.Align.{Aligned}
 use Rattle.log_store.specs.declared.replica.Adoption.TheVariants.{Older, Kept}
 use Rattle.log_store.proofs.Firsts.{firsts-take}
 use Rattle.log_store.proofs.Columns.{log-length}

@@ -1,20 +1,20 @@
 -- Alignment by columns: what a pair of columns answers for an offset, and how many leading entries agree. Assumes nothing.
-use Prim.Native.Nat.{ℕ, zero, suc, ◌+◌, ◌≤◌, ◌<◌}
+use Prim.Native.Nat.{ℕ, suc, ◌+◌, ◌≤◌, ◌<◌}
 use mathlib.Core.Path.{◌≡◌, refl, sym, ap, ◌∙◌, subst}
-use mathlib.Core.Bool.{Bool, true, false, cond}
-use mathlib.Core.List.{List, [], ◌∷◌, ◌++◌}
-use mathlib.Core.Option.{Option, none, some}
+use mathlib.Core.Bool.{Bool, true, false}
+use mathlib.Core.List.{List, [], ◌∷◌}
+use mathlib.Core.Option.{Option, some}
 use native.Mathlib.Numerals.{add-one}
 use native.Mathlib.Omega.{arith}
-use lib.Dec.{eqb, leb, ltb}
+use lib.Dec.{eqb, ltb}
 use lib.Ieee.{Float}
-use borrow.Author.Tests.{ltb-true, ltb-false, lt-ltb, le-ltb, le-leb, lt-leb}
+use borrow.Author.Tests.{ltb-true, ltb-false, le-leb, lt-leb}
 use lib.ListN.{length, get_or, take, drop, drop_of_length-le}
 use lib.Seq.{drop-cons, length-take-le, get_or-take}
 use Rattle.spec.specs.Lists.{◌and◌, nth, lead}
-use Rattle.spec.specs.Log.{Op, Entry, End, Log, epoch_at, is_epoch, agrees}
+use Rattle.spec.specs.Log.{End, epoch_at, is_epoch, agrees}
 use Rattle.spec_laws.proofs.Lists.{nth_get_d, nth-none}
-use Rattle.log_store.specs.View.{Columns, columns, firsts, entry_of, op_of, log_of}
+use Rattle.log_store.specs.View.{columns, firsts, entry_of, op_of, log_of}
 use Rattle.log_store.specs.Align.{paired, table_of, AgreesAt, KeptOf}
 use Rattle.log_store.proofs.Put.{lead_true, lead_false}
 use Rattle.log_store.proofs.Firsts.{firsts-length, firsts_at}

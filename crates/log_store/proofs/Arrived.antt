@@ -1,25 +1,21 @@
 -- What each way out of `store` leaves, by `spec`'s store. Assumes nothing.
-use Prim.Native.Nat.{ℕ, zero, suc, ◌+◌, ◌≤◌, ◌<◌}
+use Prim.Native.Nat.{ℕ, ◌+◌, ◌≤◌, ◌<◌}
 use mathlib.Core.Path.{◌≡◌, refl, sym, ap, ◌∙◌, subst}
-use mathlib.Core.Bool.{Bool, true, false, cond}
-use mathlib.Core.List.{List, [], ◌∷◌, ◌++◌}
-use mathlib.Core.Option.{Option, none, some}
+use mathlib.Core.Bool.{Bool, true, cond}
+use mathlib.Core.Option.{none, some}
 use native.Mathlib.Omega.{arith}
-use lib.Dec.{ltb}
 use borrow.Author.Tests.{lt-ltb, le-ltb}
-use lib.ListN.{length}
 use Rattle.spec.specs.Node.Client.{overfull}
-use Rattle.spec.specs.Log.{Entry, Log, Op, Stored, through, gap, stale, StoreResult, ShardReplica, last_offset, push, store}
+use Rattle.spec.specs.Log.{Entry, Op, Stored, through, gap, stale, StoreResult, ShardReplica, last_offset, push, store}
 use Rattle.spec.specs.declared.Metric.{Metric}
 use Rattle.spec.specs.declared.Epoch.{Epoch}
 use Rattle.spec.specs.declared.Offset.{Offset}
 use Rattle.spec_laws.proofs.Log.Store.{push-length, store_other, store-next, store-old, store-far}
-use Rattle.log_store.specs.View.{log_of}
-use Rattle.log_store.specs.Store.{Store, store_log, replica_in, well_formed_store, Sized, Spares, Pushed, answer_of, Arrived}
+use Rattle.log_store.specs.Store.{Store, replica_in, well_formed_store, Sized, Spares, Pushed, answer_of, Arrived}
 use Rattle.log_store.specs.declared.replica.Outcome.{Outcome}
 use Rattle.log_store.specs.declared.replica.Outcome.TheVariants.{Through, Gap, Stale, Full}
 use Rattle.log_store.proofs.Columns.{log-length}
-use Rattle.log_store.proofs.Facts.{Facts, facts}
+use Rattle.log_store.proofs.Facts.{facts}
 use Rattle.log_store.proofs.Spared.{spares_none}
 
 last-is : (e : ℕ) (m : Metric) (s : Store) → last_offset (replica_in e m s) ≡ s.count

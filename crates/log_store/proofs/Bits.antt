@@ -1,6 +1,6 @@
 -- Laws of components that arrive as bits: those in the domain are numbers, and are written one after the other. Assumes nothing.
 use Prim.Native.Nat.{ℕ, zero, suc, ◌+◌, ◌-◌, ◌≤◌, ◌<◌}
-use mathlib.Core.Path.{◌≡◌, refl, sym, ap, ◌∙◌, subst, subst⁻¹}
+use mathlib.Core.Path.{◌≡◌, refl, sym, ◌∙◌, subst⁻¹}
 use mathlib.Core.Bool.{Bool, true, false, not}
 use mathlib.Core.List.{List, [], ◌∷◌, ◌++◌, map}
 use native.Mathlib.Numerals.{add-one}
@@ -10,7 +10,7 @@ use lib.ListN.{length, take, drop, get_or, set, length-map, get_or-map}
 use lib.Seq.{take-suc, take-suc-set, take_all, drop-drop}
 use lib.Ieee.{Float, nan, inf, fin, is_nan, binary32, of_bits, nan_bits}
 use lib.Ieee.Bits.{nan_bits_is}
-use Rattle.spec.specs.Lists.{◌and◌, every}
+use Rattle.spec.specs.Lists.{every}
 use Rattle.spec.specs.Nearest.Order.{in_domain, bits_in_domain}
 use Rattle.spec.specs.Node.Wire.{float_of, floats_of}
 use Rattle.spec_laws.proofs.Lists.{not_both}

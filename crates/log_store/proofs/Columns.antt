@@ -1,9 +1,8 @@
 -- Laws of the columns read as a log: the entry at an offset, and its components. Assumes nothing.
 use Prim.Native.Nat.{ℕ, zero, suc, ◌+◌, ◌*◌, ◌-◌, ◌/◌, ◌≤◌, ◌<◌}
-use mathlib.Core.Path.{◌≡◌, refl, sym, ap, ◌∙◌, subst}
-use mathlib.Core.Bool.{Bool, true, false, cond}
-use mathlib.Core.List.{List, [], ◌∷◌, ◌++◌}
-use mathlib.Core.Option.{Option, none, some}
+use mathlib.Core.Path.{◌≡◌, sym, ap, ◌∙◌}
+use mathlib.Core.List.{List, []}
+use mathlib.Core.Option.{some}
 use mathlib.Core.Logic.{⊎_elim}
 use native.Mathlib.Nat.{eq-zero-or-pos}
 use native.Mathlib.Omega.{arith}
@@ -12,7 +11,7 @@ use lib.Ieee.{Float}
 use lib.ListN.{length, get_or, take, drop, drop_of_length-le, get_or-eq_default, length-drop}
 use lib.Seq.{take-nil, take_all}
 use Rattle.spec.specs.Lists.{nth}
-use Rattle.spec.specs.Log.{Entry, Log, entry_at, components, components_at, lookup}
+use Rattle.spec.specs.Log.{Log, entry_at, components, components_at, lookup}
 use Rattle.log_store.specs.View.{Columns, columns, stretch, op_of, entry_of, log_of, LookedUp}
 use Rattle.log_store.proofs.Firsts.{firsts-length, nth-firsts, nth_firsts_past}
 

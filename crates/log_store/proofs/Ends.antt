@@ -1,20 +1,19 @@
 -- The epoch table of a log, entry by entry from the front: an equal epoch moves the last end, another begins a pair.
 -- Assumes nothing.
 use Prim.Native.Nat.{ℕ, zero, suc, ◌+◌, ◌-◌, ◌≤◌, ◌<◌}
-use mathlib.Core.Path.{◌≡◌, refl, sym, ap, ◌∙◌, subst}
+use mathlib.Core.Path.{◌≡◌, refl, sym, ap, ◌∙◌}
 use mathlib.Core.Bool.{Bool, true, false, cond}
 use mathlib.Core.List.{List, [], ◌∷◌, ◌++◌}
 use native.Mathlib.Numerals.{add-one}
 use native.Mathlib.Omega.{arith}
 use lib.Dec.{eqb, ltb}
-use lib.Ieee.{Float}
-use borrow.Author.Tests.{eqb-true, eq-eqb, ne_eqb, ltb-true, lt-ltb}
-use lib.ListN.{length, take, drop, get_or, set, length-set}
-use lib.Seq.{take-suc, length-take-le, take-suc-set, take-set-lt, take-set-le, get_or-set_same}
+use borrow.Author.Tests.{eqb-true, eq-eqb, ne_eqb}
+use lib.ListN.{length, take, get_or, set}
+use lib.Seq.{take-suc, length-take-le, take-suc-set}
 use Rattle.spec.specs.Lists.{◌and◌}
 use Rattle.spec.specs.Log.{Op, Entry, End, Log, with_end, epoch_ends}
-use Rattle.spec_laws.proofs.Lists.{by-test, not_both, and_true}
-use Rattle.log_store.specs.View.{Columns, columns, firsts, entry_of, log_of}
+use Rattle.spec_laws.proofs.Lists.{by-test}
+use Rattle.log_store.specs.View.{columns, firsts, entry_of, log_of}
 use Rattle.log_store.specs.Align.{paired, table_of, EndsOf}
 use Rattle.log_store.proofs.Firsts.{firsts-next}
 use Rattle.log_store.proofs.Tabled.{here, not_here}
@@ -137,6 +136,10 @@ fresh-pair froms ends n hf he e f zero q = new-first froms ends n hf he e q
 fresh-pair froms ends n hf he e f (suc m) q =
     let k : n - 1 ≡ m = omega arith in
     new-last froms ends n hf he e m q (λ s. f (omega arith) (ap (λ (j : ℕ). get_or froms j 0) k ∙ s))
+
+-- equal columns make the same table
+pub same-table : {froms froms' ends ends' : List ℕ} → {n n' : ℕ} → froms' ≡ froms → ends' ≡ ends → n' ≡ n → table_of froms' ends' n' ≡ table_of froms ends n
+same-table f e k = rw f (rw e (rw k refl))
 
 module _ (es os : List ℕ) (i : ℕ) where
   -- the next entry's table, by the table of those before it

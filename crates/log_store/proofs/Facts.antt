@@ -1,6 +1,6 @@
 -- What a well-formed store is, as facts, and back. Assumes nothing.
-use Prim.Native.Nat.{ℕ, zero, suc, ◌+◌, ◌≤◌, ◌<◌}
-use mathlib.Core.Path.{◌≡◌, refl, sym, ap, ◌∙◌, subst}
+use Prim.Native.Nat.{ℕ, zero, suc, ◌≤◌, ◌<◌}
+use mathlib.Core.Path.{◌≡◌, refl, sym, ap, ◌∙◌}
 use mathlib.Core.Bool.{Bool, true, false, cond}
 use mathlib.Core.List.{List, [], ◌∷◌}
 use mathlib.Core.Logic.{⊎_elim}
@@ -12,13 +12,12 @@ use borrow.Author.Tests.{eqb-true, eq-eqb, leb-true, le-leb}
 use Rattle.spec.specs.Lists.{◌and◌, every, rising}
 use Rattle.spec.specs.Limits.{max_entries, min_floats}
 use Rattle.spec.specs.Node.WellFormed.{numbered_from, well_formed_entry}
-use Rattle.spec.specs.Log.{Log, play}
 use Rattle.spec.specs.declared.Metric.{Metric}
 use Rattle.spec_laws.proofs.Lists.{and_true, and_left, and_right, not_both}
 use Rattle.spec_laws.proofs.Log.Numbered.{Numbered, test-numbered, numbered-test}
 use Rattle.spec_laws.proofs.Log.Play.{InStep}
-use Rattle.log_store.specs.View.{Columns, log_of, Room}
-use Rattle.log_store.specs.Table.{Row, rows_of, row_below, play_rows, vectors_of}
+use Rattle.log_store.specs.View.{Room}
+use Rattle.log_store.specs.Table.{Row, row_below, play_rows, vectors_of}
 use Rattle.log_store.specs.Store.{Store, store_log, store_rows, replica_in, every_below, code_fits, same_rows, well_formed_store, Sized}
 use Rattle.log_store.proofs.Columns.{log-length}
 use Rattle.log_store.proofs.Rows.{rows-length}

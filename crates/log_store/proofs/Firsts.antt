@@ -1,14 +1,14 @@
 -- Laws of `firsts`, f of 0, 1, .. n − 1, over any element. Assumes nothing.
 use Prim.Native.Nat.{ℕ, zero, suc, ◌+◌, ◌≤◌, ◌<◌}
 use mathlib.Core.Path.{◌≡◌, refl, sym, ap, ◌∙◌, subst}
-use mathlib.Core.List.{List, [], ◌∷◌, ◌++◌}
-use mathlib.Core.Option.{Option, none, some}
+use mathlib.Core.List.{[], ◌∷◌, ◌++◌}
+use mathlib.Core.Option.{none, some}
 use mathlib.Core.Logic.{⊎_elim}
 use native.Mathlib.Nat.{eq-or-lt_of_le}
 use native.Mathlib.Numerals.{add-one}
 use native.Mathlib.Omega.{arith}
 use lib.ListN.{length, take, get_or, length-append, get_or-append}
-use lib.Seq.{get_or_at, take-append-le, take-length, take_all}
+use lib.Seq.{get_or_at, take-append-le, take_all}
 use Rattle.spec.specs.Lists.{nth}
 use Rattle.spec_laws.proofs.Lists.{nth_get_d, nth-none}
 use Rattle.log_store.specs.View.{firsts}

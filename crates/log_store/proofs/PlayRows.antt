@@ -1,17 +1,15 @@
 -- The log played on rows and on vectors: the rows' vectors are the vectors, the rows rise, and are no more than the entries.
 -- Assumes nothing.
-use Prim.Native.Nat.{ℕ, zero, suc, ◌+◌, ◌≤◌, ◌<◌}
-use mathlib.Core.Path.{◌≡◌, refl, sym, ap, ◌∙◌, subst}
-use mathlib.Core.Bool.{Bool, true, false, cond}
+use Prim.Native.Nat.{ℕ, suc, ◌+◌, ◌≤◌}
+use mathlib.Core.Path.{◌≡◌, refl, ap, ◌∙◌}
+use mathlib.Core.Bool.{Bool, true, cond}
 use mathlib.Core.List.{List, [], ◌∷◌, ◌++◌, map}
-use mathlib.Core.Option.{Option, none, some}
+use mathlib.Core.Option.{some}
 use native.Mathlib.Omega.{arith}
-use lib.Dec.{eqb, ltb}
 use lib.Ieee.{Float}
-use lib.ListN.{length, length-append}
+use lib.ListN.{length}
 use Rattle.spec.specs.Lists.{nth, filter, put, rising}
-use Rattle.spec.specs.Nearest.Search.{Vector}
-use Rattle.spec.specs.Log.{Op, upsert, delete, Entry, Log, Vectors, entry_at, components, components_at, lookup, vector_below, other_id, apply_op, play_from, play}
+use Rattle.spec.specs.Log.{Op, upsert, delete, Entry, Log, Vectors, components, components_at, lookup, vector_below, other_id, apply_op, play_from, play}
 use Rattle.spec_laws.proofs.Lists.{by-test}
 use Rattle.spec_laws.proofs.Rising.{put-rising, filter-rising}
 use Rattle.spec_laws.proofs.Log.Numbered.{Numbered, own-offset}

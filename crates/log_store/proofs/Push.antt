@@ -1,5 +1,5 @@
 -- What a push leaves: the log with one entry more, the table with its operation played, all well formed. Assumes nothing.
-use Prim.Native.Nat.{ℕ, zero, suc, ◌+◌, ◌≤◌, ◌<◌}
+use Prim.Native.Nat.{ℕ, ◌+◌, ◌≤◌, ◌<◌}
 use mathlib.Core.Path.{◌≡◌, refl, sym, ap, ◌∙◌, subst}
 use mathlib.Core.Bool.{Bool, true, false, cond}
 use mathlib.Core.List.{List, [], ◌∷◌, ◌++◌, map}
@@ -7,23 +7,23 @@ use mathlib.Core.Logic.{⊎_elim, ◌≢◌}
 use native.Mathlib.Nat.{eq-or-lt_of_le}
 use native.Mathlib.Omega.{arith}
 use lib.Dec.{T, eqb, leb}
-use lib.Ieee.{Float, binary32, of_bits, fits}
+use lib.Ieee.{binary32, of_bits, fits}
 use lib.Ieee.Bits.{of_bits-fits}
-use lib.ListN.{length, get_or, set}
+use lib.ListN.{length}
 use lib.Seq.{get_or-set_other, get_or-set_same}
-use borrow.Author.Tests.{eq-eqb, ne_eqb, leb-true, le-leb, eqb-true}
+use borrow.Author.Tests.{eq-eqb, ne_eqb, leb-true, le-leb}
 use Rattle.spec.specs.Lists.{◌and◌, every, put, filter}
 use Rattle.spec.specs.Nearest.Order.{in_domain, bits_in_domain}
 use Rattle.spec.specs.Node.Wire.{float_of, floats_of}
 use Rattle.spec.specs.Node.WellFormed.{component, well_formed_vector, well_formed_op, well_formed_entry}
-use Rattle.spec.specs.Log.{Op, upsert, delete, Entry, Log, Vectors, apply_op, play, ShardReplica, push}
+use Rattle.spec.specs.Log.{upsert, delete, Entry, Log, Vectors, apply_op, play, push}
 use Rattle.spec.specs.declared.Metric.{Metric}
-use Rattle.spec_laws.proofs.Lists.{and_true, by-test}
+use Rattle.spec_laws.proofs.Lists.{and_true}
 use Rattle.spec_laws.proofs.Map.Rows.{every_tail, every_cons}
 use Rattle.spec_laws.proofs.Log.Numbered.{Numbered, numbered_snoc}
 use Rattle.spec_laws.proofs.Log.Play.{play_snoc}
 use Rattle.log_store.specs.View.{Columns, Room, log_of, op_from, written, written_all}
-use Rattle.log_store.specs.Table.{Row, Tabled, rows_of, row_below, other_row, row_op, play_rows, vectors_of}
+use Rattle.log_store.specs.Table.{Row, Tabled, row_below, other_row, row_op, play_rows}
 use Rattle.log_store.specs.Store.{Store, lent, store_log, store_rows, replica_in, code_fits, well_formed_store, Sized, Storable, Spares, Pushed}
 use Rattle.log_store.proofs.Columns.{log-length}
 use Rattle.log_store.proofs.PlayRows.{rows_snoc}

@@ -1,18 +1,17 @@
 -- Laws of the rows that two columns make: rows put in, replaced and taken out, as the columns are. Assumes nothing.
 use Prim.Native.Nat.{ℕ, zero, suc, ◌+◌, ◌-◌, ◌≤◌, ◌<◌, min}
 use mathlib.Core.Path.{◌≡◌, refl, sym, ap, ◌∙◌, subst}
-use mathlib.Core.Bool.{Bool, true, false, cond}
+use mathlib.Core.Bool.{Bool, true, false}
 use mathlib.Core.List.{List, [], ◌∷◌, ◌++◌, append_assoc}
 use native.Mathlib.Numerals.{add-one}
 use native.Mathlib.Omega.{arith}
-use lib.Dec.{eqb, ltb}
-use borrow.Author.Tests.{ltb-true, ltb-false, lt-ltb, le-ltb, eq-eqb, ne_eqb}
+use lib.Dec.{ltb}
+use borrow.Author.Tests.{ltb-true, lt-ltb, le-ltb}
 use lib.ListN.{length, take, drop, get_or, set, length-append, length-take, length-drop, take-append-drop}
-use lib.Seq.{take_at, length-take-le, take-append-le, drop-append-le, take-set-lt, set_split, split_at, get_or-take, take-take}
-use Rattle.spec.specs.Lists.{lead, put, filter, rising}
-use Rattle.spec_laws.proofs.Rising.{ByKey, Below, rising_tail, rising-head}
-use Rattle.log_store.specs.Table.{Row, zipped, rows_of, row_below, other_row, inserted, removed}
-use Rattle.log_store.proofs.Put.{lead_true, lead_false, filter_true, filter_false, put-level, put-between}
+use lib.Seq.{take_at, length-take-le, drop-append-le, take-set-lt, set_split, split_at, get_or-take, take-take}
+use Rattle.spec.specs.Lists.{lead, put}
+use Rattle.log_store.specs.Table.{Row, zipped, rows_of, row_below, inserted, removed}
+use Rattle.log_store.proofs.Put.{put-level, put-between}
 
 pub zipped-append : (a a' b b' : List ℕ) → length a ≡ length b → zipped (a ++ a') (b ++ b') ≡ zipped a b ++ zipped a' b'
 unfolding zipped

@@ -1,5 +1,5 @@
 -- The columns with one entry more: their log has that entry more, and there is room as before. Assumes nothing.
-use Prim.Native.Nat.{ℕ, zero, suc, ◌+◌, ◌*◌, ◌-◌, ◌≤◌, ◌<◌}
+use Prim.Native.Nat.{ℕ, ◌+◌, ◌*◌, ◌≤◌, ◌<◌}
 use mathlib.Core.Path.{◌≡◌, refl, sym, ap, ◌∙◌, subst}
 use mathlib.Core.Bool.{Bool, true, false, cond}
 use mathlib.Core.List.{List, [], ◌∷◌, ◌++◌}
@@ -9,11 +9,11 @@ use native.Mathlib.Omega.{arith}
 use lib.Dec.{eqb}
 use lib.Ieee.{Float}
 use borrow.Author.Tests.{eqb-true}
-use lib.ListN.{length, take, drop, get_or, set, length-append, length-drop, length-set, take-append-drop}
+use lib.ListN.{length, take, drop, get_or, length-append, length-drop, length-set, take-append-drop}
 use lib.Seq.{drop-append-le, take-append-le, length-take-le, drop_at, take_at, get_or-set_other, get_or-set_same}
 use Rattle.spec.specs.Node.Wire.{floats_of}
-use Rattle.spec.specs.Log.{Op, upsert, delete, Entry, Log}
-use Rattle.log_store.specs.View.{Columns, columns, firsts, stretch, op_of, entry_of, log_of, Room, op_from, written}
+use Rattle.spec.specs.Log.{Op, upsert, delete}
+use Rattle.log_store.specs.View.{Columns, stretch, op_of, entry_of, log_of, Room, op_from, written}
 use Rattle.log_store.proofs.Firsts.{firsts_same, firsts-next}
 use Rattle.log_store.proofs.Bits.{floats-length}
 

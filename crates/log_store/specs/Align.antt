@@ -1,8 +1,8 @@
 -- Alignment over lent columns (shard.rs, adopt, epoch_ends): an epoch table in two columns, what an adoption leaves.
 -- Definitions only.
-use Rattle.std.specs.Prelude.{ℕ, ◌≤◌, ◌≡◌, Bool, true, cond, List, [], ◌∷◌, ltb, Float, take, length}
+use Rattle.std.specs.Prelude.{ℕ, ◌≡◌, Bool, true, cond, List, [], ◌∷◌, ltb, Float, take}
 use Rattle.spec.specs.Lists.{lead}
-use Rattle.spec.specs.Log.{Op, Entry, End, ShardReplica, last_offset, agrees, epoch_ends, adopted}
+use Rattle.spec.specs.Log.{Op, End, last_offset, agrees, epoch_ends, adopted}
 use Rattle.spec.specs.Layout.Message.{Reply, reply_stale, reply_adopted}
 use Rattle.spec.specs.declared.Metric.{Metric}
 use Rattle.log_store.specs.View.{columns, log_of}

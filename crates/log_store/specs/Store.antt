@@ -3,7 +3,7 @@ use Rattle.std.specs.Prelude.{ℕ, zero, suc, ◌+◌, ◌-◌, ◌≤◌, ◌�
 use Rattle.spec.specs.Lists.{◌and◌, every}
 use Rattle.spec.specs.Limits.{max_components, max_entries, min_floats}
 use Rattle.std.proofs.Math.Option.{Option, none, some}
-use Rattle.spec.specs.Log.{Entry, Log, ShardReplica, push, Stored, through, gap, stale, StoreResult, store}
+use Rattle.spec.specs.Log.{Entry, Log, ShardReplica, push, Stored, through, gap, stale, store}
 use Rattle.spec.specs.Node.Client.{overfull}
 use Rattle.log_store.specs.declared.replica.Outcome.{Outcome}
 use Rattle.log_store.specs.declared.replica.Outcome.TheVariants.{Through, Gap, Stale, Full}

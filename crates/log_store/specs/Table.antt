@@ -3,7 +3,7 @@
 use Rattle.std.specs.Prelude.{ℕ, zero, suc, ◌+◌, ◌-◌, ◌≤◌, ◌≡◌, Bool, true, false, cond, List, [], ◌∷◌, ◌++◌, map, eqb, ltb, length, take, drop, get_or}
 use Rattle.spec.specs.Lists.{filter, put}
 use Rattle.spec.specs.Nearest.Search.{Vector}
-use Rattle.spec.specs.Log.{Op, upsert, delete, Entry, Log, Vectors, lookup}
+use Rattle.spec.specs.Log.{Op, upsert, delete, Log, Vectors, lookup}
 
 pub record Row : Type 0 where
   pub id : ℕ

@@ -1,5 +1,5 @@
 -- How lent columns are read as `spec`'s log, table and replica. Definitions only.
-use Rattle.std.specs.Prelude.{ℕ, zero, suc, ◌+◌, ◌*◌, ◌≤◌, ◌<◌, Bool, true, false, cond, List, [], ◌∷◌, ◌++◌, eqb, Float, length, get_or, take, drop, set, ◌≡◌}
+use Rattle.std.specs.Prelude.{ℕ, zero, suc, ◌+◌, ◌*◌, ◌≤◌, ◌<◌, cond, List, [], ◌∷◌, ◌++◌, eqb, Float, length, get_or, take, drop, set, ◌≡◌}
 use Rattle.spec.specs.Node.Wire.{floats_of}
 use Rattle.spec.specs.Log.{Op, upsert, delete, Entry, Log, lookup}
 

@@ -32,12 +32,10 @@ pub fn kept(
     requires { (count ≤ length epochs.now) × (count ≤ length offsets.now) × (pairs ≤ length froms.now) × (pairs ≤ length ends.now) }
     ensures { KeptOf epochs.now offsets.now count end.0 (table_of froms.now ends.now pairs) result }
 {
-    let mut i: usize = 0;
-    while i < count {
+    for i in 0..count {
         if !agrees(epochs[i], offsets[i], end, froms, ends, pairs) {
             return i;
         }
-        i += 1;
     }
     count
 }
@@ -66,16 +64,13 @@ pub fn epoch_ends(
     ensures { (result ≤ count) × EndsOf epochs.now offsets.now count (table_of froms.new ends.new result) }
 {
     let mut n: usize = 0;
-    let mut i: usize = 0;
-    while i < count {
+    for i in 0..count {
         if is_last(froms, n, epochs[i]) {
             ends[n - 1] = offsets[i];
-            i += 1;
         } else {
             froms[n] = epochs[i];
             ends[n] = offsets[i];
             n += 1;
-            i += 1;
         }
     }
     n

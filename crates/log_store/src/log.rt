@@ -14,10 +14,8 @@ fn write_vector(dst: &mut [f32], bits: &[u32])
     requires { (length dst.old ≡ length bits.now) × (every bits_in_domain bits.now ≡ true) }
     ensures { dst.new ≡ floats_of bits.now }
 {
-    let mut i: usize = 0;
-    while i < dst.len() {
+    for i in 0..dst.len() {
         dst[i] = f32::from_bits(bits[i]);
-        i += 1;
     }
 }
 

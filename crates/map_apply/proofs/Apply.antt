@@ -26,7 +26,6 @@ use Rattle.map_tables.specs.View.{answer_of, outcome_of, view_map, view_sessions
 use Rattle.map_tables.specs.declared.Command.{Command}
 use Rattle.map_tables.specs.declared.Command.TheVariants.{Create, Drop, Register, MarkNodeDead, OfShard, Bench}
 use Rattle.map_tables.specs.declared.Outcome.{Outcome}
-use Rattle.map_tables.specs.declared.Outcome.TheVariants.{Applied}
 use Rattle.map_tables.specs.declared.Request.{Request}
 use Rattle.map_tables.specs.declared.ShardKey.{ShardKey}
 use Rattle.map_tables.specs.declared.ShardMap.{ShardMap}

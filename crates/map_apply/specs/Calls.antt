@@ -2,7 +2,6 @@
 use Rattle.std.specs.Prelude.{ℕ, ◌≡◌, true, cond, List}
 use Rattle.std.proofs.Math.Option.{Option, none, some}
 use Rattle.spec.specs.Refusals.{undecodable, malformed}
-use Rattle.spec.specs.Map.Tables.{Answer, refused}
 use Rattle.spec.specs.Map.Apply.{Applied, apply}
 use Rattle.spec.specs.Map.Calls.{refused_with}
 use Rattle.spec.specs.Map.WellFormed.{well_formed_map}

@@ -1,12 +1,10 @@
 -- Create's answer, case by case (paper 01, 'Who is turned down': 2, 3, 4, 5, 23). Assumes nothing.
-use mathlib.Core.Path.{◌≡◌, refl, sym, ap, ◌∙◌}
+use mathlib.Core.Path.{◌≡◌, refl}
 use mathlib.Core.Bool.{Bool, true, false}
-use mathlib.Core.List.{List}
 use mathlib.Core.Option.{Option, none, some}
 use Prim.Native.Nat.{ℕ, ◌≤◌, ◌<◌}
 use native.Mathlib.Omega.{arith}
 use lib.ListN.{length}
-use lib.Dec.{eqb, ltb, leb}
 use borrow.Author.Tests.{eq-eqb, ne_eqb, lt-ltb, le-ltb, le-leb, lt-leb}
 use Rattle.spec.specs.Lists.{◌and◌, every}
 use Rattle.spec.specs.Keys.{Name}
@@ -17,15 +15,14 @@ use Rattle.spec.specs.Map.Change.{accepts, rejects}
 use Rattle.spec.specs.Map.Create.{Placement, has_collection, zero_in, list_matches, matches, first_not_alive, created_shards, create_room, create_on, create_answer}
 use Rattle.spec.specs.declared.DataNodeId.{DataNodeId}
 use Rattle.map_create.specs.Walk.{walked_of}
-use Rattle.map_tables.specs.declared.Walked.{Walked}
-use Rattle.map_tables.specs.declared.Walked.TheVariants.{All, NotAlive}
+use Rattle.std.specs.Prelude.{None, Some}
 
 -- what the walk's end says
-pub walked_some : (o : Option ℕ) (n : DataNodeId) → walked_of o ≡ NotAlive n → o ≡ some n.0
+pub walked_some : (o : Option ℕ) (n : DataNodeId) → walked_of o ≡ Some n → o ≡ some n.0
 walked_some none n e = let z : ◌≡◌ {A = ℕ} 0 1 = cc in absurd (omega arith)
 walked_some (some k) n e = cc
 
-pub walked_none : (o : Option ℕ) → walked_of o ≡ All → o ≡ none
+pub walked_none : (o : Option ℕ) → walked_of o ≡ None → o ≡ none
 walked_none none e = refl
 walked_none (some k) e = let z : ◌≡◌ {A = ℕ} 0 1 = cc in absurd (omega arith)
 

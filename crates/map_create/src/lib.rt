@@ -8,7 +8,7 @@ ghost use Rattle.spec.specs.Map.Create.{add_all, list_matches, zero_in};
 ghost use Rattle.map_tables.specs.View.{view_in_sync, view_list, view_placement, view_primary, view_spec};
 
 use map_tables::holders_of::synced_added;
-use map_tables::{InSync, NodeList, Placement, Primary, Spec};
+use map_tables::{InSync, NodeList, Placement, Spec};
 use spec::DataNodeId;
 
 // How many nodes a list has.
@@ -41,8 +41,7 @@ pub fn lists_match(p: Placement, replication: u32) -> bool
 {
     let most = replication as usize;
     let count = p.count;
-    let mut i: usize = 0;
-    while i < count {
+    for i in 0..count {
         let list = p.lists[i];
         let n = list_size(list);
         if n == 0 {
@@ -51,7 +50,6 @@ pub fn lists_match(p: Placement, replication: u32) -> bool
         if most < n {
             return false;
         }
-        i += 1;
     }
     true
 }
@@ -65,24 +63,22 @@ pub fn listed_synced(list: NodeList) -> InSync
         items: [DataNodeId(0); 8],
         count: 0,
     };
-    let mut j: usize = 0;
-    while j < n {
+    for j in 0..n {
         let node = list.nodes[j];
         let more = synced_added(out, node);
         out = more;
-        j += 1;
     }
     out
 }
 
 // The first node of a list is the primary.
-pub fn first_of(list: NodeList) -> Primary
+pub fn first_of(list: NodeList) -> Option<DataNodeId>
     ensures { view_primary result ≡ nth (view_list list) 0 }
 {
     let n = list_size(list);
     if n == 0 {
-        return Primary::Nobody;
+        return None;
     }
     let node = list.nodes[0];
-    Primary::At(node)
+    Some(node)
 }

@@ -9,26 +9,21 @@ ghost use Rattle.map_names.specs.Texts.{Text, bytes_at, KeyThere, key_in};
 use map_tables::{Address, Name, ShardKey};
 use wire_read::{KeyPart, Part};
 
-// The bytes of a text, from the output's start on.
-fn load_bytes(s: &[u8], p: Part, out: &mut [u8])
-    requires { (p.len ≤ length out.old) × (p.at + p.len ≤ length s.now) }
-    ensures { take p.len out.new ≡ bytes_at s.now p }
+// The bytes of a text, at the start of an array.
+fn loaded<const N: usize>(s: &[u8], p: Part) -> [u8; N]
+    requires { Text N s.now p }
+    ensures { take p.len result ≡ bytes_at s.now p }
 {
-    let at = p.at;
-    let len = p.len;
-    let mut i: usize = 0;
-    while i < len {
-        out[i] = s[at + i];
-        i += 1;
-    }
+    let mut out = [0u8; N];
+    out[..p.len].copy_from_slice(&s[p.at..p.at + p.len]);
+    out
 }
 
 pub fn load_name(s: &[u8], p: Part) -> Name
     requires { Text 32 s.now p }
     ensures { (view_name result ≡ bytes_at s.now p) × (result.len ≤ 32) }
 {
-    let mut bytes = [0u8; 32];
-    load_bytes(s, p, &mut bytes);
+    let bytes = loaded(s, p);
     Name {
         bytes: bytes,
         len: p.len,
@@ -39,8 +34,7 @@ pub fn load_address(s: &[u8], p: Part) -> Address
     requires { Text 64 s.now p }
     ensures { (view_address result ≡ bytes_at s.now p) × (result.len ≤ 64) }
 {
-    let mut bytes = [0u8; 64];
-    load_bytes(s, p, &mut bytes);
+    let bytes = loaded(s, p);
     Address {
         bytes: bytes,
         len: p.len,

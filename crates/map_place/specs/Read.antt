@@ -12,8 +12,8 @@ use Rattle.map_tables.specs.View.{view_list}
 use Rattle.map_tables.specs.declared.NodeList.{NodeList}
 use Rattle.map_place.specs.declared.Load.{Load}
 use Rattle.map_place.specs.declared.Loads.{Loads}
-use Rattle.map_place.specs.declared.Best.{Best}
-use Rattle.map_place.specs.declared.Best.TheVariants as best
+use Rattle.std.specs.declared.option.Option as option
+use Rattle.std.specs.Prelude.{None, Some}
 
 abbrev pub view_load : Load → place.Load
 view_load l = record { node = l.node.0; count = l.count }
@@ -54,9 +54,9 @@ free_loads rs ss ns = collect (may_take rs) (λ (i : NodeInfo). record { node = 
 
 -- ---- choosing
 
-abbrev pub best_of : Best → Option place.Load
-best_of best.Nobody = none
-best_of (best.At l) = some (view_load l)
+abbrev pub best_of : option.Option Load → Option place.Load
+best_of None = none
+best_of (Some l) = some (view_load l)
 
 -- state.rs, min_by_key: the lighter of the best so far and the next
 abbrev pub better : Option place.Load → place.Load → place.Load

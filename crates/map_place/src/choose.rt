@@ -6,8 +6,8 @@ ghost use Rattle.spec.specs.Map.Place.{lighter, lightest};
 ghost use Rattle.map_tables.specs.View.{view_list};
 ghost use Rattle.map_place.specs.Read.{view_load, loads_in, best_of, better, unlisted, Light, Columns, Raised, ChosenOne};
 
+use crate::Load;
 use crate::lists::{is_listed, listed};
-use crate::{Best, Load};
 use map_tables::NodeList;
 use spec::DataNodeId;
 
@@ -24,35 +24,35 @@ pub fn is_lighter(a: Load, b: Load) -> bool
     a.node.0 < b.node.0
 }
 
-pub fn lighter_of(best: Best, l: Load) -> Best
+pub fn lighter_of(best: Option<Load>, l: Load) -> Option<Load>
     ensures { best_of result ≡ some (better (best_of best) (view_load l)) }
 {
-    let Best::At(x) = best else {
-        return Best::At(l);
+    let Some(x) = best else {
+        return Some(l);
     };
     if is_lighter(l, x) {
-        return Best::At(l);
+        return Some(l);
     }
-    Best::At(x)
+    Some(x)
 }
 
-pub fn lightest_of(ids: &[u64; 32], counts: &[u64; 32], count: usize, taken: NodeList) -> Best
+pub fn lightest_of(
+    ids: &[u64; 32],
+    counts: &[u64; 32],
+    count: usize,
+    taken: NodeList,
+) -> Option<Load>
     requires { (Columns ids.now counts.now count) × (taken.count ≤ 8) }
     ensures { best_of result ≡ lightest (filter (unlisted (view_list taken)) (loads_in ids.now counts.now count)) }
 {
-    let mut best = Best::Nobody;
-    let mut i: usize = 0;
-    while i < count {
+    let mut best = None;
+    for i in 0..count {
         let l = Load {
             node: DataNodeId(ids[i]),
             count: counts[i],
         };
-        if is_listed(taken, l.node) {
-            i += 1;
-        } else {
-            let next = lighter_of(best, l);
-            best = next;
-            i += 1;
+        if !is_listed(taken, l.node) {
+            best = lighter_of(best, l);
         }
     }
     best
@@ -63,13 +63,11 @@ fn raise(ids: &[u64; 32], counts: &mut [u64; 32], count: usize, node: u64)
     requires { (Columns ids.now counts.old count) × Light 4096 (loads_in ids.now counts.old count) }
     ensures { Raised ids.now counts.old counts.new count node }
 {
-    let mut i: usize = 0;
-    while i < count {
+    for i in 0..count {
         if ids[i] == node {
             counts[i] = counts[i] + 1;
             return;
         }
-        i += 1;
     }
 }
 
@@ -79,7 +77,7 @@ pub fn choose_one(ids: &[u64; 32], counts: &mut [u64; 32], count: usize, list: N
     ensures { ChosenOne ids.now counts.old counts.new count list result }
 {
     let best = lightest_of(ids, counts, count, list);
-    let Best::At(l) = best else {
+    let Some(l) = best else {
         return list;
     };
     let id = l.node;

@@ -24,32 +24,8 @@ pub struct Loads {
     pub count: usize,
 }
 
-// The lightest node seen so far.
-#[derive(Clone, Copy)]
-pub enum Best {
-    Nobody,
-    At(Load),
-}
+// What `place` answers: lists of nodes, none where too few nodes live, or 23 and 24.
+pub type PlaceAnswer = Result<Option<Placement>, Refusal>;
 
-// How `place` ends: none, a placement, or 23 and 24.
-#[derive(Clone, Copy)]
-pub enum Placing {
-    Nowhere,
-    Placed,
-    Refused(Refusal),
-}
-
-// Unless `how` is `Placed`, `placement` has no list.
-#[derive(Clone, Copy)]
-pub struct PlaceAnswer {
-    pub how: Placing,
-    pub placement: Placement,
-}
-
-// How `replacement` ends: none, a node, or 24.
-#[derive(Clone, Copy)]
-pub enum Replaced {
-    Nobody,
-    By(DataNodeId),
-    Refused(Refusal),
-}
+// What `replacement` answers: a node, none, or 24.
+pub type Replaced = Result<Option<DataNodeId>, Refusal>;

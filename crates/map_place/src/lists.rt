@@ -29,16 +29,7 @@ pub fn is_listed(l: NodeList, node: DataNodeId) -> bool
     requires { l.count ≤ 8 }
     ensures { result ≡ any (eqb node.0) (view_list l) }
 {
-    let count = l.count;
-    let mut i: usize = 0;
-    while i < count {
-        let id = l.nodes[i];
-        if node.0 == id.0 {
-            return true;
-        }
-        i += 1;
-    }
-    false
+    l.nodes[..l.count].iter().any(|id| node.0 == id.0)
 }
 
 pub fn listed(l: NodeList, node: DataNodeId) -> NodeList

@@ -7,7 +7,7 @@ ghost use Rattle.map_place.specs.Read.{loads_in, view_loads, Light, Columns, Cho
 
 use crate::choose::choose_one;
 use crate::lists::{no_lists, no_nodes};
-use crate::{Loads, PlaceAnswer, Placing};
+use crate::{Loads, PlaceAnswer};
 use map_tables::{NodeList, Placement, Refusal, Spec};
 
 fn choose_list(
@@ -20,11 +20,8 @@ fn choose_list(
     ensures { ChosenList ids.now counts.old counts.new count replication result }
 {
     let mut list = no_nodes();
-    let mut i: usize = 0;
-    while i < replication {
-        let next = choose_one(ids, counts, count, list);
-        list = next;
-        i += 1;
+    for i in 0..replication {
+        list = choose_one(ids, counts, count, list);
     }
     list
 }
@@ -41,26 +38,12 @@ fn place_lists(
 {
     let empty = no_lists();
     let mut lists = empty.lists;
-    let mut i: usize = 0;
-    while i < shards {
-        let list = choose_list(ids, counts, count, replication);
-        lists[i] = list;
-        i += 1;
+    for i in 0..shards {
+        lists[i] = choose_list(ids, counts, count, replication);
     }
     Placement {
         lists: lists,
         count: shards,
-    }
-}
-
-// Internal: an answer without a placement.
-pub fn unplaced(how: Placing) -> PlaceAnswer
-    ensures { result.how ≡ how }
-{
-    let empty = no_lists();
-    PlaceAnswer {
-        how: how,
-        placement: empty,
     }
 }
 
@@ -72,19 +55,16 @@ pub fn place_on(loads: Loads, spec: Spec) -> PlaceAnswer
     let shards = spec.shards as usize;
     let replication = spec.replication as usize;
     if loads.count < replication {
-        return unplaced(Placing::Nowhere);
+        return Ok(None);
     }
     if 16 < shards {
-        return unplaced(Placing::Refused(Refusal::NoRoom));
+        return Err(Refusal::NoRoom);
     }
     if 8 < replication {
-        return unplaced(Placing::Refused(Refusal::NoRoom));
+        return Err(Refusal::NoRoom);
     }
     let ids = loads.ids;
     let mut counts = loads.counts;
     let placement = place_lists(&ids, &mut counts, loads.count, shards, replication);
-    PlaceAnswer {
-        how: Placing::Placed,
-        placement: placement,
-    }
+    Ok(Some(placement))
 }

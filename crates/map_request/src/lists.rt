@@ -22,10 +22,8 @@ fn load_list(s: &[u8], p: Part) -> NodeList
 {
     let n = p.len;
     let mut nodes = [DataNodeId(0); 8];
-    let mut i: usize = 0;
-    while i < n {
+    for i in 0..n {
         nodes[i] = wire_read::parts::node_at(s, p, i);
-        i += 1;
     }
     NodeList {
         nodes: nodes,
@@ -40,12 +38,10 @@ pub fn load_placement(s: &[u8], p: Part) -> Placement
     let n = p.len;
     let mut lists = [no_list(); 16];
     let mut at = p.at;
-    let mut i: usize = 0;
-    while i < n {
+    for i in 0..n {
         let list = wire_read::parts::nodes_at(s, at);
         lists[i] = load_list(s, list);
         at = list.at + list.len * 8;
-        i += 1;
     }
     Placement {
         lists: lists,

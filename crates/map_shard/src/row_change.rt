@@ -10,16 +10,16 @@ use map_tables::answers::{applied, no_key, refused, rejected};
 use map_tables::holders_of::{
     has_holder, has_synced, holder_added, holder_removed, synced_added, synced_removed,
 };
-use map_tables::{InSync, Primary, Refusal, Rejection, ShardKey, ShardRow, Verdict};
+use map_tables::{InSync, Refusal, Rejection, ShardKey, ShardRow, Verdict};
 use spec::{DataNodeId, Epoch, Replica};
 
 // Internal: whether the node is the primary.
-pub fn is_primary(p: Primary, node: DataNodeId) -> bool
+pub fn is_primary(p: Option<DataNodeId>, node: DataNodeId) -> bool
     ensures { result ≡ change.is_primary node.0 (view_primary p) }
 {
     match p {
-        Primary::Nobody => false,
-        Primary::At(n) => {
+        None => false,
+        Some(n) => {
             if n.0 == node.0 {
                 return true;
             }
@@ -156,13 +156,13 @@ pub fn without_holder(s: ShardRow, node: DataNodeId) -> ShardRow
 }
 
 // Internal: another node that was primary leaves the in-sync set.
-fn deposed(p: Primary, s: InSync, node: DataNodeId) -> InSync
+fn deposed(p: Option<DataNodeId>, s: InSync, node: DataNodeId) -> InSync
     requires { s.count ≤ 8 }
     ensures { (view_in_sync result ≡ change.deposed node.0 (view_primary p) (view_in_sync s)) × (result.count ≤ 8) }
 {
     match p {
-        Primary::Nobody => s,
-        Primary::At(old) => {
+        None => s,
+        Some(old) => {
             if old.0 == node.0 {
                 return s;
             }
@@ -184,7 +184,7 @@ pub fn with_primary(s: ShardRow, node: DataNodeId) -> ShardRow
     ShardRow {
         key: key,
         replicas: replicas,
-        primary: Primary::At(node),
+        primary: Some(node),
         insync: synced,
         epoch: Epoch(epoch + 1),
     }

@@ -4,7 +4,7 @@ use mathlib.Core.List.{[]}
 use Rattle.map_tables.specs.declared.NodeRow.{NodeRow}
 use Rattle.map_tables.specs.declared.NodeList.{NodeList}
 use Rattle.map_tables.specs.declared.ShardRow.{ShardRow}
-use Rattle.map_tables.specs.declared.Primary.TheVariants.{Nobody}
+use Rattle.std.specs.Prelude.{None}
 use Rattle.spec.specs.declared.DataNodeId.{DataNodeId}
 
 abbrev pub no_node : NodeRow
@@ -20,7 +20,7 @@ abbrev pub no_shard : ShardRow
 no_shard = record {
   key = record { collection = record { bytes = []; len = 0 }; shard = 0 };
   replicas = record { items = []; count = 0 };
-  primary = Nobody;
+  primary = None;
   insync = record { items = []; count = 0 };
   epoch = record { 0 = 0 };
 }

@@ -3,12 +3,14 @@
 use mathlib.Core.Path.{◌≡◌, refl, sym, ap, ◌∙◌, subst, subst⁻¹}
 use mathlib.Core.Bool.{Bool, true, false, cond, not}
 use mathlib.Core.List.{List, [], ◌∷◌, ◌++◌, map}
-use mathlib.Core.Option.{Option, none, some}
+use mathlib.Core.Option.{none, some}
 use Prim.Native.Nat.{ℕ, zero, suc, ◌+◌, ◌-◌, ◌≤◌, ◌<◌}
 use native.Mathlib.Numerals.{add-one}
 use native.Mathlib.Omega.{arith}
 use lib.ListN.{length, take, drop, get_or, set, length-map, length-append, drop_of_length-le, take-append-drop, get_or-map}
-use lib.Seq.{drop-cons, take-suc, take-suc-set, drop-set-lt, append_snoc, length-take-le, get_or-take, take-add, take_at, drop_at, take-append-add, take-set-lt, set_split}
+use lib.Seq.{drop-cons, take-suc, take-suc-set, drop-set-lt, append_snoc, length-take-le, get_or-take, take-add, take_at, drop_at, take-append-add, take-set-lt}
+use Rattle.std.specs.List.{list_any}
+use Rattle.std.specs.Prelude.{◌||◌}
 use Rattle.spec.specs.Lists.{find, filter, any, every, lead, put}
 use Rattle.spec.specs.Map.Apply.{update}
 use Rattle.spec_laws.proofs.Lists.{by-test, not_both}
@@ -271,6 +273,16 @@ module _ {ℓ} {A : Type ℓ} (p : A → Bool) (xs : List A) (n : ℕ) (le : n �
   pub any-end : n ≤ i → any p (take n xs) ≡ false
   unfolding any
   any-end h = inv ∙ rw (drop_of_length-le (take n xs) {i = i} (rw (length-take-le n xs le) h))
+
+-- as the library's test of a list
+pub any-list : {A : Type 0} (p : A → Bool) (l : List A) → list_any p l ≡ any p l
+unfolding any
+any-list p [] = refl
+any-list p (y ∷ ys) = go (p y) (any-list p ys)
+  where
+    go : (b : Bool) → list_any p ys ≡ any p ys → (b || list_any p ys) ≡ cond b true (any p ys)
+    go true e = refl
+    go false e = e
 
 -- ---- rows left out
 

@@ -1,5 +1,5 @@
 -- How names, addresses and keys are read: the bytes in use, in order. Definitions only.
-use Rattle.std.specs.Prelude.{ℕ, take}
+use Rattle.std.specs.Prelude.{take}
 use Rattle.spec.specs.Keys as keys
 use Rattle.map_tables.specs.declared.Name.{Name}
 use Rattle.map_tables.specs.declared.Address.{Address}

@@ -1,5 +1,5 @@
 -- How the code's tables are read as the shard map of `spec`: of each array the part in use. Definitions only.
-use Rattle.std.specs.Prelude.{ℕ, Bool, true, false, List, map, take}
+use Rattle.std.specs.Prelude.{ℕ, List, map, take}
 use Rattle.std.proofs.Math.Option.{Option, none, some}
 use Rattle.spec.specs.Keys as keys
 use Rattle.spec.specs.Refusals as said
@@ -12,8 +12,8 @@ use Rattle.map_tables.specs.Names.{view_name, view_address, view_key}
 use Rattle.map_tables.specs.declared.NodeRow.{NodeRow}
 use Rattle.map_tables.specs.declared.Spec.{Spec}
 use Rattle.map_tables.specs.declared.CollectionRow.{CollectionRow}
-use Rattle.map_tables.specs.declared.Primary.{Primary}
-use Rattle.map_tables.specs.declared.Primary.TheVariants.{Nobody, At}
+use Rattle.std.specs.declared.option.Option as option
+use Rattle.std.specs.Prelude.{None, Some}
 use Rattle.map_tables.specs.declared.Holders.{Holders}
 use Rattle.map_tables.specs.declared.InSync.{InSync}
 use Rattle.map_tables.specs.declared.ShardRow.{ShardRow}
@@ -40,8 +40,8 @@ use Rattle.map_tables.specs.declared.Outcome.{Outcome}
 use Rattle.map_tables.specs.declared.Outcome.TheVariants.{Applied, Rejected}
 use Rattle.map_tables.specs.declared.Refusal.{Refusal}
 use Rattle.map_tables.specs.declared.Refusal.TheVariants.{Undecodable, NoRoom, Malformed, LastEpoch}
-use Rattle.map_tables.specs.declared.Answer.{Answer}
-use Rattle.map_tables.specs.declared.Answer.TheVariants.{Done, Refused}
+use Rattle.std.specs.Prelude.{Result}
+use Rattle.std.specs.Prelude.{Ok, Err}
 use Rattle.map_tables.specs.declared.Verdict.{Verdict}
 use Rattle.map_tables.specs.declared.SessionRow.{SessionRow}
 use Rattle.map_tables.specs.declared.Change.{Change}
@@ -69,9 +69,9 @@ view_spec s = record { dimension = s.dimension; metric = s.metric; shards = s.sh
 abbrev pub view_collection : CollectionRow → tables.Collection
 view_collection c = record { name = view_name c.name; spec = view_spec c.spec }
 
-abbrev pub view_primary : Primary → Option ℕ
-view_primary Nobody = none
-view_primary (At n) = some n.0
+abbrev pub view_primary : option.Option DataNodeId → Option ℕ
+view_primary None = none
+view_primary (Some n) = some n.0
 
 abbrev pub view_holders : Holders → List Replica
 view_holders h = take h.count h.items
@@ -118,9 +118,9 @@ refusal_of NoRoom = said.no_room
 refusal_of Malformed = said.malformed
 refusal_of LastEpoch = said.last_epoch
 
-abbrev pub answer_in : Answer → keys.Key → tables.Answer
-answer_in (Done o) k = tables.outcome (outcome_of o k)
-answer_in (Refused r) k = tables.refused (refusal_of r)
+abbrev pub answer_in : Result Outcome Refusal → keys.Key → tables.Answer
+answer_in (Ok o) k = tables.outcome (outcome_of o k)
+answer_in (Err r) k = tables.refused (refusal_of r)
 
 abbrev pub answer_of : Verdict → tables.Answer
 answer_of v = answer_in v.answer (view_key v.key)

@@ -5,7 +5,7 @@ ghost use Rattle.spec.specs.Map.Change.{accepts, rejects};
 ghost use Rattle.map_tables.specs.Names.{view_key};
 ghost use Rattle.map_tables.specs.View.{answer_of, rejection_of, refusal_of};
 
-use crate::{Answer, Name, Outcome, Refusal, Rejection, ShardKey, Verdict};
+use crate::{Name, Outcome, Refusal, Rejection, ShardKey, Verdict};
 
 // Internal: the key beside an answer that has none.
 pub fn no_key() -> ShardKey {
@@ -25,7 +25,7 @@ pub fn applied() -> Verdict
 {
     let key = no_key();
     Verdict {
-        answer: Answer::Done(Outcome::Applied),
+        answer: Ok(Outcome::Applied),
         key: key,
     }
 }
@@ -35,7 +35,7 @@ pub fn rejected(r: Rejection, key: ShardKey) -> Verdict
     ensures { answer_of result ≡ rejects (rejection_of r (view_key key)) }
 {
     Verdict {
-        answer: Answer::Done(Outcome::Rejected(r)),
+        answer: Ok(Outcome::Rejected(r)),
         key: key,
     }
 }
@@ -46,7 +46,7 @@ pub fn refused(r: Refusal) -> Verdict
 {
     let key = no_key();
     Verdict {
-        answer: Answer::Refused(r),
+        answer: Err(r),
         key: key,
     }
 }

@@ -13,16 +13,7 @@ pub fn has_holder(h: Holders, node: DataNodeId) -> bool
     requires { h.count ≤ 8 }
     ensures { result ≡ holds node.0 (view_holders h) }
 {
-    let count = h.count;
-    let mut i: usize = 0;
-    while i < count {
-        let row = h.items[i];
-        if row.node.0 == node.0 {
-            return true;
-        }
-        i += 1;
-    }
-    false
+    h.items[..h.count].iter().any(|row| row.node.0 == node.0)
 }
 
 // Internal: whether the node is in sync.
@@ -30,16 +21,7 @@ pub fn has_synced(s: InSync, node: DataNodeId) -> bool
     requires { s.count ≤ 8 }
     ensures { result ≡ in_sync node.0 (view_in_sync s) }
 {
-    let count = s.count;
-    let mut i: usize = 0;
-    while i < count {
-        let row = s.items[i];
-        if row.0 == node.0 {
-            return true;
-        }
-        i += 1;
-    }
-    false
+    s.items[..s.count].iter().any(|id| id.0 == node.0)
 }
 
 // Internal: one replica more, behind the others.
@@ -57,6 +39,7 @@ pub fn holder_added(h: Holders, r: Replica) -> Holders
 }
 
 // Internal: all replicas but those on the node.
+// Stays two functions: of one over any row and a closure, what a call answers at a copied row did not prove in four tries.
 pub fn holder_removed(h: Holders, node: DataNodeId) -> Holders
     requires { h.count ≤ 8 }
     ensures { (view_holders result ≡ filter (λ r. not (is_on node.0 r)) (view_holders h)) × (result.count ≤ 8) }
@@ -65,15 +48,11 @@ pub fn holder_removed(h: Holders, node: DataNodeId) -> Holders
     let xs = h.items;
     let mut out = xs;
     let mut n: usize = 0;
-    let mut i: usize = 0;
-    while i < count {
+    for i in 0..count {
         let row = xs[i];
-        if row.node.0 == node.0 {
-            i += 1;
-        } else {
+        if row.node.0 != node.0 {
             out[n] = row;
             n += 1;
-            i += 1;
         }
     }
     Holders {
@@ -91,15 +70,11 @@ pub fn synced_removed(s: InSync, node: DataNodeId) -> InSync
     let xs = s.items;
     let mut out = xs;
     let mut n: usize = 0;
-    let mut i: usize = 0;
-    while i < count {
+    for i in 0..count {
         let row = xs[i];
-        if row.0 == node.0 {
-            i += 1;
-        } else {
+        if row.0 != node.0 {
             out[n] = row;
             n += 1;
-            i += 1;
         }
     }
     InSync {
@@ -114,15 +89,13 @@ fn synced_place(s: InSync, node: DataNodeId) -> usize
     ensures { result ≡ place_at id_below node (view_in_sync s) }
 {
     let count = s.count;
-    let mut i: usize = 0;
-    while i < count {
+    for i in 0..count {
         let row = s.items[i];
         if node.0 <= row.0 {
             return i;
         }
-        i += 1;
     }
-    i
+    count
 }
 
 // Internal: the id put in, where it is not there yet with those after it moved up by one.
@@ -144,12 +117,10 @@ pub fn synced_added(s: InSync, node: DataNodeId) -> InSync
         }
     }
     let mut carry = node;
-    let mut i = at;
-    while i <= count {
+    for i in at..count + 1 {
         let y = items[i];
         items[i] = carry;
         carry = y;
-        i += 1;
     }
     InSync {
         items: items,

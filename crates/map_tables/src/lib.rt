@@ -54,13 +54,6 @@ pub struct CollectionRow {
     pub spec: Spec,
 }
 
-// `Option<DataNodeId>` of the source.
-#[derive(Clone, Copy)]
-pub enum Primary {
-    Nobody,
-    At(DataNodeId),
-}
-
 // The copies of a shard in their order; places past `count` are free.
 #[derive(Clone, Copy)]
 pub struct Holders {
@@ -80,7 +73,7 @@ pub struct InSync {
 pub struct ShardRow {
     pub key: ShardKey,
     pub replicas: Holders,
-    pub primary: Primary,
+    pub primary: Option<DataNodeId>,
     pub insync: InSync,
     pub epoch: Epoch,
 }
@@ -121,16 +114,10 @@ pub enum Refusal {
     LastEpoch,
 }
 
-#[derive(Clone, Copy)]
-pub enum Answer {
-    Done(Outcome),
-    Refused(Refusal),
-}
-
 // An answer, with the name or key among its operands; where it has none, the key is free.
 #[derive(Clone, Copy)]
 pub struct Verdict {
-    pub answer: Answer,
+    pub answer: Result<Outcome, Refusal>,
     pub key: ShardKey,
 }
 
@@ -216,13 +203,6 @@ pub struct Request {
     pub key: ShardKey,
     pub address: Address,
     pub placement: Placement,
-}
-
-// How the walk over a placement ends.
-#[derive(Clone, Copy)]
-pub enum Walked {
-    All,
-    NotAlive(DataNodeId),
 }
 
 // One list for each shard of a new collection.

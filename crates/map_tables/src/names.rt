@@ -12,70 +12,38 @@ pub fn name_size(n: Name) -> usize
     if n.len < 32 { n.len } else { 32 }
 }
 
+// The bytes in use.
+fn bytes_of(n: &Name) -> &[u8]
+    ensures { result.now ≡ view_name n.now }
+{
+    &n.bytes[..name_size(*n)]
+}
+
 // Internal: whether two names agree.
 pub fn same_name(a: Name, b: Name) -> bool
     ensures { result ≡ same_name (view_name a) (view_name b) }
 {
-    let n = name_size(a);
-    let m = name_size(b);
-    if n != m {
-        return false;
-    }
-    let mut i: usize = 0;
-    while i < n {
-        let x = a.bytes[i];
-        let y = b.bytes[i];
-        if x != y {
-            return false;
-        }
-        i += 1;
-    }
-    true
+    bytes_of(&a) == bytes_of(&b)
 }
 
 // Internal: byte by byte; of two names that agree the shorter stands first.
 pub fn name_below(a: Name, b: Name) -> bool
     ensures { result ≡ name_below (view_name a) (view_name b) }
 {
-    let n = name_size(a);
-    let m = name_size(b);
-    let mut i: usize = 0;
-    while i < n {
-        if m <= i {
-            return false;
-        }
-        let x = a.bytes[i];
-        let y = b.bytes[i];
-        if x < y {
-            return true;
-        }
-        if y < x {
-            return false;
-        }
-        i += 1;
-    }
-    if n < m { true } else { false }
+    bytes_of(&a) < bytes_of(&b)
 }
 
 // Internal: whether two keys agree.
 pub fn same_key(a: ShardKey, b: ShardKey) -> bool
     ensures { result ≡ same_key (view_key a) (view_key b) }
 {
-    if a.shard != b.shard {
-        return false;
-    }
-    same_name(a.collection, b.collection)
+    same_name(a.collection, b.collection) && a.shard == b.shard
 }
 
 // Internal: by collection, then by number.
 pub fn key_below(a: ShardKey, b: ShardKey) -> bool
     ensures { result ≡ key_below (view_key a) (view_key b) }
 {
-    if name_below(a.collection, b.collection) {
-        return true;
-    }
-    if b.shard <= a.shard {
-        return false;
-    }
-    same_name(a.collection, b.collection)
+    name_below(a.collection, b.collection)
+        || (same_name(a.collection, b.collection) && a.shard < b.shard)
 }

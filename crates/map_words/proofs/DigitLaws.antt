@@ -1,9 +1,9 @@
 -- The digits of a number from the last one on: what is spelled, and what is left to spell. Assumes nothing.
 use Prim.Native.Nat.{ℕ, suc, ◌+◌, ◌-◌, ◌/◌, ◌%◌, ◌^◌, ◌≤◌, ◌<◌}
-use mathlib.Core.Path.{◌≡◌, refl, sym, ap, ◌∙◌}
+use mathlib.Core.Path.{◌≡◌, sym, ap, ◌∙◌}
 use mathlib.Core.List.{List, [], ◌∷◌, ◌++◌, append_assoc}
 use native.Mathlib.Omega.{arith}
-use lib.ListN.{length, drop, set, length-append, length-drop, length-set}
+use lib.ListN.{length, drop, set, length-append, length-drop}
 use lib.Seq.{drop-cons, get_or-set_same, drop-set-lt, lt-length-set}
 use Rattle.spec_words.specs.Decimal.{digit, decimal}
 use Rattle.spec_words.proofs.Decimal.{decimal-one, decimal-more, by_digits, decimal_64}

@@ -1,13 +1,12 @@
 -- Parts one behind the other, and how long they are. Assumes nothing.
 use Prim.Native.Nat.{ℕ, zero, suc, ◌+◌, ◌-◌, ◌^◌, ◌≤◌, ◌<◌}
 use mathlib.Core.Path.{◌≡◌, refl, sym, ap, subst, ◌∙◌}
-use mathlib.Core.List.{List, [], ◌∷◌, ◌++◌, append_assoc}
+use mathlib.Core.List.{List, [], ◌∷◌, ◌++◌}
 use native.Mathlib.Omega.{arith}
 use lib.ListN.{length, take, drop, length-append, length-drop, length-take}
-use lib.Seq.{sets, length-sets, sets-eq, take_all, take-take, take-append_seam}
+use lib.Seq.{length-sets, sets-eq, take_all, take-take, take-append_seam}
 use Rattle.spec.specs.Keys.{Key}
 use Rattle.spec_words.specs.Decimal.{decimal}
-use Rattle.spec_words.specs.Texts.{says_slash}
 use Rattle.spec_words.specs.Words.{key_words}
 use Rattle.spec_words.proofs.Decimal.{decimal_32}
 use Rattle.spec_words.proofs.Lengths.{key-length}

@@ -9,7 +9,7 @@ ghost use Rattle.map_tables.specs.View.{answer_of};
 ghost use Rattle.map_words.specs.Written.{Puts, Says};
 
 use crate::rejections::put_rejection;
-use map_tables::{Answer, Outcome, Verdict};
+use map_tables::{Outcome, Verdict};
 use wire_put::put::put_bytes;
 
 mod parts;
@@ -37,11 +37,11 @@ fn put_answer(out: &mut [u8], v: Verdict) -> usize
     let a = v.answer;
     let key = v.key;
     match a {
-        Answer::Done(o) => match o {
+        Ok(o) => match o {
             Outcome::Applied => 0,
             Outcome::Rejected(r) => put_rejection(out, r, key),
         },
-        Answer::Refused(_) => 0,
+        Err(_) => 0,
     }
 }
 

@@ -25,6 +25,7 @@ fn digits(n: u64) -> Digits
     let mut bytes = [0u8; 20];
     let mut left = n;
     let mut from: usize = 20;
+    // Stays a while: it ends where no digit is left, which no count says beforehand.
     while 10 <= left {
         from -= 1;
         bytes[from] = digit(left % 10);

@@ -6,7 +6,6 @@ ghost use Rattle.std.specs.Prelude.{◌≡◌, false};
 ghost use Rattle.spec.specs.Node.Ack.{bad_reply, acked_through, joins, ack_row};
 ghost use Rattle.node_shard.specs.Acks.{reply_of};
 
-use node_shard::rows::{both, either};
 use node_shard::{LAST_TIME, Reply};
 use spec::{Offset, Peer};
 
@@ -16,7 +15,7 @@ pub fn bad(r: Reply) -> bool
 {
     match r {
         Reply::Stored(t) => LAST_TIME < t,
-        Reply::Gap(n) => either(n == 0, LAST_TIME < n),
+        Reply::Gap(n) => n == 0 || LAST_TIME < n,
         Reply::Stale(_) => false,
         Reply::Adopted(t) => LAST_TIME < t,
     }
@@ -27,13 +26,9 @@ pub fn acked_through(p: Peer, last: u64, through: u64, aligned: bool) -> u64
     ensures { result ≡ acked_through last through aligned p }
 {
     if aligned {
-        if through < last { through } else { last }
+        through.min(last)
     } else {
-        if p.acked.0 < through {
-            through
-        } else {
-            p.acked.0
-        }
+        p.acked.0.max(through)
     }
 }
 
@@ -42,8 +37,7 @@ pub fn joining(p: Peer, last: u64, through: u64, aligned: bool) -> bool
     ensures { result ≡ joins last through aligned p }
 {
     let n = acked_through(p, last, through, aligned);
-    let out = both(!p.member, !p.proposing);
-    both(last <= n, out)
+    last <= n && !p.member && !p.proposing
 }
 
 // Internal: a row after an ack.
@@ -52,13 +46,12 @@ pub fn row_acked(p: Peer, last: u64, through: u64, aligned: bool) -> Peer
 {
     let n = acked_through(p, last, through, aligned);
     let join = joining(p, last, through, aligned);
-    let o = Offset(n);
     let up = last <= n;
     let mut q = p;
-    q.acked = o;
-    q.aligned = either(p.aligned, aligned);
-    q.behind = both(p.behind, !up);
-    q.proposing = either(p.proposing, join);
-    q.member = either(p.member, join);
+    q.acked = Offset(n);
+    q.aligned = p.aligned || aligned;
+    q.behind = p.behind && !up;
+    q.proposing = p.proposing || join;
+    q.member = p.member || join;
     q
 }

@@ -5,13 +5,6 @@
 pub mod admission;
 pub mod lease;
 
-// When the lease ends.
-#[derive(Clone, Copy)]
-pub enum Expiry {
-    Never,
-    At(u64),
-}
-
 // Whether a client's call goes on: 18 with the own epoch, 19, 20, 23 otherwise.
 #[derive(Clone, Copy)]
 pub enum Admit {

@@ -27,7 +27,7 @@ use Rattle.node_shard.specs.declared.Sent.{Sent}
 use Rattle.node_shard.specs.declared.Reply.{Reply}
 use Rattle.node_shard.specs.Answers as answers
 use Rattle.node_shard.specs.Acks as acks
-use Rattle.node_admit.specs.declared.Expiry.{Expiry}
+use Rattle.std.specs.Prelude.{Option}
 use Rattle.node_admit.specs.declared.Step.{Step}
 use Rattle.node_admit.specs.declared.Step.TheVariants as D
 use Rattle.node_admit.specs.View.{Grants}
@@ -72,7 +72,7 @@ module _ (n : Node) (i sent lease : ℕ) where
       unfolding calls.grant_with ◌or◌
       grant_malformed a s = rw early (rw short (rw (← a s)))
 
-      pub grant-done : Lent n true → (e : Expiry) → Grants n.incarnation n.expiry i sent lease e → (m : Node) → ReExpires n e m
+      pub grant-done : Lent n true → (e : Option ℕ) → Grants n.incarnation n.expiry i sent lease e → (m : Node) → ReExpires n e m
           → GrantsNode n i sent lease (record { answer = G.Granted; node = m })
       unfolding calls.grant_with ◌or◌
       grant-done a e g m x s =

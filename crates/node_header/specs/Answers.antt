@@ -18,7 +18,7 @@ use Rattle.node_shard.specs.declared.Sent.{Sent}
 use Rattle.node_shard.specs.declared.Reply.{Reply}
 use Rattle.node_shard.specs.Answers.{wait_word, shrink_of, outcome_word}
 use Rattle.node_shard.specs.Acks.{ack_word, sent_of, reply_of}
-use Rattle.node_admit.specs.declared.Expiry.{Expiry}
+use Rattle.std.specs.Prelude.{Option}
 use Rattle.node_admit.specs.View.{view_expiry, with_expiry}
 use Rattle.node_admit.specs.Steps.{step_word}
 use Rattle.node_header.specs.declared.Node.{Node}
@@ -46,7 +46,7 @@ answered_as f r = record { answer = f r.answer; node = r.after }
 -- ---- lease grant
 
 -- internal: nothing but the expiry changes
-abbrev pub ReExpires : Node → Expiry → Node → Type 0
+abbrev pub ReExpires : Node → Option ℕ → Node → Type 0
 ReExpires n e r = (s : Stores) → view_node s r ≡ with_expiry (view_node s n) (view_expiry e)
 
 abbrev pub grant_word : leases.GrantAnswer → GrantAnswer

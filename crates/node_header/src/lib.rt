@@ -3,7 +3,7 @@
 #![tactic(auto)]
 
 use map_tables::ShardKey;
-use node_admit::{Expiry, Step};
+use node_admit::Step;
 use node_shard::{AckAnswer, Held, Nodes, OutcomeAnswer, WaitAnswer};
 use spec::DataNodeId;
 
@@ -24,7 +24,7 @@ pub struct HeldRow {
 pub struct Node {
     pub id: DataNodeId,
     pub incarnation: u64,
-    pub expiry: Expiry,
+    pub expiry: Option<u64>,
     pub version: u64,
     pub held: [HeldRow; 8],
     pub count: usize,

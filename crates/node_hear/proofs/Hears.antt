@@ -40,8 +40,8 @@ use Rattle.node_show.specs.declared.ShownAnswer.{ShownAnswer}
 use Rattle.node_show.specs.declared.ShownAnswer.TheVariants as S
 use Rattle.node_show.specs.Shows.{view_starts, shown_word, ShownAnswered, shown_answered, ShowsMap}
 use Rattle.node_show.proofs.Shown.{slots_are_same}
-use Rattle.node_hear.specs.declared.Heard.{Heard}
-use Rattle.node_hear.specs.declared.Heard.TheVariants as H
+use Rattle.std.specs.declared.option.Option as option
+use Rattle.std.specs.Prelude.{None, Some}
 use Rattle.node_hear.specs.Hears.{HearsMap, heard_of, HearsReply}
 
 -- ---- map shown
@@ -98,18 +98,18 @@ module _ (n : Node) (m : ShardMap) (fresh : ℕ) where
 -- ---- ack
 
 -- what was heard, of a message
-abbrev heard_in : Message → Heard
-heard_in M.Undecodable = H.Nothing
-heard_in (M.Request p) = H.Nothing
-heard_in (M.Replicate p) = H.Nothing
-heard_in (M.NewEpoch p) = H.Nothing
-heard_in (M.CopyShard p) = H.Nothing
-heard_in (M.Write p) = H.Nothing
-heard_in (M.Search p) = H.Nothing
-heard_in (M.Stored n) = H.Reply (R.Stored n.0)
-heard_in (M.Gap n) = H.Reply (R.Gap n.0)
-heard_in (M.StaleEpoch n) = H.Reply (R.Stale n.0)
-heard_in (M.Adopted n) = H.Reply (R.Adopted n.0)
+abbrev heard_in : Message → option.Option Reply
+heard_in M.Undecodable = None
+heard_in (M.Request p) = None
+heard_in (M.Replicate p) = None
+heard_in (M.NewEpoch p) = None
+heard_in (M.CopyShard p) = None
+heard_in (M.Write p) = None
+heard_in (M.Search p) = None
+heard_in (M.Stored n) = Some (R.Stored n.0)
+heard_in (M.Gap n) = Some (R.Gap n.0)
+heard_in (M.StaleEpoch n) = Some (R.Stale n.0)
+heard_in (M.Adopted n) = Some (R.Adopted n.0)
 
 heard_in_lem : (r : message.Reply) → heard_of (some r) ≡ heard_in (reply_shown r)
 heard_in_lem (message.reply_stored n) = refl
@@ -124,20 +124,20 @@ reply-heard o m d = ap heard_of d.decoded ∙ heard_in_lem d.read ∙ ap heard_i
 -- bytes that show no reply are none
 module _ (s : List ℕ) (a : (n : Offset) → message_of s ≡ M.Stored n → ⊥) (b : (n : Offset) → message_of s ≡ M.Gap n → ⊥)
     (c : (n : Epoch) → message_of s ≡ M.StaleEpoch n → ⊥) (d : (n : Offset) → message_of s ≡ M.Adopted n → ⊥) where
-  unheard : (o : Option message.Reply) → message.decode_reply s ≡ o → heard_of o ≡ H.Nothing
+  unheard : (o : Option message.Reply) → message.decode_reply s ≡ o → heard_of o ≡ None
   unheard none e = refl
   unheard (some (message.reply_stored n)) e = absurd (a _ (reply-answered s _ e))
   unheard (some (message.reply_gap n)) e = absurd (b _ (reply-answered s _ e))
   unheard (some (message.reply_stale n)) e = absurd (c _ (reply-answered s _ e))
   unheard (some (message.reply_adopted n)) e = absurd (d _ (reply-answered s _ e))
 
-  pub reply_unheard : heard_of (message.decode_reply s) ≡ H.Nothing
+  pub reply_unheard : heard_of (message.decode_reply s) ≡ None
   reply_unheard = unheard (message.decode_reply s) refl
 
 -- the reply that was heard
-abbrev read_as : Heard → Option message.Reply
-read_as H.Nothing = none
-read_as (H.Reply r) = some (reply_of r)
+abbrev read_as : option.Option Reply → Option message.Reply
+read_as None = none
+read_as (Some r) = some (reply_of r)
 
 read_as_lem : (o : Option message.Reply) → o ≡ read_as (heard_of o)
 read_as_lem none = refl
@@ -159,7 +159,7 @@ ack_refused_as ack.noted k e = absurd (let z : ◌≡◌ {A = ℕ} 0 1 = ap ack_
 ack_refused_as ack.expand k e = absurd (let z : ◌≡◌ {A = ℕ} 0 1 = ap ack_code e in omega arith)
 
 module _ (n : Node) (k : Key) (epoch peer : ℕ) (sent : Sent) (s : List ℕ) where
-  pub ack_read : (a : Reply) → heard_of (message.decode_reply s) ≡ H.Reply a → (r : NodeAcked) → AcksNode n k epoch peer sent a r
+  pub ack_read : (a : Reply) → heard_of (message.decode_reply s) ≡ Some a → (r : NodeAcked) → AcksNode n k epoch peer sent a r
       → HearsReply n k epoch peer sent s r
   unfolding calls.ack_with
   ack_read a e r d t = rw (read_as_lem (message.decode_reply s) ∙ ap read_as e) (d t)

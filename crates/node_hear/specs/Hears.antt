@@ -22,8 +22,8 @@ use Rattle.node_header.specs.Answers.{answered_as, view_acked}
 use Rattle.node_show.specs.declared.NodeShown.{NodeShown}
 use Rattle.node_show.specs.Slots.{slots_after}
 use Rattle.node_show.specs.Shows.{shown_answered, view_shown}
-use Rattle.node_hear.specs.declared.Heard.{Heard}
-use Rattle.node_hear.specs.declared.Heard.TheVariants as H
+use Rattle.std.specs.declared.option.Option as option
+use Rattle.std.specs.Prelude.{None, Some}
 
 -- ---- map shown: 24 for a malformed header and for a malformed map. The slots after are those that the shards before and their slots give
 
@@ -43,9 +43,9 @@ reply_word (message.reply_stale n) = R.Stale n
 reply_word (message.reply_adopted n) = R.Adopted n
 
 -- internal: what was read
-abbrev pub heard_of : Option message.Reply → Heard
-heard_of none = H.Nothing
-heard_of (some r) = H.Reply (reply_word r)
+abbrev pub heard_of : Option message.Reply → option.Option Reply
+heard_of none = None
+heard_of (some r) = Some (reply_word r)
 
 abbrev pub HearsReply : Node → Key → (epoch peer : ℕ) → Sent → List ℕ → NodeAcked → Type 0
 HearsReply n k epoch peer sent reply r =

@@ -4,10 +4,3 @@
 use node_shard::Reply;
 
 pub mod ack;
-
-// The reply that bytes are, 30 to 33, or that they are none.
-#[derive(Clone, Copy)]
-pub enum Heard {
-    Reply(Reply),
-    Nothing,
-}

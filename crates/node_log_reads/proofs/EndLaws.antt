@@ -1,34 +1,20 @@
 -- Laws of an epoch table that is told in two columns. Assumes nothing.
-use Prim.Native.Nat.{ℕ, zero, suc, ◌+◌, ◌≤◌, ◌<◌, min}
-use mathlib.Core.Path.{◌≡◌, refl, sym, ap, ◌∙◌, subst}
+use Prim.Native.Nat.{ℕ, suc, ◌≤◌, ◌<◌, min}
+use mathlib.Core.Path.{◌≡◌, refl, sym, ap, ◌∙◌}
 use mathlib.Core.Bool.{Bool, true, false, not, cond}
-use mathlib.Core.List.{List, [], ◌∷◌, ◌++◌, map, append_assoc}
-use native.Mathlib.Numerals.{add-one}
+use mathlib.Core.List.{List, [], ◌∷◌, ◌++◌, map}
 use native.Mathlib.Omega.{arith}
 use borrow.Author.Tests.{lt-ltb, le-ltb}
 use lib.Dec.{ltb}
-use lib.ListN.{length, take, drop, get_or, set}
-use lib.Seq.{length-take-le, drop-cons, take-suc, set_at}
-use Rattle.spec.specs.Refusals.{number_of, malformed, no_room}
+use lib.ListN.{length, take, drop}
+use lib.Seq.{length-take-le}
+use Rattle.std.specs.Prelude.{Ok, Err}
 use Rattle.spec.specs.Log.{End, epoch_ends}
 use Rattle.log_store.specs.Align.{paired, table_of}
 use Rattle.log_store.specs.Store.{Store, store_log}
 use Rattle.log_calls.specs.Fits.{lent_fits}
-use Rattle.node_log_reads.specs.Ends.{ends_lent, left_in, epoch_of, end_of, EndsAnswered}
-use Rattle.node_log_reads.specs.declared.ends.EndsAnswer.{EndsAnswer}
-use Rattle.node_log_reads.specs.declared.ends.EndsAnswer.TheVariants.{Pairs, Refused}
-
--- ---- a column copied: one number more
-pub copied_on : (from out : List ℕ) (i : ℕ) → i < length from → i < length out
-    → set (take i from ++ drop i out) i (get_or from i 0) ≡ take (i + 1) from ++ drop (i + 1) out
-copied_on from out i hf ho =
-    let x = get_or from i 0 in
-    ap (λ (t : List ℕ). set (take i from ++ t) i x) (drop-cons out i 0 ho)
-    ∙ set_at (take i from) (get_or out i 0) (drop (suc i) out) x i (length-take-le i from (omega arith))
-    ∙ sym
-    (ap (λ (k : ℕ). take k from ++ drop k out) (add-one i)
-    ∙ ap (λ (t : List ℕ). t ++ drop (suc i) out) (take-suc from i 0 hf)
-    ∙ append_assoc (take i from) (x ∷ []) (drop (suc i) out))
+use Rattle.node_log_reads.specs.Ends.{ends_lent, epoch_of, end_of, EndsAnswered}
+use Rattle.node_log_reads.specs.declared.Refusal.TheVariants.{Malformed, NoRoom}
 
 -- ---- the pairs of two columns, and the columns of the pairs
 
@@ -61,11 +47,11 @@ module _ (s : Store) (froms ends : List ℕ) where
   room = min (length froms) (length ends)
 
   ends_by : (a b : Bool) → lent_fits s ≡ a → ltb room (length table) ≡ b
-      → ends_lent s room ≡ cond (not a) (Refused (number_of malformed)) (cond b (Refused (number_of no_room)) (Pairs (length table)))
+      → ends_lent s room ≡ cond (not a) (Err Malformed) (cond b (Err NoRoom) (Ok (length table)))
   unfolding ends_lent
   ends_by a b e h = rw (e, h)
 
-  pub ends_malformed : lent_fits s ≡ false → EndsAnswered s froms froms ends ends (Refused 24)
+  pub ends_malformed : lent_fits s ≡ false → EndsAnswered s froms froms ends ends (Err Malformed)
   ends_malformed e = record { answer = sym (ends_by false (ltb room (length table)) e refl); epochs = refl; offsets = refl }
 
   -- the table in the two columns of a store that is not malformed
@@ -78,14 +64,14 @@ module _ (s : Store) (froms ends : List ℕ) where
     unfolding table_of
     table-length = ap length (sym t) ∙ pairs-length (take n each) (take n last) same ∙ length-take-le n each he
 
-    pub ends-short : room < n → EndsAnswered s froms froms ends ends (Refused 23)
+    pub ends-short : room < n → EndsAnswered s froms froms ends ends (Err NoRoom)
     ends-short h = record { answer = sym (ends_by true true f (lt-ltb room (length table) (rw table-length h))); epochs = refl; offsets = refl }
 
     pub ends-told : n ≤ length froms → n ≤ length ends → (froms' ends' : List ℕ) → froms' ≡ take n each ++ drop n froms → ends' ≡ take n last ++ drop n ends
-        → EndsAnswered s froms froms' ends ends' (Pairs n)
+        → EndsAnswered s froms froms' ends ends' (Ok n)
     unfolding table_of
     ends-told hf ho froms' ends' p q = record {
-      answer = ap Pairs (sym table-length) ∙ sym (ends_by true false f (le-ltb room (length table) (rw table-length (omega arith))));
+      answer = ap Ok (sym table-length) ∙ sym (ends_by true false f (le-ltb room (length table) (rw table-length (omega arith))));
       epochs = p ∙ ap (λ (l : List ℕ). l ++ drop n froms) (sym (pairs-epochs (take n each) (take n last) same) ∙ ap (map epoch_of) t);
       offsets = q ∙ ap (λ (l : List ℕ). l ++ drop n ends) (sym (pairs-ends (take n each) (take n last) same) ∙ ap (map end_of) t);
     }

@@ -4,13 +4,13 @@ use mathlib.Core.Path.{◌≡◌, refl, sym, ap, ◌∙◌, subst}
 use mathlib.Core.Bool.{Bool, true, false, not, cond}
 use mathlib.Core.List.{List, []}
 use mathlib.Core.Option.{some}
-use borrow.Author.Tests.{eq-eqb, ne_eqb}
 use lib.Dec.{eqb, ltb}
 use lib.Ieee.{Float}
 use lib.ListN.{length, take, get_or, length-map}
 use Rattle.spec.specs.Lists.{◌and◌, find, lead}
-use Rattle.spec.specs.Refusals.{number_of, malformed}
-use Rattle.spec.specs.Log.{play, lookup}
+use Rattle.std.specs.Prelude.{Option, Ok, Err, Some, None}
+use Rattle.spec.specs.declared.Offset.{Offset}
+use Rattle.spec.specs.Log.{play}
 use Rattle.spec_laws.proofs.Lists.{not_both}
 use Rattle.log_store.specs.Table.{Row, play_rows, vector_of, vectors_of}
 use Rattle.log_store.specs.Store.{Store, store_log, store_rows}
@@ -21,11 +21,9 @@ use Rattle.log_store.proofs.PlayRows.{rows-vectors}
 use Rattle.log_store.proofs.Facts.{Facts, facts, rows-rising, keys-fit, places-fit}
 use Rattle.log_calls.specs.Fits.{lent_fits}
 use Rattle.log_calls.proofs.FitLaws.{fits-sized, fits-well}
-use Rattle.node_log_reads.specs.Vectors.{vector_in, row_of_id, standing_of, standing_lent, shown_at, Stands, or_empty, vector_lent, len_lent, empty_lent}
-use Rattle.node_log_reads.specs.declared.vectors.Standing.{Standing}
-use Rattle.node_log_reads.specs.declared.vectors.Standing.TheVariants as S
-use Rattle.node_log_reads.specs.declared.vectors.Count.TheVariants as C
-use Rattle.node_log_reads.specs.declared.vectors.Emptiness.TheVariants as E
+use Rattle.node_log_reads.specs.Vectors.{vector_in, Standing, row_of_id, standing_of, standing_lent, shown_at, Stands, or_empty, vector_lent, len_lent, empty_lent}
+use Rattle.node_log_reads.specs.declared.Refusal.{Refusal}
+use Rattle.node_log_reads.specs.declared.Refusal.TheVariants.{Malformed}
 use Rattle.node_log_reads.proofs.Rows.{below, Found, found, none_other, shown}
 
 -- ---- a store that passed the test (24)
@@ -54,7 +52,7 @@ module _ (s : Store) (f : lent_fits s ≡ true) where
     place_of : at ≡ lead (below id) (store_rows s)
     place_of = is_at ∙ sym (rows-lead s.keys s.places s.stored hk hp id)
 
-    row-there : b ≡ true → standing_of (find (row_of_id id) (store_rows s)) ≡ S.At (record { 0 = get_or s.places at 0 })
+    row-there : b ≡ true → standing_of (find (row_of_id id) (store_rows s)) ≡ Ok (Some (record { 0 = get_or s.places at 0 }))
     row-there t =
         let h = here at s.stored (get_or s.keys at 0) id b e t in
         let r = rows_at s.keys s.places s.stored hk hp at no_row h.0 in
@@ -64,7 +62,7 @@ module _ (s : Store) (f : lent_fits s ≡ true) where
         (ap (λ (x : Row). x.id) r ∙ h.1)
         ∙ ap some r)
 
-    row-absent : b ≡ false → standing_of (find (row_of_id id) (store_rows s)) ≡ S.Missing
+    row-absent : b ≡ false → standing_of (find (row_of_id id) (store_rows s)) ≡ (Ok None)
     row-absent q =
         ap standing_of
         (ap (find (row_of_id id))
@@ -79,11 +77,11 @@ module _ (s : Store) where
     abbrev standing : Standing
     standing = standing_of (find (row_of_id id) (play_rows (store_log s)))
 
-    standing_by : (b : Bool) → lent_fits s ≡ b → standing_lent s id ≡ cond (not b) (S.Refused (number_of malformed)) standing
+    standing_by : (b : Bool) → lent_fits s ≡ b → standing_lent s id ≡ cond (not b) (Err Malformed) standing
     unfolding standing_lent
-    standing_by b e = ap (λ (x : Bool). cond (not x) (S.Refused (number_of malformed)) standing) e
+    standing_by b e = ap (λ (x : Bool). cond (not x) (Err Malformed) standing) e
 
-    pub stands_malformed : lent_fits s ≡ false → Stands s id (S.Refused 24)
+    pub stands_malformed : lent_fits s ≡ false → Stands s id (Err Malformed)
     stands_malformed e = record { answer = sym (standing_by false e); vector = λ t. not_both (lent_fits s) t e }
 
     stands : lent_fits s ≡ true → (r : Standing) → standing_of (find (row_of_id id) (store_rows s)) ≡ r → Stands s id r
@@ -96,11 +94,11 @@ module _ (s : Store) where
 
     module _ (f : lent_fits s ≡ true) (at : ℕ) (is_at : at ≡ lead (λ k. ltb k id) (take s.stored s.keys))
         (b : Bool) (e : b ≡ (ltb at s.stored and eqb (get_or s.keys at 0) id)) where
-      pub stands_at_lem : b ≡ true → Stands s id (S.At (record { 0 = get_or s.places at 0 }))
-      stands_at_lem t = stands f (S.At (record { 0 = get_or s.places at 0 })) (row-there s f id at is_at b e t)
+      pub stands_at_lem : b ≡ true → Stands s id (Ok (Some (record { 0 = get_or s.places at 0 })))
+      stands_at_lem t = stands f (Ok (Some (record { 0 = get_or s.places at 0 }))) (row-there s f id at is_at b e t)
 
-      pub stands_missing : b ≡ false → Stands s id S.Missing
-      stands_missing q = stands f S.Missing (row-absent s f id at is_at b e q)
+      pub stands_missing : b ≡ false → Stands s id (Ok None)
+      stands_missing q = stands f (Ok None) (row-absent s f id at is_at b e q)
 
     abbrev vector : List Float
     vector = or_empty (vector_in id (play (store_log s)))
@@ -116,30 +114,25 @@ module _ (s : Store) where
             ap (λ (x : Standing). or_empty (shown_at (store_log s) x)) (d.answer ∙ standing_by false e)
             ∙ sym (ap (λ (x : Bool). cond (not x) [] vector) e)
 
-    pub vector-there : (o : ℕ) → Stands s id (S.At (record { 0 = o })) → lookup (store_log s) o ≡ vector_lent s id
-    vector-there o d = vector-by (S.At (record { 0 = o })) d
+    -- .. of an answer that was taken apart
+    pub vector-ok : (r : Standing) → Stands s id r → (o x : Option Offset) → r ≡ Ok o → o ≡ x → or_empty (shown_at (store_log s) (Ok x)) ≡ vector_lent s id
+    vector-ok r d o x e h = vector-by (Ok x) (subst (λ (y : Option Offset). Stands s id (Ok y)) h (subst (Stands s id) e d))
 
-    pub vector-none : (r : Standing) → ((o : ℕ) → r ≡ S.At (record { 0 = o }) → ⊥) → Stands s id r → [] ≡ vector_lent s id
-    vector-none (S.At o) n d = absurd (n o.0 refl)
-    vector-none S.Missing n d = vector-by S.Missing d
-    vector-none (S.Refused x) n d = vector-by (S.Refused x) d
+    pub vector-err : (r : Standing) → Stands s id r → (x : Refusal) → r ≡ Err x → [] ≡ vector_lent s id
+    vector-err r d x e = vector-by (Err x) (subst (Stands s id) e d)
 
-  pub len_malformed : lent_fits s ≡ false → C.Refused 24 ≡ len_lent s
+  pub len_malformed : lent_fits s ≡ false → Err Malformed ≡ len_lent s
   unfolding len_lent
   len_malformed e = rw e
 
-  pub len-told : lent_fits s ≡ true → C.Vectors s.stored ≡ len_lent s
+  pub len-told : lent_fits s ≡ true → Ok s.stored ≡ len_lent s
   unfolding len_lent
   len-told f = rw (f, held s f)
 
-  pub empty_malformed : lent_fits s ≡ false → E.Refused 24 ≡ empty_lent s
+  pub empty_malformed : lent_fits s ≡ false → Err Malformed ≡ empty_lent s
   unfolding empty_lent
   empty_malformed e = rw e
 
-  pub empty-told : lent_fits s ≡ true → s.stored ≡ 0 → E.Empty ≡ empty_lent s
+  pub empty-told : lent_fits s ≡ true → (b : Bool) → b ≡ eqb s.stored 0 → Ok b ≡ empty_lent s
   unfolding empty_lent
-  empty-told f z = rw (f, held s f, eq-eqb s.stored 0 z)
-
-  pub empty-filled : lent_fits s ≡ true → (s.stored ≡ 0 → ⊥) → E.Filled ≡ empty_lent s
-  unfolding empty_lent
-  empty-filled f z = rw (f, held s f, ne_eqb s.stored 0 z)
+  empty-told f b e = rw (f, held s f, e)

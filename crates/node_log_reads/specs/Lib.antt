@@ -1,3 +1,4 @@
+pub mod Refused
 pub mod Vectors
 pub mod Ends
 pub mod Entries

@@ -1,19 +1,16 @@
 -- What a replica is asked of its vectors (paper 01, 'The log', 'Who is turned down'; shard.rs, vector, len, is_empty). Definitions only.
-use Rattle.std.specs.Prelude.{ℕ, ◌≡◌, Bool, true, not, cond, List, [], eqb, Float, length}
+use Rattle.std.specs.Prelude.{ℕ, ◌≡◌, Bool, true, not, cond, List, [], eqb, Float, length, Result, Ok, Err, Some, None}
+use Rattle.std.specs.Prelude as std
 use Rattle.std.proofs.Math.Option.{Option, none, some}
 use Rattle.spec.specs.Lists.{find}
-use Rattle.spec.specs.Refusals.{number_of, malformed}
+use Rattle.spec.specs.declared.Offset.{Offset}
 use Rattle.spec.specs.Nearest.Search.{Vector}
 use Rattle.spec.specs.Log.{Log, Vectors, play, lookup}
 use Rattle.log_store.specs.Table.{Row, play_rows}
 use Rattle.log_store.specs.Store.{Store, store_log}
 use Rattle.log_calls.specs.Fits.{lent_fits}
-use Rattle.node_log_reads.specs.declared.vectors.Standing.{Standing}
-use Rattle.node_log_reads.specs.declared.vectors.Standing.TheVariants as S
-use Rattle.node_log_reads.specs.declared.vectors.Count.{Count}
-use Rattle.node_log_reads.specs.declared.vectors.Count.TheVariants as C
-use Rattle.node_log_reads.specs.declared.vectors.Emptiness.{Emptiness}
-use Rattle.node_log_reads.specs.declared.vectors.Emptiness.TheVariants as E
+use Rattle.node_log_reads.specs.declared.Refusal.{Refusal}
+use Rattle.node_log_reads.specs.declared.Refusal.TheVariants.{Malformed}
 
 -- ---- vector
 
@@ -28,23 +25,27 @@ components_of (some v) = some v.components
 unfoldable pub vector_in : ℕ → Vectors → Option (List Float)
 vector_in id vs = components_of (find (has_id id) vs)
 
+-- the offset of the entry that set an id's vector, if it has one, or why there is no answer
+abbrev pub Standing : Type 0
+Standing = Result (std.Option Offset) Refusal
+
 abbrev pub row_of_id : ℕ → Row → Bool
 row_of_id id r = eqb r.id id
 
 abbrev pub standing_of : Option Row → Standing
-standing_of none = S.Missing
-standing_of (some r) = S.At (record { 0 = r.offset })
+standing_of none = Ok None
+standing_of (some r) = Ok (Some (record { 0 = r.offset }))
 
 -- 24; else the offset that the log played gives the id
 unfoldable pub standing_lent : Store → ℕ → Standing
 standing_lent s id =
-    cond (not (lent_fits s)) (S.Refused (number_of malformed)) (standing_of (find (row_of_id id) (play_rows (store_log s))))
+    cond (not (lent_fits s)) (Err Malformed) (standing_of (find (row_of_id id) (play_rows (store_log s))))
 
 -- what a lookup at the answered offset hands back
 abbrev pub shown_at : Log → Standing → Option (List Float)
-shown_at l (S.At o) = some (lookup l o.0)
-shown_at l S.Missing = none
-shown_at l (S.Refused x) = none
+shown_at l (Ok (Some o)) = some (lookup l o.0)
+shown_at l (Ok None) = none
+shown_at l (Err x) = none
 
 -- the answer; and, of a store that is not refused, that the lookup there is the vector that the id has by the log played
 pub record Stands (s : Store) (id : ℕ) (r : Standing) : Type 0 where
@@ -62,10 +63,10 @@ vector_lent s id = cond (not (lent_fits s)) [] (or_empty (vector_in id (play (st
 -- ---- len, is_empty
 
 -- shard.rs, len: the number of vectors held, or 24
-unfoldable pub len_lent : Store → Count
-len_lent s = cond (not (lent_fits s)) (C.Refused (number_of malformed)) (C.Vectors (length (play (store_log s))))
+unfoldable pub len_lent : Store → Result ℕ Refusal
+len_lent s = cond (not (lent_fits s)) (Err Malformed) (Ok (length (play (store_log s))))
 
 -- shard.rs, is_empty: whether none is held, or 24
-unfoldable pub empty_lent : Store → Emptiness
+unfoldable pub empty_lent : Store → Result Bool Refusal
 empty_lent s =
-    cond (not (lent_fits s)) (E.Refused (number_of malformed)) (cond (eqb (length (play (store_log s))) 0) E.Empty E.Filled)
+    cond (not (lent_fits s)) (Err Malformed) (Ok (eqb (length (play (store_log s))) 0))

@@ -4,29 +4,19 @@ ghost use Rattle.log_store.specs.View.{columns};
 ghost use Rattle.log_store.specs.Store.{lent};
 ghost use Rattle.node_log_reads.specs.Ends.{EndsAnswered};
 
+use crate::Refusal;
 use log_calls::fits::lent_fits;
-
-// How many pairs the table has, or the number of the refusal.
-#[derive(Clone, Copy)]
-pub enum EndsAnswer {
-    Pairs(usize),
-    Refused(u8),
-}
 
 // The first n numbers of a column, into another from its start; what lies past them stays as it was.
 fn copy_first(out: &mut [u64], from: &[u64], n: usize)
     requires { (n ≤ length out.old) × (n ≤ length from.now) }
     ensures { out.new ≡ take n from.now ++ drop n out.old }
 {
-    let mut i: usize = 0;
-    while i < n {
-        out[i] = from[i];
-        i += 1;
-    }
+    out[..n].copy_from_slice(&from[..n]);
 }
 
 // For each run of equal epochs of the log its epoch, into one lent column, and its last offset, into another; the room is that of the
-// shorter. 24, then 23 if the room is short of the table; a refusal writes nothing.
+// shorter. Answers how many pairs the table has; 24, then 23 if the room is short of the table. A refusal writes nothing.
 pub fn epoch_ends(
     epochs: &[u64],
     offsets: &[u64],
@@ -40,7 +30,7 @@ pub fn epoch_ends(
     stored: usize,
     froms: &mut [u64],
     ends: &mut [u64],
-) -> EndsAnswer
+) -> Result<usize, Refusal>
     ensures { EndsAnswered (lent (columns epochs.now offsets.now ids.now codes.now lengths.now floats.now)
         keys.now places.now count stored)
         froms.old froms.new ends.old ends.new result }
@@ -48,18 +38,18 @@ pub fn epoch_ends(
     if !lent_fits(
         epochs, offsets, ids, codes, lengths, floats, keys, places, count, stored,
     ) {
-        return EndsAnswer::Refused(24);
+        return Err(Refusal::Malformed);
     }
     let mut each = [0u64; 1024];
     let mut last = [0u64; 1024];
     let n = log_store::align::epoch_ends(epochs, offsets, count, &mut each, &mut last);
     if froms.len() < n {
-        return EndsAnswer::Refused(23);
+        return Err(Refusal::NoRoom);
     }
     if ends.len() < n {
-        return EndsAnswer::Refused(23);
+        return Err(Refusal::NoRoom);
     }
     copy_first(froms, &each, n);
     copy_first(ends, &last, n);
-    EndsAnswer::Pairs(n)
+    Ok(n)
 }

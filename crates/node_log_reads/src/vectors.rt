@@ -4,34 +4,12 @@ ghost use Rattle.log_store.specs.View.{columns};
 ghost use Rattle.log_store.specs.Store.{lent};
 ghost use Rattle.node_log_reads.specs.Vectors.{Stands, vector_lent, len_lent, empty_lent};
 
+use crate::Refusal;
 use log_calls::fits::lent_fits;
 use log_store::table::{is_at, place};
 use spec::Offset;
 
-// Where the vector of an id stands: the offset of the entry that set it; or the number of the refusal.
-#[derive(Clone, Copy)]
-pub enum Standing {
-    At(Offset),
-    Missing,
-    Refused(u8),
-}
-
-// How many vectors there are, or the number of the refusal.
-#[derive(Clone, Copy)]
-pub enum Count {
-    Vectors(usize),
-    Refused(u8),
-}
-
-// Whether there are none, or the number of the refusal.
-#[derive(Clone, Copy)]
-pub enum Emptiness {
-    Empty,
-    Filled,
-    Refused(u8),
-}
-
-// The offset of the entry that set the vector which an id has now: `log_store::components` lends its floats. 24.
+// The offset of the entry that set the vector which an id has now, None where it has none: `log_store::components` lends its floats. 24.
 pub fn vector_at(
     epochs: &[u64],
     offsets: &[u64],
@@ -44,20 +22,20 @@ pub fn vector_at(
     count: usize,
     stored: usize,
     id: u64,
-) -> Standing
+) -> Result<Option<Offset>, Refusal>
     ensures { Stands (lent (columns epochs.now offsets.now ids.now codes.now lengths.now floats.now)
         keys.now places.now count stored) id result }
 {
     if !lent_fits(
         epochs, offsets, ids, codes, lengths, floats, keys, places, count, stored,
     ) {
-        return Standing::Refused(24);
+        return Err(Refusal::Malformed);
     }
     let at = place(keys, stored, id);
     if is_at(keys, stored, at, id) {
-        return Standing::At(Offset(places[at]));
+        return Ok(Some(Offset(places[at])));
     }
-    Standing::Missing
+    Ok(None)
 }
 
 // The components of the vector that an id has now, as a part of the lent floats, no copy. The part is empty where the id has none and where
@@ -81,7 +59,10 @@ pub fn vector<'a>(
     let standing = vector_at(
         epochs, offsets, ids, codes, lengths, floats, keys, places, count, stored, id,
     );
-    let Standing::At(offset) = standing else {
+    let Ok(found) = standing else {
+        return &floats[0..0];
+    };
+    let Some(offset) = found else {
         return &floats[0..0];
     };
     log_store::components(codes, lengths, floats, count, offset)
@@ -99,16 +80,16 @@ pub fn len(
     places: &[u64],
     count: usize,
     stored: usize,
-) -> Count
+) -> Result<usize, Refusal>
     ensures { result ≡ len_lent (lent (columns epochs.now offsets.now ids.now codes.now lengths.now floats.now)
         keys.now places.now count stored) }
 {
     if !lent_fits(
         epochs, offsets, ids, codes, lengths, floats, keys, places, count, stored,
     ) {
-        return Count::Refused(24);
+        return Err(Refusal::Malformed);
     }
-    Count::Vectors(stored)
+    Ok(stored)
 }
 
 // Whether it holds none. 24.
@@ -123,17 +104,14 @@ pub fn is_empty(
     places: &[u64],
     count: usize,
     stored: usize,
-) -> Emptiness
+) -> Result<bool, Refusal>
     ensures { result ≡ empty_lent (lent (columns epochs.now offsets.now ids.now codes.now lengths.now floats.now)
         keys.now places.now count stored) }
 {
     if !lent_fits(
         epochs, offsets, ids, codes, lengths, floats, keys, places, count, stored,
     ) {
-        return Emptiness::Refused(24);
+        return Err(Refusal::Malformed);
     }
-    if stored == 0 {
-        return Emptiness::Empty;
-    }
-    Emptiness::Filled
+    Ok(stored == 0)
 }

@@ -5,7 +5,6 @@ ghost use Rattle.std.specs.Prelude.{◌≡◌, not, eqb};
 ghost use Rattle.spec.specs.Lists.{◌and◌};
 ghost use Rattle.spec.specs.Node.Ack.{settled_row};
 
-use node_shard::rows::both;
 use spec::Peer;
 
 // Internal: a row after the outcome; `left` says that the peer leaves the ack set.
@@ -14,8 +13,8 @@ pub fn row_settled(p: Peer, left: bool) -> Peer
 {
     let mut q = p;
     q.proposing = false;
-    q.behind = both(p.behind, !left);
-    q.member = both(p.member, !left);
+    q.behind = p.behind && !left;
+    q.member = p.member && !left;
     q
 }
 
@@ -23,6 +22,5 @@ pub fn row_settled(p: Peer, left: bool) -> Peer
 pub fn own_after(own: bool, me: u64, peer: u64, left: bool) -> bool
     ensures { result ≡ (own and not (left and eqb peer me)) }
 {
-    let gone = both(left, peer == me);
-    both(own, !gone)
+    own && !(left && peer == me)
 }

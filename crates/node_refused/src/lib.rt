@@ -15,7 +15,7 @@ pub struct Refused {
 pub fn next_count(n: u32) -> u32
     ensures { result ≡ bumped n }
 {
-    if n < 4294967295 { n + 1 } else { n }
+    n.saturating_add(1)
 }
 
 // One more refused call, in place.

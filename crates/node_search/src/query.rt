@@ -13,14 +13,12 @@ pub fn read_query(s: &[u8], v: Part, out: &mut [f32]) -> bool
     ensures { ReadsQuery (bits_in s.now v) result v.len out.new }
 {
     let n = v.len;
-    let mut i: usize = 0;
-    while i < n {
+    for i in 0..n {
         let b = component(s, v, i);
         if !bits_in_domain(b) {
             return false;
         }
         out[i] = f32::from_bits(b);
-        i += 1;
     }
     true
 }

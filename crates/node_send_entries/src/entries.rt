@@ -25,10 +25,8 @@ pub fn entries_size(codes: &[u8], lengths: &[u8], from: usize, end: usize) -> us
     ensures { (result ≡ rows_size codes.now lengths.now (end - from) from) × (result ≤ 1071104) }
 {
     let mut total: usize = 0;
-    let mut i = from;
-    while i < end {
+    for i in from..end {
         total += entry_size(codes[i], lengths[i]);
-        i += 1;
     }
     total
 }
@@ -52,13 +50,11 @@ pub fn put_entries(
     ensures { out.new ≡ sets out.old at (entries_sent (columns epochs.now offsets.now ids.now codes.now lengths.now floats.now) (end - from) from) }
 {
     let mut p = at;
-    let mut i = from;
-    while i < end {
+    for i in from..end {
         put_entry_at(
             out, p, epochs, offsets, ids, codes, lengths, floats, count, i,
         );
         p += entry_size(codes[i], lengths[i]);
-        i += 1;
     }
 }
 
@@ -66,22 +62,13 @@ pub fn put_entries(
 pub fn place_of(offset: Offset, count: usize) -> usize
     ensures { result ≡ min (max offset.0 1 - 1) count }
 {
-    if offset.0 == 0 {
-        return 0;
-    }
-    let at = offset.0 - 1;
-    if at < count as u64 {
-        return at as usize;
-    }
-    count
+    let at = offset.0.saturating_sub(1);
+    at.min(count as u64) as usize
 }
 
 // Internal: how many entries go, of so many that are left.
 pub fn up_to(limit: usize, rest: usize) -> usize
     ensures { result ≡ min limit rest }
 {
-    if limit < rest {
-        return limit;
-    }
-    rest
+    limit.min(rest)
 }

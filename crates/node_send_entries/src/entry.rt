@@ -17,10 +17,8 @@ fn put_floats(out: &mut [u8], at: usize, v: &[f32])
     requires { (at + 4 * length v.now ≤ length out.old) × (length v.now ≤ 65536) × (every component v.now ≡ true) }
     ensures { out.new ≡ sets out.old at (concat_map (bytes_of 4) (map bits_of v.now)) }
 {
-    let mut i = 0;
-    while i < v.len() {
+    for i in 0..v.len() {
         num::put4(out, at + 4 * i, f32::to_bits(v[i]));
-        i += 1;
     }
 }
 

@@ -1,8 +1,8 @@
 -- The calls on one held shard are the definitions' calls on a node that holds it: the same answer, and the node with that one shard
 -- changed in its place. Assumes nothing.
-use mathlib.Core.Path.{◌≡◌, refl, ap, sym, ◌∙◌}
+use mathlib.Core.Path.{◌≡◌, refl, ap, sym}
 use mathlib.Core.Bool.{Bool, true, false, cond, not}
-use mathlib.Core.Option.{Option, none, some}
+use mathlib.Core.Option.{some}
 use Prim.Native.Nat.{ℕ}
 use Rattle.spec.specs.Lists.{◌or◌}
 use Rattle.spec.specs.Keys.{Key}
@@ -11,8 +11,8 @@ use Rattle.spec.specs.Layout.Message.{Reply}
 use Rattle.spec.specs.Map.Apply.{update}
 use Rattle.spec.specs.Node.Held.{Held, Node}
 use Rattle.spec.specs.Node.Shards.{Result, gives, of_key, held_shard, with_held}
-use Rattle.spec.specs.Node.Client.{WaitAnswer, wait_refused, wait_held, on_wait}
-use Rattle.spec.specs.Node.Ack.{AckAnswer, ack_refused, Sent, bad_reply, ack_held, on_ack, OutcomeAnswer, outcome_refused, outcome_held, outcome_at, Proposal, leaves, on_outcome}
+use Rattle.spec.specs.Node.Client.{wait_refused, wait_held, on_wait}
+use Rattle.spec.specs.Node.Ack.{ack_refused, Sent, bad_reply, ack_held, on_ack, outcome_refused, outcome_at, Proposal, leaves, on_outcome}
 use Rattle.spec.specs.Node.Calls.{late_time, wait_with, ack_of, outcome_with}
 use Rattle.spec_laws.proofs.Node.Shards.{at_held, update_same}
 use Rattle.node_shard.specs.Answers.{wait_call, outcome_call}

@@ -1,13 +1,12 @@
 -- Laws of the loops over a table in use, `take n xs`, over any element. Assumes nothing.
 use mathlib.Core.List.{List, [], ◌∷◌, ◌++◌, map}
 use mathlib.Core.Path.{◌≡◌, refl, ap, sym, ◌∙◌, subst, subst⁻¹}
-use mathlib.Core.Bool.{Bool, true, false, cond, not}
-use mathlib.Core.Option.{Option, none, some}
+use mathlib.Core.Bool.{Bool, true, false, cond}
 use Prim.Native.Nat.{ℕ, suc, zero, ◌+◌, ◌-◌, ◌<◌, ◌≤◌}
 use native.Mathlib.Numerals.{add-one}
 use native.Mathlib.Omega.{arith}
-use lib.ListN.{length, take, drop, get_or, set, length-take, length-drop, length-set, length-append, drop_of_length-le}
-use lib.Seq.{drop-cons, take-suc, take-suc-set, drop-set-lt, append_snoc, take-append-le, drop-length, length-take-le, get_or-take, take-add, take_at, drop_at, take-append-add}
+use lib.ListN.{length, take, drop, get_or, set, drop_of_length-le}
+use lib.Seq.{drop-cons, take-suc, take-suc-set, drop-set-lt, append_snoc, length-take-le, get_or-take, take-add, take_at, drop_at, take-append-add}
 use Rattle.spec.specs.Lists.{◌and◌, lead, collect, every, any, rising}
 use Rattle.node_shard.specs.View.{insert_at}
 

@@ -1,6 +1,6 @@
 -- Paper 01, 'Who is turned down', 24: what is malformed of one held shard as it is lent. Its key's name, which others hold, apart.
 -- Definitions only.
-use Rattle.std.specs.Prelude.{ℕ, Bool, leb, take}
+use Rattle.std.specs.Prelude.{Bool, leb, take}
 use Rattle.spec.specs.Lists.{◌and◌, every, rising}
 use Rattle.spec.specs.Limits.{max_replicas, max_entries, max_workers}
 use Rattle.spec.specs.Node.Shards.{row_below}

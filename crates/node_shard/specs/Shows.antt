@@ -1,6 +1,6 @@
 -- What a shown map promises of one shard: the shard after and the workers to start are those of the definition, whatever the shard's key,
 -- log and vectors are; `full` exactly where a 33rd worker would be needed. Definitions only.
-use Rattle.std.specs.Prelude.{ℕ, Bool, false, not, map, eqb, leb}
+use Rattle.std.specs.Prelude.{ℕ, Bool, false, not, eqb, leb}
 use Rattle.std.proofs.Math.Option.{Option, none, some}
 use Rattle.spec.specs.Lists.{◌and◌}
 use Rattle.spec.specs.Keys.{Key}
@@ -10,16 +10,16 @@ use Rattle.spec.specs.declared.Metric.{Metric}
 use Rattle.spec.specs.declared.DataNodeId.{DataNodeId}
 use Rattle.spec.specs.declared.Role.{Role}
 use Rattle.spec.specs.declared.Role.TheVariants.{Backup, Primary}
-use Rattle.node_shard.specs.declared.Leader.{Leader}
-use Rattle.node_shard.specs.declared.Leader.TheVariants.{Nobody, At}
+use Rattle.std.specs.declared.option.Option as option
+use Rattle.std.specs.Prelude.{None, Some}
 
-abbrev pub leader_is : Leader → ℕ → Bool
-leader_is Nobody me = false
-leader_is (At n) me = eqb n me
+abbrev pub leader_is : option.Option ℕ → ℕ → Bool
+leader_is None me = false
+leader_is (Some n) me = eqb n me
 
-abbrev pub leader_of : Leader → Option ℕ
-leader_of Nobody = none
-leader_of (At n) = some n
+abbrev pub leader_of : option.Option ℕ → Option ℕ
+leader_of None = none
+leader_of (Some n) = some n
 
 -- node.rs, on_map: promotion, or the first epoch of a new shard
 abbrev pub rises : Role → (own epoch : ℕ) → Bool

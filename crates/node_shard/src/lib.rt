@@ -101,10 +101,3 @@ pub struct Acked {
     pub answer: AckAnswer,
     pub held: Held,
 }
-
-// The primary that a map lists for a shard.
-#[derive(Clone, Copy)]
-pub enum Leader {
-    Nobody,
-    At(u64),
-}

@@ -1,6 +1,6 @@
 // Internal: the role, and the rows of a primary's peers, one row or one loop a function.
 ghost use Rattle.std.specs.Prelude.{◌≡◌, ◌≤◌, ◌-◌, take};
-ghost use Rattle.spec.specs.Lists.{◌and◌, ◌or◌, any};
+ghost use Rattle.spec.specs.Lists.{◌and◌, any};
 ghost use Rattle.spec.specs.Node.Shards.{leads_at, on_node};
 ghost use Rattle.spec.specs.Node.Shown.{is_node};
 
@@ -10,12 +10,6 @@ pub fn both(a: bool, b: bool) -> bool
     ensures { result ≡ (a and b) }
 {
     if a { b } else { false }
-}
-
-pub fn either(a: bool, b: bool) -> bool
-    ensures { result ≡ (a or b) }
-{
-    if a { true } else { b }
 }
 
 pub fn leads(role: Role, epoch: u64) -> bool
@@ -31,13 +25,11 @@ pub fn in_nodes(nodes: [DataNodeId; 8], count: usize, node: u64) -> bool
     requires { count ≤ 8 }
     ensures { result ≡ any (is_node node) (take count nodes) }
 {
-    let mut i: usize = 0;
-    while i < count {
+    for i in 0..count {
         let n = nodes[i];
         if n.0 == node {
             return true;
         }
-        i += 1;
     }
     false
 }
@@ -46,13 +38,11 @@ pub fn is_holder(replicas: [Replica; 8], count: usize, node: u64) -> bool
     requires { count ≤ 8 }
     ensures { result ≡ any (on_node node) (take count replicas) }
 {
-    let mut i: usize = 0;
-    while i < count {
+    for i in 0..count {
         let n = replicas[i];
         if n.node.0 == node {
             return true;
         }
-        i += 1;
     }
     false
 }

@@ -21,7 +21,7 @@ use Rattle.node_shard.proofs.Loops.{used-next, used_over, take_put}
 use Rattle.map_tables.specs.declared.ShardRow.{ShardRow}
 use Rattle.map_tables.specs.declared.Shards.{Shards}
 use Rattle.map_tables.specs.declared.ShardMap.{ShardMap}
-use Rattle.map_tables.specs.declared.Primary.TheVariants.{Nobody}
+use Rattle.std.specs.Prelude.{None}
 use Rattle.map_tables.specs.Counted.{Sized, row_counted, ShardsCounted}
 use Rattle.map_tables.proofs.Tables.{every-at}
 use Rattle.map_tables.specs.declared.Collections.{Collections}
@@ -220,7 +220,7 @@ abbrev pub no_row : ShardRow
 no_row = record {
   key = record { collection = record { bytes = []; len = 0 }; shard = 0 };
   replicas = record { items = []; count = 0 };
-  primary = Nobody;
+  primary = None;
   insync = record { items = []; count = 0 };
   epoch = record { 0 = 0 };
 }

@@ -6,10 +6,8 @@ ghost use Rattle.node_shard.specs.Shows.{leader_of, record_epoch};
 ghost use Rattle.map_tables.specs.View.{view_holders, view_primary};
 ghost use Rattle.node_show_row.specs.Rows.{dead_at};
 
-use map_tables::{Holders, NodeRow, Primary};
-use node_shard::Leader;
-use node_shard::rows::both;
-use spec::{Epoch, Role};
+use map_tables::{Holders, NodeRow};
+use spec::{DataNodeId, Epoch, Role};
 
 // A replica on this node, under its incarnation.
 pub fn is_listed(h: Holders, id: u64, incarnation: u64) -> bool
@@ -18,13 +16,11 @@ pub fn is_listed(h: Holders, id: u64, incarnation: u64) -> bool
 {
     let items = h.items;
     let count = h.count;
-    let mut i: usize = 0;
-    while i < count {
+    for i in 0..count {
         let x = items[i];
-        if both(x.node.0 == id, x.incarnation == incarnation) {
+        if x.node.0 == id && x.incarnation == incarnation {
             return true;
         }
-        i += 1;
     }
     false
 }
@@ -33,16 +29,16 @@ pub fn is_listed(h: Holders, id: u64, incarnation: u64) -> bool
 pub fn is_dead(x: NodeRow, id: u64, incarnation: u64) -> bool
     ensures { result ≡ dead_at id incarnation x }
 {
-    let gone = both(x.incarnation == incarnation, !x.alive);
-    both(x.node.0 == id, gone)
+    let gone = x.incarnation == incarnation && !x.alive;
+    x.node.0 == id && gone
 }
 
-pub fn leader_of(p: Primary) -> Leader
+pub fn leader_of(p: Option<DataNodeId>) -> Option<u64>
     ensures { leader_of result ≡ view_primary p }
 {
     match p {
-        Primary::Nobody => Leader::Nobody,
-        Primary::At(n) => Leader::At(n.0),
+        None => None,
+        Some(n) => Some(n.0),
     }
 }
 

@@ -5,17 +5,16 @@ ghost use Rattle.std.specs.Prelude.{◌≡◌};
 ghost use Rattle.spec.specs.Node.Shown.{new_row};
 ghost use Rattle.node_shard.specs.Shows.{leader_is, rises};
 
-use node_shard::Leader;
-use node_shard::rows::{both, leads};
+use node_shard::rows::leads;
 use spec::{DataNodeId, Offset, Peer, Role};
 
 // Internal: whether the map lists this node as primary.
-pub fn is_leader(l: Leader, me: u64) -> bool
+pub fn is_leader(l: Option<u64>, me: u64) -> bool
     ensures { result ≡ leader_is l me }
 {
     match l {
-        Leader::Nobody => false,
-        Leader::At(n) => n == me,
+        None => false,
+        Some(n) => n == me,
     }
 }
 
@@ -38,6 +37,5 @@ pub fn row_new(node: DataNodeId, member: bool) -> Peer
 pub fn rising_to(role: Role, own: u64, epoch: u64) -> bool
     ensures { result ≡ rises role own epoch }
 {
-    let led = leads(role, epoch);
-    both(!led, own <= epoch)
+    !leads(role, epoch) && own <= epoch
 }

@@ -5,7 +5,7 @@ use mathlib.Core.List.{List, map}
 use Prim.Native.Nat.{ℕ, ◌-◌}
 use lib.Dec.{ltb}
 use lib.ListN.{take}
-use Rattle.spec.specs.Lists.{◌and◌, ◌or◌, every, collect}
+use Rattle.spec.specs.Lists.{◌and◌, every, collect}
 use Rattle.spec.specs.Node.Shards.{leads_at}
 use Rattle.spec.specs.Node.Client.{lacks, behind_since, to_shrink, wait_row, node_of, has_acked, wait_held}
 use Rattle.spec.specs.declared.Peer.{Peer}

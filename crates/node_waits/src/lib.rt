@@ -4,14 +4,13 @@
 ghost use Rattle.std.specs.Prelude.{◌≡◌, ◌-◌};
 ghost use Rattle.spec.specs.Node.Client.{lacks, behind_since, to_shrink, wait_row};
 
-use node_shard::rows::{both, either};
 use spec::Peer;
 
 // Internal: a member of the ack set that has not acked the offset.
 pub fn is_late(p: Peer, offset: u64) -> bool
     ensures { result ≡ lacks offset p }
 {
-    both(p.member, p.acked.0 < offset)
+    p.member && p.acked.0 < offset
 }
 
 // Internal: for how long it has been behind; a clock that ran back counts as no time.
@@ -19,7 +18,7 @@ pub fn elapsed(p: Peer, now: u64) -> u64
     ensures { result ≡ now - behind_since p now }
 {
     if p.behind {
-        if now < p.since { 0 } else { now - p.since }
+        now.saturating_sub(p.since)
     } else {
         0
     }
@@ -31,8 +30,7 @@ pub fn row_waited(p: Peer, last: u64, now: u64, timeout: u64) -> Peer
 {
     if is_late(p, last) {
         let mut q = p;
-        let over = timeout < elapsed(p, now);
-        q.proposing = either(p.proposing, over);
+        q.proposing = p.proposing || timeout < elapsed(p, now);
         if p.behind {
             return q;
         }
@@ -48,8 +46,7 @@ pub fn shrinks(p: Peer, last: u64, now: u64, timeout: u64) -> bool
     ensures { result ≡ to_shrink last now timeout p }
 {
     if is_late(p, last) {
-        let e = elapsed(p, now);
-        return both(timeout < e, !p.proposing);
+        return timeout < elapsed(p, now) && !p.proposing;
     }
     false
 }

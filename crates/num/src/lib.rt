@@ -1,43 +1,28 @@
 // Numbers in bytes, least significant first (paper 01, 'Bytes on the wire'), and the source's `wrapping_mul`.
-// Reading is a flat sum of products and writing one store a byte: the compiler makes a single load or store of
-// either. The laws are stated over every width in proofs/Words.antt. Internal: a caller shows that the bytes are there.
+// Reading is the library's flat sum of products and writing one store a byte: the compiler makes a single load or store of
+// either. Internal: a caller shows that the bytes are there.
 #![tactic(auto)]
 
 ghost use Rattle.std.specs.Prelude.{◌≡◌, ◌+◌, ◌*◌, ◌%◌, ◌^◌, ◌<◌, ◌≤◌, length};
 ghost use Rattle.std.proofs.lemmas.List.Edits.{sets};
 ghost use Rattle.spec.specs.Layout.Format.{number_at, bytes_of};
 
-fn wide(x: u8) -> u64
-    ensures { (result ≡ x) × (result < 256) }
-{
-    x as u64
-}
-
-fn wide4(x: u8) -> u32
-    ensures { (result ≡ x) × (result < 256) }
-{
-    x as u32
-}
-
-fn wide2(x: u8) -> u16
-    ensures { (result ≡ x) × (result < 256) }
-{
-    x as u16
-}
-
 // The number of 8 bytes at a position.
+// Stays three functions: each width has a type of its own, whose function of the library reads it.
 pub fn get8(s: &[u8], at: usize) -> u64
     requires { at + 8 ≤ length s.now }
     ensures { result ≡ number_at 8 s.now at }
 {
-    wide(s[at])
-        + 256 * wide(s[at + 1])
-        + 65536 * wide(s[at + 2])
-        + 16777216 * wide(s[at + 3])
-        + 4294967296 * wide(s[at + 4])
-        + 1099511627776 * wide(s[at + 5])
-        + 281474976710656 * wide(s[at + 6])
-        + 72057594037927936 * wide(s[at + 7])
+    u64::from_le_bytes([
+        s[at],
+        s[at + 1],
+        s[at + 2],
+        s[at + 3],
+        s[at + 4],
+        s[at + 5],
+        s[at + 6],
+        s[at + 7],
+    ])
 }
 
 // The number of 4 bytes at a position.
@@ -45,7 +30,7 @@ pub fn get4(s: &[u8], at: usize) -> u32
     requires { at + 4 ≤ length s.now }
     ensures { result ≡ number_at 4 s.now at }
 {
-    wide4(s[at]) + 256 * wide4(s[at + 1]) + 65536 * wide4(s[at + 2]) + 16777216 * wide4(s[at + 3])
+    u32::from_le_bytes([s[at], s[at + 1], s[at + 2], s[at + 3]])
 }
 
 // The number of 2 bytes at a position.
@@ -53,10 +38,11 @@ pub fn get2(s: &[u8], at: usize) -> u16
     requires { at + 2 ≤ length s.now }
     ensures { result ≡ number_at 2 s.now at }
 {
-    wide2(s[at]) + 256 * wide2(s[at + 1])
+    u16::from_le_bytes([s[at], s[at + 1]])
 }
 
 // The 8 bytes of a number, stored from a position on.
+// Stays three functions: each width has a type of its own.
 pub fn put8(out: &mut [u8], at: usize, v: u64)
     requires { at + 8 ≤ length out.old }
     ensures { out.new ≡ sets out.old at (bytes_of 8 v) }
@@ -91,14 +77,9 @@ pub fn put2(out: &mut [u8], at: usize, v: u16)
     out[at + 1] = (v / 256 % 256) as u8;
 }
 
-// The source's `wrapping_mul` of u64: the low 64 bits of the product, from the products of 32-bit halves.
+// The source's `wrapping_mul` of u64: the low 64 bits of the product.
 pub fn wrapping_mul(a: u64, b: u64) -> u64
     ensures { result ≡ (a * b) % 2 ^ 64 }
 {
-    let a0 = a % 4294967296;
-    let a1 = a / 4294967296;
-    let b0 = b % 4294967296;
-    let b1 = b / 4294967296;
-    let cross = (a1 * b0 % 4294967296 + a0 * b1 % 4294967296) % 4294967296;
-    std::num::wrapping_add_u64(a0 * b0, cross * 4294967296)
+    a.wrapping_mul(b)
 }

@@ -1,13 +1,13 @@
 -- Whole numbers below 2 ^ 24 as floats: exact, under either sign, and zero with a plus. Assumes nothing.
-use Prim.Native.Nat.{ℕ, zero, suc, ◌+◌, ◌*◌, ◌-◌, ◌^◌, ◌≤◌, ◌<◌}
+use Prim.Native.Nat.{ℕ, zero, suc, ◌*◌, ◌-◌, ◌^◌, ◌<◌}
 use mathlib.Core.Path.{◌≡◌, refl, sym, ap, ◌∙◌, subst}
-use mathlib.Core.Bool.{Bool, true, false, not}
+use mathlib.Core.Bool.{true, false}
 use native.Mathlib.Nat.{mul-one, one-mul, zero-mul, mul-pos, zero-lt-suc, le_of_lt}
 use native.Mathlib.Omega.{arith}
 use borrow.Author.Tests.{lt-ltb}
-use lib.Dec.{T, ltb, le→leb}
-use lib.IntN.{ℤ, pos, negsuc, neg_ℤ}
-use lib.Ieee.{Float, nan, inf, fin, binary32, up, down, neg, sum, add, sub, round, odd, of_fields, of_bits, of_int, in_float}
+use lib.Dec.{T, le→leb}
+use lib.IntN.{pos, neg_ℤ}
+use lib.Ieee.{Float, nan, inf, fin, binary32, down, neg, sum, add, sub, odd, of_fields, of_bits, of_int, in_float}
 use lib.Ieee.Exact.{HasValue}
 use lib.Ieee.Fits.{down_pos}
 use lib.Ieee.Back.{round_whole}

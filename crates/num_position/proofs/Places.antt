@@ -1,17 +1,15 @@
 -- What a position is of fields in range. Assumes nothing.
-use Prim.Native.Nat.{ℕ, zero, suc, ◌*◌, ◌≤◌, ◌<◌, ◌^◌}
-use mathlib.Core.Path.{◌≡◌, refl, sym, ap, ◌∙◌, subst}
+use Prim.Native.Nat.{ℕ, zero, suc, ◌≤◌}
+use mathlib.Core.Path.{◌≡◌, refl, ◌∙◌}
 use mathlib.Core.Bool.{true, false}
-use native.Mathlib.Nat.{le_refl, le-suc, lt_of_le_of_lt}
+use native.Mathlib.Nat.{lt_of_le_of_lt}
 use native.Mathlib.Omega.{arith}
 use lib.Dec.{lit<}
 use lib.IntN.{ℤ, pos, neg_ℤ}
-use lib.Signed.{mag}
 use mir.Syntax.{w64}
 use mir.Val.{SFits}
-use Rattle.spec_position.specs.Positions.{turned, out_of_range, thousandths_of, dec_size, signed_by, in_range, position_of, to_position}
+use Rattle.spec_position.specs.Positions.{turned, out_of_range, dec_size, signed_by, in_range, position_of, to_position}
 use Rattle.spec_position.specs.declared.Fields.{Fields}
-use Rattle.spec_position.specs.declared.Position.{Position}
 use Rattle.spec_position.proofs.FieldLaws.{ra_size, in_facts}
 use Rattle.num_position.proofs.SignedLaws.{read, back, mag_neg}
 

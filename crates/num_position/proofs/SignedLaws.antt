@@ -10,7 +10,7 @@ use lib.Dec.{T, lit<}
 use lib.IntN.{ℤ, pos, negsuc, neg_ℤ, nat_abs, ◌-ℤ◌, +ℤ_idl, +ℤ_comm, -ℤ_one}
 use lib.Signed.{mag, lt_z, non_neg}
 use mir.Syntax.{w32, w64}
-use mir.Val.{Fits, SFits, to_z, of_z, bits, hbits, bool_byte}
+use mir.Val.{Fits, SFits, to_z, of_z, bool_byte}
 use mir.Facts.{to_z-of_z}
 use Rattle.spec_position.specs.Positions.{is_minus}
 

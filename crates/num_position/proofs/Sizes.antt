@@ -16,8 +16,7 @@ use Rattle.spec_position.proofs.Bounds.{within-sizes, sizes_bounds}
 use Rattle.num_position.specs.Sizes.{sizes_of, sized_of}
 use Rattle.num_position.specs.declared.signed.Signed.{Signed}
 use Rattle.num_position.specs.declared.signed.Sizes.{Sizes}
-use Rattle.num_position.specs.declared.signed.Sized.{Sized}
-use Rattle.num_position.specs.declared.signed.Sized.TheVariants.{Within, OutOfRange}
+use Rattle.std.specs.Prelude.{Some, None}
 use Rattle.num_position.proofs.SignedLaws.{read, back}
 
 -- ---- of sizes that were read
@@ -52,53 +51,53 @@ module _ (p : Position) (fa : SFits w64 p.ra) (fd : SFits w64 p.dec) (a d : Sign
   is_within : within p ≡ b
   is_within = within-sizes p ∙ sym (t ∙ rw (minus_is, ra_is, dec_is) refl)
 
-  pub sized-out : b ≡ false → OutOfRange ≡ sized_of p
+  pub sized-out : b ≡ false → None ≡ sized_of p
   unfolding sized_of
   sized-out e = rw (is_within ∙ e) refl
 
-  pub sized_in : b ≡ true → Within (record { ra = a.size; minus = d.minus; dec = d.size }) ≡ sized_of p
+  pub sized_in : b ≡ true → Some (record { ra = a.size; minus = d.minus; dec = d.size }) ≡ sized_of p
   unfolding sized_of
   sized_in e = rw (is_within ∙ e) (rw (ra_is, sign-is, dec_is) refl)
 
 -- ---- of a position whose sizes are known
 
 module _ (p : Position) where
-  out_of : sized_of p ≡ OutOfRange → within p ≡ false
+  out_of : sized_of p ≡ None → within p ≡ false
   unfolding sized_of
   out_of = go (within p)
     where
-      go : (b : Bool) → cond b (Within (sizes_of p)) OutOfRange ≡ OutOfRange → b ≡ false
+      go : (b : Bool) → cond b (Some (sizes_of p)) None ≡ None → b ≡ false
       go true e = let z : ◌≡◌ {A = ℕ} 0 1 = cc in absurd (omega arith)
       go false e = refl
 
-  pub in_of : (s : Sizes) → sized_of p ≡ Within s → (within p ≡ true) × (sizes_of p ≡ s)
+  pub in_of : (s : Sizes) → sized_of p ≡ Some s → (within p ≡ true) × (sizes_of p ≡ s)
   unfolding sized_of
   in_of s = go (within p)
     where
-      go : (b : Bool) → cond b (Within (sizes_of p)) OutOfRange ≡ Within s → (b ≡ true) × (sizes_of p ≡ s)
+      go : (b : Bool) → cond b (Some (sizes_of p)) None ≡ Some s → (b ≡ true) × (sizes_of p ≡ s)
       go true e = (refl, cc)
       go false e = let z : ◌≡◌ {A = ℕ} 0 1 = cc in absurd (omega arith)
 
-  pub bounds : (s : Sizes) → sized_of p ≡ Within s → Bounds s
+  pub bounds : (s : Sizes) → sized_of p ≡ Some s → Bounds s
   bounds s e =
       let h = (sizes_bounds _ _ _ (sym (within-sizes p) ∙ (in_of s e).0)).1 in
       subst Bounds (in_of s e).1 (record { ra = h.0; dec = h.1 })
 
-  pub not_fielded : sized_of p ≡ OutOfRange → out_of_range ≡ to_fields p
+  pub not_fielded : sized_of p ≡ None → out_of_range ≡ to_fields p
   unfolding to_fields
   not_fielded e = rw (out_of e) refl
 
-  pub not_vectored : sized_of p ≡ OutOfRange → out_of_range ≡ to_vector p
+  pub not_vectored : sized_of p ≡ None → out_of_range ≡ to_vector p
   unfolding to_vector
   not_vectored e = rw (out_of e) refl
 
-  pub no_thousandth_lem : (s : Sizes) → sized_of p ≡ Within s → (s.ra % 15 ≡ 0 → ⊥) → no_thousandth ≡ to_fields p
+  pub no_thousandth_lem : (s : Sizes) → sized_of p ≡ Some s → (s.ra % 15 ≡ 0 → ⊥) → no_thousandth ≡ to_fields p
   unfolding to_fields
   no_thousandth_lem s e n =
       let k : nat_abs p.ra % 15 ≡ 0 → ⊥ = λ z. n (ap (λ (x : Sizes). x.ra % 15) (sym (in_of s e).1) ∙ z) in
       rw (in_of s e).0 (rw (ne_eqb _ _ k) refl)
 
-  pub fielded_as : (s : Sizes) → sized_of p ≡ Within s → s.ra % 15 ≡ 0 → turned (fields_by (s.ra / 15) s.minus s.dec) ≡ to_fields p
+  pub fielded_as : (s : Sizes) → sized_of p ≡ Some s → s.ra % 15 ≡ 0 → turned (fields_by (s.ra / 15) s.minus s.dec) ≡ to_fields p
   unfolding to_fields fields_of
   fielded_as s e z =
       let k : nat_abs p.ra % 15 ≡ 0 = ap (λ (x : Sizes). x.ra % 15) (in_of s e).1 ∙ z in
@@ -130,6 +129,6 @@ module _ (p : Position) where
   unfolding floats_of
   floats-by w = rw (seconds_by p.ra, left_by p.ra, seconds_by p.dec, left_by p.dec) (rw (plus w) refl)
 
-  pub vectored_as : (s : Sizes) → sized_of p ≡ Within s → turned (floats_by s) ≡ to_vector p
+  pub vectored_as : (s : Sizes) → sized_of p ≡ Some s → turned (floats_by s) ≡ to_vector p
   unfolding to_vector
   vectored_as s e = rw (in_of p s e).0 (sym (ap turned (floats-by (in_of p s e).0 ∙ ap floats_by (in_of p s e).1)))

@@ -10,7 +10,7 @@ ghost use Rattle.num_position.specs.Answers.{placed, fielded, vectored};
 
 use crate::floats::float_of;
 use crate::parts::{fields_of, in_range, thousandths_of};
-use crate::signed::{Sized, negated, plain, sizes_of};
+use crate::signed::{negated, plain, sizes_of};
 use spec_position::{Fields, Position};
 
 mod floats;
@@ -21,68 +21,49 @@ pub mod signed;
 #[derive(Drop)]
 pub struct Vector(pub f32, pub f32, pub f32, pub f32);
 
-// A position, or 30.
-#[derive(Drop)]
-pub enum Placing {
-    Placed(Position),
-    OutOfRange,
-}
-
-// Fields, 30 or 31.
-#[derive(Drop)]
-pub enum Fielding {
-    Fielded(Fields),
+// Why a position has no fields: 30 and 31.
+#[derive(Clone, Copy, PartialEq, Eq, Debug)]
+pub enum Refusal {
     OutOfRange,
     NoThousandth,
 }
 
-// Floats, or 30.
-#[derive(Drop)]
-pub enum Vectoring {
-    Vectored(Vector),
-    OutOfRange,
-}
-
-// The milliarcseconds of fields.
-pub fn to_position(f: Fields) -> Placing
+// The milliarcseconds of fields; None is 30.
+pub fn to_position(f: Fields) -> Option<Position>
     ensures { placed result ≡ to_position f }
 {
     if !in_range(f) {
-        return Placing::OutOfRange;
+        return None;
     }
     let ra = plain(thousandths_of(f.hours, f.minutes, f.thousandths) * 15);
     let size = thousandths_of(f.degrees, f.arcminutes, f.arcthousandths);
     if f.minus == 0 {
         let dec = plain(size);
-        return Placing::Placed(Position { ra: ra, dec: dec });
+        return Some(Position { ra, dec });
     }
     let dec = negated(size);
-    Placing::Placed(Position { ra: ra, dec: dec })
+    Some(Position { ra, dec })
 }
 
 // The fields of milliarcseconds. 30 of either coordinate comes before 31.
-pub fn to_fields(p: Position) -> Fielding
+pub fn to_fields(p: Position) -> Result<Fields, Refusal>
     ensures { fielded result ≡ to_fields p }
 {
-    let Sized::Within(sizes) = sizes_of(p) else {
-        return Fielding::OutOfRange;
-    };
+    let sizes = sizes_of(p).ok_or(Refusal::OutOfRange)?;
     if sizes.ra % 15 != 0 {
-        return Fielding::NoThousandth;
+        return Err(Refusal::NoThousandth);
     }
-    Fielding::Fielded(fields_of(sizes.ra / 15, sizes.minus, sizes.dec))
+    Ok(fields_of(sizes.ra / 15, sizes.minus, sizes.dec))
 }
 
-// The floats of milliarcseconds, which need be no whole thousandths of seconds.
-pub fn to_vector(p: Position) -> Vectoring
+// The floats of milliarcseconds, which need be no whole thousandths of seconds; None is 30.
+pub fn to_vector(p: Position) -> Option<Vector>
     ensures { vectored result ≡ to_vector p }
 {
-    let Sized::Within(sizes) = sizes_of(p) else {
-        return Vectoring::OutOfRange;
-    };
+    let sizes = sizes_of(p)?;
     let a = float_of(false, sizes.ra / 1000);
     let b = float_of(false, sizes.ra % 1000);
     let c = float_of(sizes.minus, sizes.dec / 1000);
     let d = float_of(sizes.minus, sizes.dec % 1000);
-    Vectoring::Vectored(Vector(a, b, c, d))
+    Some(Vector(a, b, c, d))
 }

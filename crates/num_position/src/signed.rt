@@ -20,12 +20,6 @@ pub struct Sizes {
     pub dec: u32,
 }
 
-#[derive(Drop)]
-pub enum Sized {
-    Within(Sizes),
-    OutOfRange,
-}
-
 // One less than the size of a number below zero always fits.
 pub fn split(z: i64) -> Signed
     ensures { (result.minus ≡ is_minus z) × (result.size ≡ nat_abs z) }
@@ -57,15 +51,15 @@ fn sizes_within(minus: bool, ra: u64, dec: u64) -> bool
 }
 
 // The sizes of a position, where it is in range.
-pub fn sizes_of(p: Position) -> Sized
+pub fn sizes_of(p: Position) -> Option<Sizes>
     ensures { result ≡ sized_of p }
 {
     let ra = split(p.ra);
     let dec = split(p.dec);
     if !sizes_within(ra.minus, ra.size, dec.size) {
-        return Sized::OutOfRange;
+        return None;
     }
-    Sized::Within(Sizes {
+    Some(Sizes {
         ra: ra.size as u32,
         minus: dec.minus,
         dec: dec.size as u32,

@@ -45,8 +45,7 @@ pub fn builds(map: &mut [u8], call: u8, s: &[u8]) -> bool {
 // The nodes of one list, from a place on.
 fn nodes(lists: &[u8], from: usize, n: usize) {
     let mut at = from;
-    let mut left = n;
-    while 0 < left {
+    for _ in 0..n {
         if lists.len() < 8 {
             return;
         }
@@ -55,7 +54,6 @@ fn nodes(lists: &[u8], from: usize, n: usize) {
         }
         number(num::get8(lists, at));
         at += 8;
-        left -= 1;
     }
 }
 
@@ -63,8 +61,7 @@ fn nodes(lists: &[u8], from: usize, n: usize) {
 pub fn lists(list: &[u8], from: usize, shards: u32, replication: u32) -> usize {
     line(b"placed", shards as u64);
     let mut at = from;
-    let mut left = shards;
-    while 0 < left {
+    for _ in 0..shards {
         if 33280 < at {
             return at;
         }
@@ -72,7 +69,6 @@ pub fn lists(list: &[u8], from: usize, shards: u32, replication: u32) -> usize {
         nodes(list, at, replication as usize);
         word(b"\n");
         at += 8 * (replication as usize);
-        left -= 1;
     }
     at
 }

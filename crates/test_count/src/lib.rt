@@ -61,8 +61,7 @@ fn list_at(ids: &[u8], n: u64) -> NodeList {
     let base = (ids.len() / 8) as u64;
     let mut nodes = [DataNodeId(0); 8];
     let mut left = n;
-    let mut count: usize = 0;
-    while count < 8 {
+    for count in 0..8 {
         if left == 0 {
             return NodeList {
                 nodes: nodes,
@@ -72,11 +71,10 @@ fn list_at(ids: &[u8], n: u64) -> NodeList {
         let node = DataNodeId(id_at(ids, digit(left, base)));
         nodes[count] = node;
         left = shorter(left, base);
-        count += 1;
     }
     NodeList {
         nodes: nodes,
-        count: count,
+        count: 8,
     }
 }
 
@@ -86,8 +84,7 @@ fn placement_at(ids: &[u8], each: u64, n: u64) -> Placement
     let empty = list_at(ids, 0);
     let mut lists = [empty; 16];
     let mut left = n;
-    let mut count: usize = 0;
-    while count < 16 {
+    for count in 0..16 {
         if left == 0 {
             return Placement {
                 lists: lists,
@@ -97,11 +94,10 @@ fn placement_at(ids: &[u8], each: u64, n: u64) -> Placement
         let list = list_at(ids, digit(left, each));
         lists[count] = list;
         left = shorter(left, each);
-        count += 1;
     }
     Placement {
         lists: lists,
-        count: count,
+        count: 16,
     }
 }
 
@@ -131,13 +127,11 @@ pub fn walk(map: &[u8], name: Name, spec: Spec, ids: &[u8], each: u64, total: u6
         five: 0,
         full: 0,
     };
-    let mut i: u64 = 0;
-    while i < total {
+    for i in 0..total {
         let p = placement_at(ids, each, i);
         let v = create_answer(map, name, spec, p);
         let more = with(w, verdict_number(v));
         w = more;
-        i += 1;
     }
     w
 }

@@ -60,12 +60,10 @@ pub fn vector(s: &[u8], v: Part, column: &mut [u32; 8192], from: usize) -> usize
     if 32 < n {
         return 0;
     }
-    let mut i = 0usize;
-    while i < n {
+    for i in 0..n {
         let b = wire_read::parts::component(s, v, i);
         bits(b);
         column[from + i] = b;
-        i += 1;
     }
     n
 }
@@ -80,8 +78,8 @@ pub fn op(s: &[u8], o: OpPart, column: &mut [u32; 8192], from: usize) -> OpTaken
             let n = vector(s, v, column, from);
             OpTaken {
                 upsert: true,
-                id: id,
-                n: n,
+                id,
+                n,
             }
         }
         OpPart::Delete { id } => {
@@ -89,7 +87,7 @@ pub fn op(s: &[u8], o: OpPart, column: &mut [u32; 8192], from: usize) -> OpTaken
             number(id);
             OpTaken {
                 upsert: false,
-                id: id,
+                id,
                 n: 0,
             }
         }
@@ -105,14 +103,12 @@ pub fn table(s: &[u8], t: Part, column: &mut [u64; 2048]) -> usize
     if 1024 < n {
         return 0;
     }
-    let mut i = 0usize;
-    while i < n {
+    for i in 0..n {
         let pair = wire_read::parts::end_at(s, t, i);
         number(pair.epoch.0);
         number(pair.end.0);
         column[i] = pair.epoch.0;
         column[1024 + i] = pair.end.0;
-        i += 1;
     }
     n
 }
@@ -144,8 +140,7 @@ pub fn entries(
         return 0;
     }
     let mut at = p.at;
-    let mut i = 0usize;
-    while i < n {
+    for i in 0..n {
         let e = wire_read::parts::entry_at(s, at);
         number(e.epoch.0);
         number(e.offset.0);
@@ -153,7 +148,6 @@ pub fn entries(
         let t = op(s, o, column, 32 * i);
         row(i, e, t, words, small);
         at = e.next;
-        i += 1;
     }
     n
 }
@@ -167,12 +161,10 @@ fn nodes(s: &[u8], list: Part, column: &mut [u64; 128], from: usize) -> usize
     if 8 < n {
         return 0;
     }
-    let mut i = 0usize;
-    while i < n {
+    for i in 0..n {
         let node = wire_read::parts::node_at(s, list, i);
         number(node.0);
         column[from + i] = node.0;
-        i += 1;
     }
     n
 }
@@ -187,13 +179,11 @@ pub fn placement(s: &[u8], p: Part, counts: &mut [u8; 16], column: &mut [u64; 12
         return 0;
     }
     let mut at = p.at;
-    let mut i = 0usize;
-    while i < n {
+    for i in 0..n {
         let list = wire_read::parts::nodes_at(s, at);
         let m = nodes(s, list, column, 8 * i);
         counts[i] = count(m);
         at = list.at + list.len * 8;
-        i += 1;
     }
     n
 }

@@ -3,7 +3,7 @@
 ghost use Rattle.spec.specs.Layout.Parts.{entry_f};
 ghost use Rattle.test_decode.specs.Held.{CommandHeld, OpHeld, Row, Run};
 
-use crate::again::{after, first, front, later, same};
+use crate::again::{after, first, same};
 use crate::command::{Asked, command};
 use crate::items::{entries, key, metric, op, table, vector};
 use crate::words::{kind, number};
@@ -51,7 +51,7 @@ fn replicate(s: &[u8], p: ReplicatePart) -> bool
         offset,
         t.upsert,
         t.id,
-        front(&bits, t.n),
+        first(&bits, t.n),
     );
     same(s, &out, w)
 }
@@ -115,7 +115,7 @@ fn copy_shard_again(
         after(words, 256),
         small,
         after(words, 512),
-        later(small, 256),
+        after(small, 256),
         bits,
         n,
     );
@@ -157,7 +157,7 @@ fn write(s: &[u8], p: WritePart) -> bool
         epoch,
         t.upsert,
         t.id,
-        front(&bits, t.n),
+        first(&bits, t.n),
     );
     same(s, &out, w)
 }
@@ -182,7 +182,7 @@ fn search(s: &[u8], p: SearchPart) -> bool
         k.shard,
         epoch,
         p.k,
-        front(&bits, n),
+        first(&bits, n),
     );
     same(s, &out, w)
 }

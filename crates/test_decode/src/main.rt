@@ -58,13 +58,11 @@ fn one() -> bool {
     first(&mut buf, len)
 }
 
-// Nothing says that an input ends, so the records are counted down.
+// Nothing says that an input ends, so the records are counted.
 fn main() {
-    let mut left = 1000000u64;
-    while 0 < left {
+    for _ in 0..1000000u64 {
         if !one() {
             return;
         }
-        left -= 1;
     }
 }

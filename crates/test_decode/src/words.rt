@@ -21,10 +21,8 @@ fn byte(b: u8) {
 }
 
 fn digits(b: &[u8]) {
-    let mut i = 0usize;
-    while i < b.len() {
-        byte(b[i]);
-        i += 1;
+    for x in b {
+        byte(*x);
     }
 }
 

@@ -21,10 +21,10 @@ fn line(index: u64, said: u32, map: &[u8; 26536]) {
     io::write_all(1, b"\n");
 }
 
-// Node 1 comes up under incarnation 4.
+// Node 1 comes up under incarnation 4. Each request has a buffer of its own length: it is written.
 fn register(map: &mut [u8; 26536], index: u64, seq: u64) {
     let mut request = [0u8; 107];
-    write_register(&mut request, index, 1, seq, DataNodeId(1), b"", 4);
+    let _ = write_register(&mut request, index, 1, seq, DataNodeId(1), b"", 4);
     let said = catalogue_apply(map, &request);
     line(index, said, map);
 }
@@ -32,7 +32,7 @@ fn register(map: &mut [u8; 26536], index: u64, seq: u64) {
 // Node 1 is dead under incarnation 4.
 fn mark_dead(map: &mut [u8; 26536], index: u64, seq: u64) {
     let mut request = [0u8; 42];
-    write_mark_dead(&mut request, index, 1, seq, DataNodeId(1), 4);
+    let _ = write_mark_dead(&mut request, index, 1, seq, DataNodeId(1), 4);
     let said = catalogue_apply(map, &request);
     line(index, said, map);
 }

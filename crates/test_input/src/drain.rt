@@ -21,6 +21,7 @@ pub fn drain(map: &mut [u8], s: &[u8]) -> Drained
         version: 0,
     }; 328];
     let mut n: usize = 0;
+    // Stays a while: the place moves by each request's own length.
     loop {
         let read = request_at(s, at);
         if !read.found {

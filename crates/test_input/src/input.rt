@@ -10,10 +10,8 @@ fn to_front(buf: &mut [u8], at: usize, n: usize)
     ensures same { length buf.new ≡ length buf.old }
 {
     let rest = n - at;
-    let mut i: usize = 0;
-    while i < rest {
+    for i in 0..rest {
         buf[i] = buf[at + i];
-        i += 1;
     }
 }
 

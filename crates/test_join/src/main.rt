@@ -4,7 +4,7 @@
 // .out: of whole.in the answers of the Rust's one search over all vectors together. Each is one call of crate calls_join.
 #![tactic(auto)]
 
-use calls_join::{Joining, join};
+use calls_join::join;
 
 fn four(s: &[u8], at: usize) -> u32 {
     if s.len() < 4 {
@@ -16,7 +16,7 @@ fn four(s: &[u8], at: usize) -> u32 {
     num::get4(s, at)
 }
 
-fn refused(x: u8) {
+fn refused(x: u32) {
     io::write_all(1, b"refused ");
     io::print_decimal(1, x as u64);
     io::write_all(1, b"\n");
@@ -34,22 +34,20 @@ fn print_hits(out: &[u8], n: usize) {
     io::write_all(1, b"found ");
     io::print_decimal(1, n as u64);
     io::write_all(1, b"\n");
-    let mut left = n;
     let mut at: usize = 0;
-    while 0 < left {
+    for _ in 0..n {
         if out.len() - at < 12 {
             return;
         }
         print_hit(num::get8(out, at), num::get4(out, at + 8));
         at += 12;
-        left -= 1;
     }
 }
 
 fn replay(shards: u32, k: u32, answers: &[u8], out: &mut [u8]) {
     match join(shards, k, answers, out) {
-        Joining::Found(n) => print_hits(out, n),
-        Joining::Refused(x) => refused(x),
+        Ok(n) => print_hits(out, n),
+        Err(why) => refused(u32::from(why)),
     }
 }
 
@@ -95,13 +93,11 @@ fn one() -> bool {
     case(&head, &mut answers, &mut out)
 }
 
-// Nothing says that an input ends, so the cases are counted down.
+// Nothing says that an input ends, so the cases are counted.
 fn main() {
-    let mut left = 1000000u64;
-    while 0 < left {
+    for _ in 0..1_000_000 {
         if !one() {
             return;
         }
-        left -= 1;
     }
 }

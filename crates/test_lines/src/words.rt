@@ -41,10 +41,8 @@ fn bits(x: f32) {
 
 // The components of a vector.
 pub fn row(v: &[f32]) {
-    let mut i: usize = 0;
-    while i < v.len() {
-        bits(v[i]);
-        i += 1;
+    for x in v {
+        bits(*x);
     }
 }
 
@@ -56,8 +54,7 @@ fn hit(id: u64, distance: f32) {
 
 pub fn hits(found: &[u64], distances: &[f32], n: usize) -> bool {
     line(b"found", n as u64);
-    let mut i: usize = 0;
-    while i < n {
+    for i in 0..n {
         if found.len() <= i {
             return false;
         }
@@ -65,7 +62,6 @@ pub fn hits(found: &[u64], distances: &[f32], n: usize) -> bool {
             return false;
         }
         hit(found[i], distances[i]);
-        i += 1;
     }
     true
 }

@@ -4,7 +4,7 @@ use float_distance::order::bits_in_domain;
 use test_lines::parts::float_of;
 use wire_read::Part;
 
-// A call and how many bytes of operands it has; 12 where the input ends, or no such call is known.
+// A call and how many bytes of operands it has.
 #[derive(Drop)]
 pub struct Record {
     pub call: u8,
@@ -19,22 +19,21 @@ fn fill(buf: &mut [u8], n: usize) -> bool {
     io::read_full(0, &mut buf[..n]) == n
 }
 
-// The next record, its operands at the start of the buffer.
-pub fn next_record(buf: &mut [u8]) -> Record {
-    let ended = Record { call: 12, n: 0 };
+// The next record, its operands at the start of the buffer. None where the input ends, or no such call is known.
+pub fn next_record(buf: &mut [u8]) -> Option<Record> {
     let mut head = [0u8; 3];
     if !fill(&mut head, 3) {
-        return ended;
+        return None;
     }
     let call = head[0];
     if 11 < call {
-        return ended;
+        return None;
     }
     let n = two(&head, 1);
     if !fill(buf, n) {
-        return ended;
+        return None;
     }
-    Record { call: call, n: n }
+    Some(Record { call, n })
 }
 
 // The two bytes at a place as a number; 0 where they are not there.
@@ -78,8 +77,7 @@ fn component(s: &[u8], at: usize, i: usize) -> u32 {
 pub fn floats_of(s: &[u8], v: Part, out: &mut [f32]) -> bool {
     let at = v.at;
     let n = v.len;
-    let mut i: usize = 0;
-    while i < n {
+    for i in 0..n {
         if out.len() <= i {
             return false;
         }
@@ -88,7 +86,6 @@ pub fn floats_of(s: &[u8], v: Part, out: &mut [f32]) -> bool {
             return false;
         }
         out[i] = float_of(b);
-        i += 1;
     }
     true
 }

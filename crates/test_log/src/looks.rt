@@ -5,8 +5,9 @@ use crate::input::{floats_of, long, two};
 use crate::shown::{entries, listed, pairs, vector, vectors};
 use log_calls::searches::search;
 use log_search::answer::Found;
-use node_log_reads::ends::{EndsAnswer, epoch_ends};
-use node_log_reads::vectors::{Count, Emptiness, is_empty, len};
+use node_log_reads::Refusal;
+use node_log_reads::ends::epoch_ends;
+use node_log_reads::vectors::{is_empty, len};
 use test_lines::parts::{first_floats, metric_of};
 use test_lines::words::{hits, line, number, refused, word};
 use wire_read::Message;
@@ -110,8 +111,8 @@ fn ends(
         &mut last,
     );
     match told {
-        EndsAnswer::Pairs(n) => pairs(&froms, &last, n),
-        EndsAnswer::Refused(x) => refused(x),
+        Ok(n) => pairs(&froms, &last, n),
+        Err(x) => refused(x.number()),
     }
 }
 
@@ -181,26 +182,26 @@ fn searched(
 }
 
 // How many vectors there are.
-fn size(c: Count) {
-    match c {
-        Count::Vectors(n) => number(n as u64),
-        Count::Refused(x) => {
-            refused(x);
+fn size(n: Result<usize, Refusal>) {
+    match n {
+        Ok(n) => number(n as u64),
+        Err(x) => {
+            refused(x.number());
         }
     }
 }
 
 // Whether there are none.
-fn emptiness(e: Emptiness) {
-    match e {
-        Emptiness::Empty => {
+fn emptiness(empty: Result<bool, Refusal>) {
+    match empty {
+        Ok(true) => {
             word(b" 1\n");
         }
-        Emptiness::Filled => {
+        Ok(false) => {
             word(b" 0\n");
         }
-        Emptiness::Refused(x) => {
-            refused(x);
+        Err(x) => {
+            refused(x.number());
         }
     }
 }

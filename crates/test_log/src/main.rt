@@ -17,35 +17,17 @@ mod looks;
 mod moves;
 mod shown;
 
-// The replica beside its columns: whether there is one, its metric and epoch, and how many entries and rows are used; and whether the
-// input goes on.
+// The replica beside its columns: its metric and epoch, and how many entries and rows are used.
 #[derive(Clone, Copy)]
 pub struct Held {
-    pub more: bool,
-    pub made: bool,
     pub metric: u8,
     pub epoch: u64,
     pub count: usize,
     pub stored: usize,
 }
 
-// The input has ended.
-fn over(h: Held) -> Held {
-    Held {
-        more: false,
-        made: h.made,
-        metric: h.metric,
-        epoch: h.epoch,
-        count: h.count,
-        stored: h.stored,
-    }
-}
-
-// The call changes the columns: 1 append, 2 store, 3 copy, 4 adopt, of a replica that is there.
-fn changes(h: Held, call: u8) -> bool {
-    if !h.made {
-        return false;
-    }
+// The call changes the columns: 1 append, 2 store, 3 copy, 4 adopt.
+fn changes(call: u8) -> bool {
     if call == 0 {
         return false;
     }
@@ -66,16 +48,6 @@ fn on_call(
     call: u8,
     s: &[u8],
 ) -> Held {
-    if 11 < call {
-        return over(h);
-    }
-    if call == 0 {
-        return make(h, s);
-    }
-    if !h.made {
-        word(b"none\n");
-        return h;
-    }
     if call == 5 {
         return promote(h, s);
     }
@@ -85,8 +57,8 @@ fn on_call(
     h
 }
 
-// One record. Arrays, not slices: their lengths are then nothing to prove.
-fn one(
+// A call, 1 to 11, on a replica that is there, and the replica after it. Arrays, not slices: their lengths are then nothing to prove.
+fn played(
     epochs: &mut [u64; 1024],
     offsets: &mut [u64; 1024],
     ids: &mut [u64; 1024],
@@ -96,12 +68,10 @@ fn one(
     keys: &mut [u64; 1024],
     places: &mut [u64; 1024],
     h: Held,
+    call: u8,
+    s: &[u8],
 ) -> Held {
-    let mut buf = io::large_buffer();
-    let r = next_record(&mut buf);
-    let call = r.call;
-    let s = first(&buf, r.n);
-    if changes(h, call) {
+    if changes(call) {
         let d = changed(
             epochs, offsets, ids, codes, lengths, floats, keys, places, h, call, s,
         );
@@ -112,19 +82,40 @@ fn one(
     )
 }
 
-// No replica yet.
-fn none() -> Held {
-    Held {
-        more: true,
-        made: false,
-        metric: 0,
-        epoch: 0,
-        count: 0,
-        stored: 0,
+// One record, and the replica after it, if there is one. False where the input ends.
+fn one(
+    epochs: &mut [u64; 1024],
+    offsets: &mut [u64; 1024],
+    ids: &mut [u64; 1024],
+    codes: &mut [u8; 1024],
+    lengths: &mut [u8; 1024],
+    floats: &mut [f32; 32768],
+    keys: &mut [u64; 1024],
+    places: &mut [u64; 1024],
+    held: &mut Option<Held>,
+) -> bool {
+    let mut buf = io::large_buffer();
+    let Some(r) = next_record(&mut buf) else {
+        return false;
+    };
+    let call = r.call;
+    let s = first(&buf, r.n);
+    if call == 0 {
+        *held = make(*held, s);
+        return true;
     }
+    let Some(h) = *held else {
+        word(b"none\n");
+        return true;
+    };
+    let next = played(
+        epochs, offsets, ids, codes, lengths, floats, keys, places, h, call, s,
+    );
+    *held = Some(next);
+    true
 }
 
-// Records until the input ends. Nothing says that it does, so they are counted down.
+// Records until the input ends. Nothing says that it does, so there is a bound on how many.
 fn main() {
     let mut epochs = [0u64; 1024];
     let mut offsets = [0u64; 1024];
@@ -134,13 +125,9 @@ fn main() {
     let mut floats = [0.0f32; 32768];
     let mut keys = [0u64; 1024];
     let mut places = [0u64; 1024];
-    let mut h = none();
-    let mut left = 1000000u64;
-    while 0 < left {
-        if !h.more {
-            return;
-        }
-        h = one(
+    let mut held: Option<Held> = None;
+    for _ in 0..1000000u64 {
+        if !one(
             &mut epochs,
             &mut offsets,
             &mut ids,
@@ -149,8 +136,9 @@ fn main() {
             &mut floats,
             &mut keys,
             &mut places,
-            h,
-        );
-        left -= 1;
+            &mut held,
+        ) {
+            return;
+        }
     }
 }

@@ -10,26 +10,24 @@ use log_calls::arrives::{copy, store};
 use spec::Epoch;
 use test_lines::words::{refused, word};
 
-// An empty replica. The columns stay: none of their places is used then.
-pub fn make(h: Held, s: &[u8]) -> Held {
+// An empty replica, in place of the one held. The columns stay: none of their places is used then.
+pub fn make(held: Option<Held>, s: &[u8]) -> Option<Held> {
     if s.len() != 9 {
         refused(21);
-        return h;
+        return held;
     }
     let metric = s[8];
     if 1 < metric {
         refused(21);
-        return h;
+        return held;
     }
     word(b"ok\n");
-    Held {
-        more: true,
-        made: true,
-        metric: metric,
+    Some(Held {
+        metric,
         epoch: long(s),
         count: 0,
         stored: 0,
-    }
+    })
 }
 
 pub fn promote(h: Held, s: &[u8]) -> Held {
@@ -40,8 +38,6 @@ pub fn promote(h: Held, s: &[u8]) -> Held {
     word(b"ok\n");
     let epoch = log_calls::reads::promote(Epoch(h.epoch), Epoch(long(s)));
     Held {
-        more: true,
-        made: h.made,
         metric: h.metric,
         epoch: epoch.0,
         count: h.count,
@@ -55,8 +51,6 @@ pub fn after(h: Held, d: Done) -> Held {
     answer(a);
     let epoch = d.epoch;
     Held {
-        more: true,
-        made: h.made,
         metric: h.metric,
         epoch: epoch.0,
         count: d.count,

@@ -7,8 +7,7 @@ use test_lines::words::{line, number, row, word};
 // Each epoch with the offset of its last entry, of so many pairs.
 pub fn pairs(epochs: &[u64], ends: &[u64], n: usize) -> bool {
     line(b"ends", n as u64);
-    let mut i: usize = 0;
-    while i < n {
+    for i in 0..n {
         if epochs.len() <= i {
             return false;
         }
@@ -18,7 +17,6 @@ pub fn pairs(epochs: &[u64], ends: &[u64], n: usize) -> bool {
         io::print_decimal(1, epochs[i]);
         number(ends[i]);
         word(b"\n");
-        i += 1;
     }
     true
 }
@@ -75,10 +73,8 @@ pub fn entries(
     from: usize,
     to: usize,
 ) {
-    let mut i = from;
-    while i < to {
+    for i in from..to {
         entry(epochs, offsets, ids, codes, lengths, floats, count, i);
-        i += 1;
     }
 }
 
@@ -121,10 +117,8 @@ pub fn vectors(
     count: usize,
     stored: usize,
 ) {
-    let mut i: usize = 0;
-    while i < stored {
+    for i in 0..stored {
         table_row(codes, lengths, floats, keys, places, count, i);
-        i += 1;
     }
 }
 
@@ -132,10 +126,8 @@ pub fn vectors(
 pub fn listed(ids: &[u64]) -> bool {
     word(b"ids");
     number(ids.len() as u64);
-    let mut i: usize = 0;
-    while i < ids.len() {
-        number(ids[i]);
-        i += 1;
+    for id in ids {
+        number(*id);
     }
     word(b"\n")
 }

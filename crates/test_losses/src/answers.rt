@@ -25,14 +25,12 @@ fn row(list: &[u8], at: usize, shards: u32, replication: u32) -> usize {
 
 fn rows(list: &[u8], count: u64, shards: u32, replication: u32) {
     let mut at: usize = 0;
-    let mut left = count;
-    while 0 < left {
+    for _ in 0..count {
         if 33280 < at {
             return;
         }
         let next = row(list, at, shards, replication);
         at = next;
-        left -= 1;
     }
 }
 

@@ -34,14 +34,12 @@ fn one(map: &mut [u8]) -> bool {
     true
 }
 
-// Records until the input ends. Nothing says that it does, so they are counted down.
+// Records until the input ends. Nothing says that it does, so they are counted.
 fn run(map: &mut [u8]) {
-    let mut left = 1000000u64;
-    while 0 < left {
+    for _ in 0..1000000u64 {
         if !one(map) {
             return;
         }
-        left -= 1;
     }
 }
 

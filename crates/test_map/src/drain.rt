@@ -10,6 +10,7 @@ pub fn drain(map: &mut [u8], s: &[u8])
     ensures { Intact map.new }
 {
     let mut at: usize = 0;
+    // Stays a while: the place moves by each request's own length.
     loop {
         let read = request_at(s, at);
         if !read.found {

@@ -13,11 +13,8 @@ use test_lines::words::number;
 fn address_bytes(a: Address, n: usize)
     requires { n ≤ 64 }
 {
-    let mut i: usize = 0;
-    while i < n {
-        let b = a.bytes[i];
-        byte(b);
-        i += 1;
+    for b in &a.bytes[..n] {
+        byte(*b);
     }
 }
 
@@ -57,11 +54,9 @@ pub fn nodes(map: &[u8])
     requires { Few map.now }
 {
     let count = num::get8(map, NODES_USED) as usize;
-    let mut i: usize = 0;
-    while i < count {
+    for i in 0..count {
         let row = node_at(map, NODES + NODE * i);
         node(row);
-        i += 1;
     }
 }
 
@@ -89,10 +84,8 @@ pub fn collections(map: &[u8])
     requires { Few map.now }
 {
     let count = num::get8(map, COLLECTIONS_USED) as usize;
-    let mut i: usize = 0;
-    while i < count {
+    for i in 0..count {
         let row = collection_at(map, COLLECTIONS + COLLECTION * i);
         collection(row);
-        i += 1;
     }
 }

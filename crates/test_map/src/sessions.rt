@@ -72,10 +72,8 @@ pub fn sessions(map: &[u8])
     requires { Few map.now }
 {
     let count = num::get8(map, SESSIONS_USED) as usize;
-    let mut i: usize = 0;
-    while i < count {
+    for i in 0..count {
         let row = session_at(map, SESSIONS + SESSION * i);
         session(row);
-        i += 1;
     }
 }

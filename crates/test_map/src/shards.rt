@@ -4,15 +4,16 @@ ghost use Rattle.image_map_put.specs.Few.{Few};
 use crate::words::key;
 use image_map_check::layout::{SHARD, SHARDS, SHARDS_USED};
 use image_map_row::shards::shard_at;
-use map_tables::{Holders, InSync, Primary, ShardRow};
+use map_tables::{Holders, InSync, ShardRow};
+use spec::DataNodeId;
 use test_lines::words::number;
 
-fn primary(p: Primary) {
+fn primary(p: Option<DataNodeId>) {
     match p {
-        Primary::Nobody => {
+        None => {
             io::write_all(1, b" -");
         }
-        Primary::At(node) => number(node.0),
+        Some(node) => number(node.0),
     }
 }
 
@@ -22,13 +23,10 @@ fn replicas(h: Holders) {
         return;
     }
     io::write_all(1, b" replicas");
-    let mut i: usize = 0;
-    while i < count {
-        let row = h.items[i];
+    for row in &h.items[..count] {
         number(row.node.0);
         io::write_all(1, b":");
         io::print_decimal(1, row.incarnation);
-        i += 1;
     }
 }
 
@@ -38,11 +36,8 @@ fn in_sync(s: InSync) {
         return;
     }
     io::write_all(1, b" sync");
-    let mut i: usize = 0;
-    while i < count {
-        let row = s.items[i];
-        number(row.0);
-        i += 1;
+    for id in &s.items[..count] {
+        number(id.0);
     }
 }
 
@@ -64,10 +59,8 @@ pub fn shards(map: &[u8])
     requires { Few map.now }
 {
     let count = num::get8(map, SHARDS_USED) as usize;
-    let mut i: usize = 0;
-    while i < count {
+    for i in 0..count {
         let row = shard_at(map, SHARDS + SHARD * i);
         shard(row);
-        i += 1;
     }
 }

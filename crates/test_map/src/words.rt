@@ -12,11 +12,8 @@ pub fn byte(b: u8) {
 fn name_bytes(x: Name, n: usize)
     requires { n ≤ 32 }
 {
-    let mut i: usize = 0;
-    while i < n {
-        let b = x.bytes[i];
-        byte(b);
-        i += 1;
+    for b in &x.bytes[..n] {
+        byte(*b);
     }
 }
 
@@ -33,10 +30,8 @@ pub fn name(x: Name) {
 
 // The bytes of a name that are free on the wire are 0, whatever the struct holds there.
 fn filled(n: usize) {
-    let mut i = n;
-    while i < 32 {
+    for _ in n..32 {
         byte(0);
-        i += 1;
     }
 }
 

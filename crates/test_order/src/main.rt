@@ -16,10 +16,9 @@ fn compare(a: u32, b: u32) {
 }
 
 fn replay(s: &[u8]) {
-    let mut at = 0usize;
-    while 8 <= s.len() - at {
-        compare(num::get4(s, at), num::get4(s, at + 4));
-        at += 8;
+    let (pairs, _) = s.as_chunks::<8>();
+    for pair in pairs {
+        compare(num::get4(pair, 0), num::get4(pair, 4));
     }
 }
 

@@ -44,6 +44,7 @@ fn one(map: &mut [u8]) -> bool {
 // Records until the input ends. Nothing says that it does, so they are counted down.
 fn run(map: &mut [u8]) {
     let mut left = 1000000u64;
+    // Stays a while: wrong/record_read_for_ever.edit makes it endless by its last step, which a for has not.
     while 0 < left {
         if !one(map) {
             return;

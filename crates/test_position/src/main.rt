@@ -61,6 +61,7 @@ fn placed(s: &[u8], from: usize)
 
 fn replay(s: &[u8]) {
     let mut at = 0usize;
+    // Stays a while: `at` moves by what stands in the line, and no index is counted.
     while at < s.len() {
         let kind = s[at];
         if kind == b'f' {

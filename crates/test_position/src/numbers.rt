@@ -22,13 +22,6 @@ fn past(s: &[u8], at: usize, b: u8) -> usize
     at
 }
 
-fn is_digit(b: u8) -> bool {
-    if b < b'0' {
-        return false;
-    }
-    b <= b'9'
-}
-
 // One more digit; what does not fit stays at the largest number.
 fn with_digit(n: u32, b: u8) -> u32 {
     if 429496728 < n {
@@ -41,24 +34,22 @@ fn digits(s: &[u8], from: usize, minus: bool) -> Number
     requires { from ≤ length s.now }
     ensures { (from ≤ result.next) × (result.next ≤ length s.now) }
 {
-    let mut at = from;
     let mut size: u32 = 0;
-    while at < s.len() {
+    for at in from..s.len() {
         let b = s[at];
-        if !is_digit(b) {
+        if !b.is_ascii_digit() {
             return Number {
-                minus: minus,
-                size: size,
+                minus,
+                size,
                 next: at,
             };
         }
         size = with_digit(size, b);
-        at += 1;
     }
     Number {
-        minus: minus,
-        size: size,
-        next: at,
+        minus,
+        size,
+        next: s.len(),
     }
 }
 
@@ -77,12 +68,10 @@ pub fn next_line(s: &[u8], from: usize) -> usize
     requires { from < length s.now }
     ensures { (from < result) × (result ≤ length s.now) }
 {
-    let mut at = from;
-    while at < s.len() {
+    for at in from..s.len() {
         if s[at] == b'\n' {
             return at + 1;
         }
-        at += 1;
     }
-    at
+    s.len()
 }

@@ -31,13 +31,11 @@ pub fn print_fields(said: u32, fields: &[u8; 28]) {
         io::print_decimal(1, said as u64);
         return;
     }
-    let mut i: usize = 0;
-    while i < 7 {
+    for i in 0..7 {
         if 0 < i {
             io::write_all(1, b" ");
         }
         io::print_decimal(1, num::get4(fields, 4 * i) as u64);
-        i += 1;
     }
 }
 
@@ -49,10 +47,8 @@ pub fn print_vector(said: u32, vector: &[u8; 17]) {
         return;
     }
     io::print_decimal(1, wide(vector[0]));
-    let mut i: usize = 0;
-    while i < 4 {
+    for i in 0..4 {
         io::write_all(1, b" ");
         io::print_hex(1, num::get4(vector, 1 + 4 * i) as u64, 8);
-        i += 1;
     }
 }

@@ -26,10 +26,9 @@ fn print(r: u32) {
 }
 
 fn replay(s: &[u8]) {
-    let mut at = 0usize;
-    while 4 <= s.len() - at {
-        print(root_of(num::get4(s, at)));
-        at += 4;
+    let (patterns, _) = s.as_chunks::<4>();
+    for b in patterns {
+        print(root_of(num::get4(b, 0)));
     }
 }
 

@@ -3,13 +3,6 @@
 use float_distance::order::bits_in_domain;
 use test_lines::parts::float_of;
 
-// Whether a vector was read, and whether all of it lies in the domain.
-#[derive(Drop)]
-pub struct QueryRead {
-    pub read: bool,
-    pub inside: bool,
-}
-
 pub fn wide(b: u8) -> usize {
     b as usize
 }
@@ -52,40 +45,40 @@ fn at(s: &[u8], i: usize) -> u8 {
     s[i]
 }
 
-// A vector's components from a place of a buffer on, behind its count. Answers where they end, 0 where no vector reads.
-fn vector(buf: &mut [u8], from: usize) -> usize {
+// A vector's components from a place of a buffer on, behind its count. Answers where they end, None where no vector reads.
+fn vector(buf: &mut [u8], from: usize) -> Option<usize> {
     let n = wide(at(buf, from));
     if n == 0 {
-        return 0;
+        return None;
     }
     if 32 < n {
-        return 0;
+        return None;
     }
     if 1000 < from {
-        return 0;
+        return None;
     }
     let end = from + 1 + 4 * n;
     if !fill(buf, from + 1, end) {
-        return 0;
+        return None;
     }
-    end
+    Some(end)
 }
 
-// An operation, into the bytes of a Write behind its key and its epoch, which stay as they are. Answers where it ends; 0 where none
-// reads.
-pub fn operation(message: &mut [u8]) -> usize {
+// An operation, into the bytes of a Write behind its key and its epoch, which stay as they are. Answers where it ends; None where
+// none reads.
+pub fn operation(message: &mut [u8]) -> Option<usize> {
     if !fill(message, 46, 55) {
-        return 0;
+        return None;
     }
     let code = at(message, 46);
     if code == 2 {
-        return 55;
+        return Some(55);
     }
     if code != 1 {
-        return 0;
+        return None;
     }
     if !fill(message, 55, 56) {
-        return 0;
+        return None;
     }
     vector(message, 55)
 }
@@ -93,8 +86,7 @@ pub fn operation(message: &mut [u8]) -> usize {
 // The floats of n components; whether all of them lie in the domain.
 fn floats_of(bytes: &[u8], out: &mut [f32], n: usize) -> bool {
     let mut inside = true;
-    let mut i: usize = 0;
-    while i < n {
+    for i in 0..n {
         if 32 <= i {
             return false;
         }
@@ -103,39 +95,24 @@ fn floats_of(bytes: &[u8], out: &mut [f32], n: usize) -> bool {
         }
         let b = four(bytes, 4 * i);
         out[i] = float_of(b);
-        if bits_in_domain(b) {
-            i += 1;
-        } else {
+        if !bits_in_domain(b) {
             inside = false;
-            i += 1;
         }
     }
     inside
 }
 
-// The components of a query of n, 1 to 32.
-pub fn floats_in(out: &mut [f32], n: usize) -> QueryRead {
+// The components of a query of n, 1 to 32; whether all of them lie in the domain. None where they do not read.
+pub fn floats_in(out: &mut [f32], n: usize) -> Option<bool> {
     let mut bytes = [0u8; 128];
     if n == 0 {
-        return QueryRead {
-            read: false,
-            inside: false,
-        };
+        return None;
     }
     if 32 < n {
-        return QueryRead {
-            read: false,
-            inside: false,
-        };
+        return None;
     }
     if !fill(&mut bytes, 0, 4 * n) {
-        return QueryRead {
-            read: false,
-            inside: false,
-        };
+        return None;
     }
-    QueryRead {
-        read: true,
-        inside: floats_of(&bytes, out, n),
-    }
+    Some(floats_of(&bytes, out, n))
 }

@@ -15,10 +15,9 @@ use test_lines::words::{hits, refused};
 
 mod input;
 
-// What was played: whether all of it was read, whether all of it was taken, and how many entries and rows there are then.
+// What was played: whether all of it was taken, and how many entries and rows there are then.
 #[derive(Drop)]
 struct Played {
-    read: bool,
     taken: bool,
     count: usize,
     stored: usize,
@@ -32,7 +31,7 @@ fn is_taken(a: Answer, before: bool) -> bool {
     before
 }
 
-// So many operations of standard input, each appended as a Write.
+// So many operations of standard input, each appended as a Write. None where one does not read.
 fn play(
     epochs: &mut [u64],
     offsets: &mut [u64],
@@ -43,22 +42,16 @@ fn play(
     keys: &mut [u64],
     places: &mut [u64],
     operations: usize,
-) -> Played {
+) -> Option<Played> {
     let mut p = Played {
-        read: true,
         taken: true,
         count: 0,
         stored: 0,
     };
     let mut message = [0u8; 184];
     message[0] = 0x23;
-    let mut left = operations;
-    while 0 < left {
-        let n = operation(&mut message);
-        if n == 0 {
-            p.read = false;
-            return p;
-        }
+    for _ in 0..operations {
+        let n = operation(&mut message)?;
         let m = first(&message, n);
         let d = append(
             epochs,
@@ -78,9 +71,8 @@ fn play(
         p.taken = is_taken(a, p.taken);
         p.count = d.count;
         p.stored = d.stored;
-        left -= 1;
     }
-    p
+    Some(p)
 }
 
 // The operations of a case, and its answer's lines. False where they do not read.
@@ -93,7 +85,7 @@ fn answer(operations: usize, metric: Metric, k: u32, query: &[f32], inside: bool
     let mut floats = [0.0f32; 32768];
     let mut keys = [0u64; 1024];
     let mut places = [0u64; 1024];
-    let p = play(
+    let played = play(
         &mut epochs,
         &mut offsets,
         &mut ids,
@@ -104,9 +96,9 @@ fn answer(operations: usize, metric: Metric, k: u32, query: &[f32], inside: bool
         &mut places,
         operations,
     );
-    if !p.read {
+    let Some(p) = played else {
         return false;
-    }
+    };
     if !p.taken {
         return refused(22);
     }
@@ -151,10 +143,9 @@ fn one() -> bool {
     let k = four(&head, 1);
     let n = input::wide(head[5]);
     let mut query = [0.0f32; 32];
-    let q = floats_in(&mut query, n);
-    if !q.read {
+    let Some(inside) = floats_in(&mut query, n) else {
         return false;
-    }
+    };
     let mut tail = [0u8; 2];
     if io::read_full(0, &mut tail) < 2 {
         return false;
@@ -163,16 +154,14 @@ fn one() -> bool {
     if 1024 < operations {
         return false;
     }
-    answer(operations, metric, k, first_floats(&query, n), q.inside)
+    answer(operations, metric, k, first_floats(&query, n), inside)
 }
 
-// Nothing says that an input ends, so the cases are counted down.
+// Nothing says that an input ends, so there is a bound on how many cases.
 fn main() {
-    let mut left = 1000000u64;
-    while 0 < left {
+    for _ in 0..1000000u64 {
         if !one() {
             return;
         }
-        left -= 1;
     }
 }

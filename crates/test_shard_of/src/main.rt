@@ -9,10 +9,9 @@ fn print(r: u32) {
 }
 
 fn replay(s: &[u8]) {
-    let mut at = 0usize;
-    while 12 <= s.len() - at {
-        print(wire_read::placed::shard_of(num::get8(s, at), num::get4(s, at + 8)));
-        at += 12;
+    let (asked, _) = s.as_chunks::<12>();
+    for a in asked {
+        print(wire_read::placed::shard_of(num::get8(a, 0), num::get4(a, 8)));
     }
 }
 

@@ -38,15 +38,15 @@ use Rattle.map_tables.specs.declared.CollectionRow.{CollectionRow}
 use Rattle.map_tables.specs.declared.ShardRow.{ShardRow}
 use Rattle.map_tables.specs.declared.SessionRow.{SessionRow}
 use Rattle.map_tables.specs.declared.ShardMap.{ShardMap}
-use Rattle.map_tables.specs.declared.Primary.TheVariants as primary
+use Rattle.std.specs.Prelude.{Some}
 use Rattle.map_tables.specs.declared.Outcome.TheVariants as outcome
 use Rattle.map_tables.specs.View.{view_map}
 use Rattle.map_check.specs.Lent.{table_counted, counted, well_formed_lent}
 use Rattle.node_shard.specs.View.{no_peer}
 use Rattle.node_shard.specs.declared.Held.{Held}
 use Rattle.node_shard.specs.declared.WaitAnswer.TheVariants as W
-use Rattle.node_admit.specs.declared.Expiry.{Expiry}
-use Rattle.node_admit.specs.declared.Expiry.TheVariants.{Never, At}
+use Rattle.std.specs.declared.option.Option as option
+use Rattle.std.specs.Prelude.{None, Some}
 use Rattle.log_store.specs.View.{firsts, op_of, entry_of, log_of}
 use Rattle.log_store.specs.Table.{zipped, rows_of, vectors_of, row_op, play_rows, play_rows_from}
 use Rattle.log_store.specs.Store.{well_formed_store, every_below, same_rows}
@@ -111,7 +111,7 @@ abbrev shard : ShardRow
 shard = record {
   key = key;
   replicas = record { items = array 8 (record { node = node 0; incarnation = 0 }) copies; count = 1 };
-  primary = primary.At (node 1);
+  primary = Some (node 1);
   insync = record { items = array 8 (node 0) (node 1 ∷ []); count = 1 };
   epoch = record { 0 = 1 };
 }
@@ -156,7 +156,7 @@ is-created = record {
 -- ---- the header: new, as `show` gave it back, with a lease, and with an entry in the log
 
 abbrev pub new : ℕ → Node
-new n = record { id = node n; incarnation = 4; expiry = Never; version = 0; held = array 8 no_held_row []; count = 0 }
+new n = record { id = node n; incarnation = 4; expiry = None; version = 0; held = array 8 no_held_row []; count = 0 }
 
 abbrev solo : (last : ℕ) → Held
 solo last = record {
@@ -171,7 +171,7 @@ solo last = record {
   count = 0;
 }
 
-abbrev leads : Expiry → (last : ℕ) → Node
+abbrev leads : option.Option ℕ → (last : ℕ) → Node
 leads e last =
     let x : HeldRow = record { key = key; slot = 0; stored = 0; held = solo last } in
     record { id = node 1; incarnation = 4; expiry = e; version = 2; held = array 8 no_held_row (x ∷ []); count = 1 }
@@ -184,7 +184,7 @@ abbrev starting : Start
 starting = record { key = key; epoch = record { 0 = 1 }; metric = Euclidean; peers = record { items = array 32 (node 0) []; count = 0 } }
 
 abbrev shown : NodeShown
-shown = record { answer = S.Shown; starts = array 8 starting []; count = 0; node = leads Never 0 }
+shown = record { answer = S.Shown; starts = array 8 starting []; count = 0; node = leads None 0 }
 
 shows : HearsMap (new 1) map 0 shown
 unfolding opened fill well_formed_lent counted table_counted lent_node formed_node slots_fit view_starts slotted slots_after free_from
@@ -196,16 +196,16 @@ shows = record {
 }
 
 abbrev granted : NodeGranted
-granted = record { answer = G.Granted; node = leads (At 100) 0 }
+granted = record { answer = G.Granted; node = leads (Some 100) 0 }
 
-grants : GrantsNode (leads Never 0) 4 0 100 granted
+grants : GrantsNode (leads None 0) 4 0 100 granted
 unfolding opened fill lent_node slots_fit counts_fit
 grants = λ s. rw (s.long 0 0) refl
 
 abbrev waited : NodeWaited
-waited = record { answer = W.Done; shrink = record { items = array 32 (node 0) []; count = 0 }; node = leads (At 100) 1 }
+waited = record { answer = W.Done; shrink = record { items = array 32 (node 0) []; count = 0 }; node = leads (Some 100) 1 }
 
-waits : WaitsNode (leads (At 100) 1) run.key 1 1 6 10 waited
+waits : WaitsNode (leads (Some 100) 1) run.key 1 1 6 10 waited
 unfolding opened fill lent_node slots_fit counts_fit
 waits = λ s. rw (s.long 0 1) refl
 
@@ -220,7 +220,7 @@ before = let z : List ℕ = fill 1024 0 in lent_store z z z z z (fill 32768 nan)
 abbrev pub after : LentStore
 after = let z : List ℕ = fill 1024 0 in lent_store (set z 0 1) (set z 0 1) (set z 0 41) (set z 0 2) z (fill 32768 nan) z z
 
-slot_zero : (slot : ℕ) → WriteSlot (leads (At 100) 0) bytes slot → slot ≡ 0
+slot_zero : (slot : ℕ) → WriteSlot (leads (Some 100) 0) bytes slot → slot ≡ 0
 unfolding opened fill slot_of
 slot_zero slot w = w (record { key = run.key; epoch = 1; op = wire_delete 41 }) refl
 
@@ -242,63 +242,63 @@ read l = record {
       } ∷ [];
 }
 
-read-before : (s : Stores) → view_node s (leads (At 100) 0) ≡ read []
+read-before : (s : Stores) → view_node s (leads (Some 100) 0) ≡ read []
 unfolding fill
 read-before s = rw (nil (s.log 0 0) (s.long 0 0), s.bare 0) refl
 
-header-lent : (s : Stores) → lent_node s (leads (At 100) 0) ≡ true
+header-lent : (s : Stores) → lent_node s (leads (Some 100) 0) ≡ true
 unfolding opened fill lent_node slots_fit counts_fit
 header-lent s = rw (s.long 0 0) refl
 
-store-lent : lent_at (leads (At 100) 0) before (place_of (leads (At 100) 0) run.key) ≡ true
+store-lent : lent_at (leads (Some 100) 0) before (place_of (leads (Some 100) 0) run.key) ≡ true
 unfolding opened fill lent_at held_row_store lent_fits sized well_formed_store every_below same_rows log_of firsts rows_of zipped play_rows play_rows_from
 store-lent = refl
 
-lent : (s : Stores) → lent_for s (leads (At 100) 0) before run.key ≡ true
+lent : (s : Stores) → lent_for s (leads (Some 100) 0) before run.key ≡ true
 unfolding lent_for
 lent s =
-    let n = leads (At 100) 0 in and_true (lent_node s n) (lent_at n before (place_of n run.key)) (header-lent s) store-lent
+    let n = leads (Some 100) 0 in and_true (lent_node s n) (lent_at n before (place_of n run.key)) (header-lent s) store-lent
 
 abbrev pub accepted : C.the_data
 accepted = C.Accepted (record { 0 = 1 })
 
 taken : (s : Stores)
-    → record { answer = accepted; node = read (run.entry 1 1 41 ∷ []) } ≡ answered_as write_word (calls.write_with (lent_for s (leads (At 100) 0) before) (read []) 5 1 bytes)
+    → record { answer = accepted; node = read (run.entry 1 1 41 ∷ []) } ≡ answered_as write_word (calls.write_with (lent_for s (leads (Some 100) 0) before) (read []) 5 1 bytes)
 unfolding opened
 taken s = rw (lent s) refl
 
-same : SameWrite (leads (At 100) 0) before after 5 1 bytes accepted (leads (At 100) 1)
+same : SameWrite (leads (Some 100) 0) before after 5 1 bytes accepted (leads (Some 100) 1)
 unfolding fill log_of firsts entry_of op_of rows_of vectors_of zipped
 same = λ s t slot w c.
     let z = slot_zero slot w in
     let l : t.log 0 1 ≡ run.entry 1 1 41 ∷ [] = subst (λ (i : ℕ). t.log i 1 ≡ run.entry 1 1 41 ∷ []) z (c.after.log 1) in
     let v : t.vectors 0 1 0 ≡ [] = subst (λ (i : ℕ). t.vectors i 1 0 ≡ []) z (c.after.vectors 1 0) in
-    let to : view_node t (leads (At 100) 1) ≡ read (run.entry 1 1 41 ∷ []) = rw (l, v) refl in
+    let to : view_node t (leads (Some 100) 1) ≡ read (run.entry 1 1 41 ∷ []) = rw (l, v) refl in
     ap (λ (x : held.Node). record { answer = accepted; node = x }) to
     ∙ taken s
-    ∙ ap (λ (x : held.Node). answered_as write_word (calls.write_with (lent_for s (leads (At 100) 0) before) x 5 1 bytes)) (sym (read-before s))
+    ∙ ap (λ (x : held.Node). answered_as write_word (calls.write_with (lent_for s (leads (Some 100) 0) before) x 5 1 bytes)) (sym (read-before s))
 
 abbrev wrote : WriteAnswer
-wrote = record { answer = accepted; node = leads (At 100) 1; refused = 0 }
+wrote = record { answer = accepted; node = leads (Some 100) 1; refused = 0 }
 
-slots-after : slots_fit (used (leads (At 100) 1)) ≡ true
+slots-after : slots_fit (used (leads (Some 100) 1)) ≡ true
 unfolding opened fill slots_fit
 slots-after = refl
 
-store-after : lent_fits (store_of after (get_or (leads (At 100) 1).held 0 no_held_row)) ≡ true
+store-after : lent_fits (store_of after (get_or (leads (Some 100) 1).held 0 no_held_row)) ≡ true
 unfolding opened fill lent_fits sized well_formed_store every_below same_rows log_of firsts entry_of op_of rows_of zipped row_op play_rows play_rows_from
 store-after = refl
 
-key-after : Whole (leads (At 100) 0) (leads (At 100) 1) after run.key
+key-after : Whole (leads (Some 100) 0) (leads (Some 100) 1) after run.key
 unfolding opened fill
 key-after e = (fits-sized _ store-after, fits-well _ store-after)
 
-whole : (k : Key) → WriteNames bytes k → Whole (leads (At 100) 0) (leads (At 100) 1) after k
+whole : (k : Key) → WriteNames bytes k → Whole (leads (Some 100) 0) (leads (Some 100) 1) after k
 unfolding opened
 whole k named =
-    subst (Whole (leads (At 100) 0) (leads (At 100) 1) after) (sym (named (record { key = run.key; epoch = 1; op = wire_delete 41 }) refl)) key-after
+    subst (Whole (leads (Some 100) 0) (leads (Some 100) 1) after) (sym (named (record { key = run.key; epoch = 1; op = wire_delete 41 }) refl)) key-after
 
-writes : WritesAt (leads (At 100) 0) before after 5 1 bytes 0 wrote
+writes : WritesAt (leads (Some 100) 0) before after 5 1 bytes 0 wrote
 unfolding refused.counted
 writes = record {
   same = same;
@@ -314,7 +314,7 @@ writes = record {
 -- whatever number a node has, its id is a u64: all but node 1 have id 0
 nodes : ℕ → Node
 nodes zero = new 0
-nodes (suc zero) = leads Never 0
+nodes (suc zero) = leads None 0
 nodes (suc (suc n)) = new 0
 
 pub first : Engine
@@ -389,21 +389,21 @@ abbrev events : List Event
 events = lease_granted 1 4 0 100 ∷ client_writes 1 5 1 bytes ∷ node_waits 0 6 10 ∷ []
 
 leased : Engine
-leased = with_node first 1 (leads (At 100) 0)
+leased = with_node first 1 (leads (Some 100) 0)
 
 written : Engine
-written = host (with_store leased 1 (leads (At 100) 1) 0 after) (λ s. write_said s 1 (message.decode_write bytes) accepted)
+written = host (with_store leased 1 (leads (Some 100) 1) 0 after) (λ s. write_said s 1 (message.decode_write bytes) accepted)
 
 pub last : Engine
-last = host (with_node written 1 (leads (At 100) 1)) (λ s. wait_said s (run.wrote 1 1 1 41) W.Done [])
+last = host (with_node written 1 (leads (Some 100) 1)) (λ s. wait_said s (run.wrote 1 1 1 41) W.Done [])
 
 on-grant : Called first (lease_granted 1 4 0 100) leased
 unfolding Called first nodes leased
 on-grant = (granted, grants, refl)
 
-its_slot : WriteSlot (leads (At 100) 0) bytes 0
+its_slot : WriteSlot (leads (Some 100) 0) bytes 0
 unfolding opened fill slot_of
-its_slot v e = ap (λ (k : Key). slot_of (leads (At 100) 0) k) (ap (λ (m : message.Write). m.key) (some_same e))
+its_slot v e = ap (λ (k : Key). slot_of (leads (Some 100) 0) k) (ap (λ (m : message.Write). m.key) (some_same e))
 
 on-write : Called leased (client_writes 1 5 1 bytes) written
 unfolding Called opened with_node first leased written

@@ -10,7 +10,7 @@ use Rattle.spec.specs.declared.Replica.{Replica}
 use Rattle.spec_run.specs.Fresh.{Created}
 use Rattle.map_tables.specs.View.{view_map}
 use Rattle.map_check.specs.Lent.{well_formed_lent}
-use Rattle.node_admit.specs.declared.Expiry.TheVariants.{Never}
+use Rattle.std.specs.Prelude.{None}
 use Rattle.node_header.specs.declared.Node.{Node}
 use Rattle.node_show.specs.declared.NodeShown.{NodeShown}
 use Rattle.node_hear.specs.Hears.{HearsMap}
@@ -20,7 +20,7 @@ use Rattle.thm_durable.specs.Engine.{Engine}
 pub record New (x : Node) (me under : ℕ) : Type 0 where
   pub id : x.id.0 ≡ me
   pub incarnation : x.incarnation ≡ under
-  pub expiry : x.expiry ≡ Never
+  pub expiry : x.expiry ≡ None
   pub version : x.version ≡ 0
   pub count : x.count ≡ 0
 

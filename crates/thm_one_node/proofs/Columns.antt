@@ -16,7 +16,7 @@ use Rattle.spec_run.proofs.Cases.Opened.{opened}
 use Rattle.log_store.specs.View as view
 use Rattle.log_store.specs.Table as table
 use Rattle.log_store.specs.Store as store
-use Rattle.node_admit.specs.declared.Expiry.TheVariants.{At}
+use Rattle.std.specs.Prelude.{Some}
 use Rattle.image_store.specs.Image.{words, log_at}
 use Rattle.image_store.specs.Read as read
 use Rattle.image_store.specs.Write as write
@@ -59,7 +59,7 @@ pub kept_read : lent_store_at stores (kept 0 0) ≡ before
 unfolding lent_store_at read.columns_at read.floats_read no_lent_store
 kept_read = rw (words-read 0, words-read 8192, words-read 16384, bytes_read 24576 (omega arith), bytes_read 25600 (omega arith), words-read 157696, words-read 165888) refl
 
-pub store-read : lent_store_in stores (leads (At 100) 0 0) key ≡ before
+pub store-read : lent_store_in stores (leads (Some 100) 0 0) key ≡ before
 unfolding opened
 store-read = kept_read
 

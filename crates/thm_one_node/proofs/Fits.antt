@@ -4,7 +4,7 @@ use native.Mathlib.Omega.{arith}
 use mathlib.Core.Path.{refl}
 use lib.ListN.{replicate}
 use Rattle.spec.specs.Layout.Format.{All}
-use Rattle.node_admit.specs.declared.Expiry.{Expiry}
+use Rattle.std.specs.Prelude.{Option}
 use Rattle.image_header_row.specs.Rows.{expiry_time}
 use Rattle.image_header.proofs.Back.{Fits}
 use Rattle.image_header.proofs.Tidy.{HeldRowFits}
@@ -36,7 +36,7 @@ kept-fits stored last a b = (
   ),
 )
 
-pub node-fits : (e : Expiry) (stored last : ℕ) → expiry_time e < 256 ^ 8 → stored < 256 ^ 8 → last < 256 ^ 8 → Fits (leads e stored last)
+pub node-fits : (e : Option ℕ) (stored last : ℕ) → expiry_time e < 256 ^ 8 → stored < 256 ^ 8 → last < 256 ^ 8 → Fits (leads e stored last)
 node-fits e stored last t a b = record {
   id = omega arith;
   incarnation = omega arith;

@@ -3,7 +3,7 @@ use native.Mathlib.Omega.{arith}
 use mathlib.Core.Path.{◌≡◌, refl}
 use mathlib.Core.Bool.{true}
 use Rattle.spec_run.proofs.Cases.Opened.{opened}
-use Rattle.node_admit.specs.declared.Expiry.TheVariants.{Never, At}
+use Rattle.std.specs.Prelude.{None, Some}
 use Rattle.node_header.specs.declared.NodeGranted.{NodeGranted}
 use Rattle.node_header.specs.declared.GrantAnswer.TheVariants as G
 use Rattle.node_header.specs.Answers.{GrantsNode}
@@ -28,31 +28,31 @@ use Rattle.thm_one_node.proofs.Fits.{node-fits}
 -- ---- the call, on what the bytes are read into
 
 abbrev granted : NodeGranted
-granted = record { answer = G.Granted; node = leads (At 100) 0 0 }
+granted = record { answer = G.Granted; node = leads (Some 100) 0 0 }
 
-grants_node : GrantsNode (leads Never 0 0) 4 0 100 granted
+grants_node : GrantsNode (leads None 0 0) 4 0 100 granted
 unfolding opened lent_node slots_fit counts_fit
 grants_node = λ s. rw (s.long 0 0) refl
 
-keeps : Keeps (leads Never 0 0) (leads (At 100) 0 0)
+keeps : Keeps (leads None 0 0) (leads (Some 100) 0 0)
 unfolding opened arrays_fit slots_fit counts_fit
 keeps = record { fits = λ e. refl; slots_are = refl }
 
 -- ---- the buffers
 
 abbrev read : Lent
-read = record { found = true; node = leads Never 0 0 }
+read = record { found = true; node = leads None 0 0 }
 
 is_read_lem : read ≡ lent_header shown
 is_read_lem = rw (lent-shown, read-shown)
 
-put-leased : leased ≡ header_put shown (leads (At 100) 0 0)
+put-leased : leased ≡ header_put shown (leads (Some 100) 0 0)
 unfolding header header_put rows.held_row_bytes tidy.tidy_held_row tidy.tidy_held canon.padded
 put-leased = refl
 
-header-leased : HeaderWrites shown leased (leads (At 100) 0 0)
+header-leased : HeaderWrites shown leased (leads (Some 100) 0 0)
 header-leased =
-    writes_long shown (leads (At 100) 0 0) leased (lent_long shown lent-shown) (node-fits (At 100) 0 0 (omega arith) (omega arith) (omega arith)) put-leased
+    writes_long shown (leads (Some 100) 0 0) leased (lent_long shown lent-shown) (node-fits (Some 100) 0 0 (omega arith) (omega arith) (omega arith)) put-leased
 
 pub grants : Grants shown leased 4 0 100 0
 unfolding opened

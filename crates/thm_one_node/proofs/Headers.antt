@@ -15,8 +15,8 @@ use Rattle.thm_run.proofs.Simulation.Client.{are_bytes}
 use Rattle.map_tables.specs.declared.Name.{Name}
 use Rattle.map_tables.specs.declared.ShardKey.{ShardKey}
 use Rattle.node_shard.specs.declared.Held.{Held}
-use Rattle.node_admit.specs.declared.Expiry.{Expiry}
-use Rattle.node_admit.specs.declared.Expiry.TheVariants.{Never, At}
+use Rattle.std.specs.Prelude.{Option}
+use Rattle.std.specs.Prelude.{None, Some}
 use Rattle.node_header.specs.declared.HeldRow.{HeldRow}
 use Rattle.node_header.specs.declared.Node.{Node}
 use Rattle.image_parts.specs.Shape as shape
@@ -56,7 +56,7 @@ solo last = record {
 abbrev pub kept : (stored last : ℕ) → HeldRow
 kept stored last = record { key = key; slot = 0; stored = stored; held = solo last }
 
-abbrev pub leads : Expiry → (stored last : ℕ) → Node
+abbrev pub leads : Option ℕ → (stored last : ℕ) → Node
 leads e stored last = record {
   id = node 1;
   incarnation = 4;
@@ -70,15 +70,15 @@ pub read-new : node_at new ≡ fresh_node 1 4
 unfolding new node_at image.no_node shape.rows_at
 read-new = refl
 
-pub read-shown : node_at shown ≡ leads Never 0 0
+pub read-shown : node_at shown ≡ leads None 0 0
 unfolding header node_at shape.rows_at rows.held_row_at
 read-shown = refl
 
-pub read-leased : node_at leased ≡ leads (At 100) 0 0
+pub read-leased : node_at leased ≡ leads (Some 100) 0 0
 unfolding header node_at shape.rows_at rows.held_row_at
 read-leased = refl
 
-pub read-written : node_at written ≡ leads (At 100) 1 1
+pub read-written : node_at written ≡ leads (Some 100) 1 1
 unfolding header node_at shape.rows_at rows.held_row_at
 read-written = refl
 

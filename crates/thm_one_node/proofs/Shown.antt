@@ -14,7 +14,7 @@ use Rattle.spec_laws.proofs.Lists.{not_both, and_true}
 use Rattle.spec_run.proofs.Cases.Opened.{opened}
 use Rattle.map_tables.specs.View.{view_map}
 use Rattle.map_check.specs.Lent.{well_formed_lent}
-use Rattle.node_admit.specs.declared.Expiry.TheVariants.{Never}
+use Rattle.std.specs.Prelude.{None}
 use Rattle.node_header.specs.View.{Stores, view_node}
 use Rattle.node_header.specs.Formed.{slots_fit, lent_node, formed_node}
 use Rattle.node_header.specs.Grow.{free_from}
@@ -54,7 +54,7 @@ abbrev starting : Start
 starting = record { key = key; epoch = record { 0 = 1 }; metric = Euclidean; peers = record { items = replicate 32 (node 0); count = 0 } }
 
 abbrev answered : NodeShown
-answered = record { answer = S.Shown; starts = replicate 8 starting; count = 0; node = leads Never 0 0 }
+answered = record { answer = S.Shown; starts = replicate 8 starting; count = 0; node = leads None 0 0 }
 
 -- computed of the plain map, and carried over to the one that the bytes are read as
 same-plain : (s : Stores) → view_shown s answered ≡ shown_answered (calls.shown_with (lent_node s (fresh_node 1 4) and true) (view_node s (fresh_node 1 4)) 0 map)
@@ -92,21 +92,21 @@ known = record { found = true; map = map_at map_bytes }
 is_known : known ≡ lent_map map_bytes
 is_known = rw map-lent
 
-put-shown : shown ≡ header_put new (leads Never 0 0)
+put-shown : shown ≡ header_put new (leads None 0 0)
 unfolding new images.header header_put rows.held_row_bytes tidy.tidy_held_row tidy.tidy_held canon.padded
 put-shown = refl
 
-header-shown : HeaderWrites new shown (leads Never 0 0)
+header-shown : HeaderWrites new shown (leads None 0 0)
 header-shown =
-    writes_long new (leads Never 0 0) shown (lent_long new lent-new) (node-fits Never 0 0 (omega arith) (omega arith) (omega arith)) put-shown
+    writes_long new (leads None 0 0) shown (lent_long new lent-new) (node-fits None 0 0 (omega arith) (omega arith) (omega arith)) put-shown
 
 none-put : room ≡ number_put room 0
 unfolding number_put
 none-put = refl
 
-rows-put : RowsPut worker_bytes 54 0 new shown [] [] room room [] (leads Never 0 0) 0
+rows-put : RowsPut worker_bytes 54 0 new shown [] [] room room [] (leads None 0 0) 0
 rows-put =
-    all-put {A = show.Worker} worker_bytes 54 0 new [] room [] (leads Never 0 0) (omega arith) room 0 none-put refl
+    all-put {A = show.Worker} worker_bytes 54 0 new [] room [] (leads None 0 0) (omega arith) room 0 none-put refl
     header-shown.image header-shown.becomes refl refl
 
 put : ShowPut new shown [] [] room room answered 0

@@ -8,7 +8,7 @@ use lib.ListN.{replicate}
 use Rattle.spec.specs.declared.DataNodeId.{DataNodeId}
 use Rattle.spec_run.proofs.Cases.Opened.{opened}
 use Rattle.node_shard.specs.declared.WaitAnswer.TheVariants as W
-use Rattle.node_admit.specs.declared.Expiry.TheVariants.{At}
+use Rattle.std.specs.Prelude.{Some}
 use Rattle.node_header.specs.declared.NodeWaited.{NodeWaited}
 use Rattle.node_header.specs.Answers.{WaitsNode}
 use Rattle.node_header.specs.Formed.{lent_node, slots_fit, counts_fit}
@@ -34,25 +34,25 @@ use Rattle.thm_one_node.proofs.Fits.{node-fits}
 
 -- ---- the header stays as it was, written over itself
 
-put-waited : written ≡ header_put written (leads (At 100) 1 1)
+put-waited : written ≡ header_put written (leads (Some 100) 1 1)
 unfolding header header_put rows.held_row_bytes tidy.tidy_held_row tidy.tidy_held canon.padded
 put-waited = refl
 
-header-waited : HeaderWrites written written (leads (At 100) 1 1)
+header-waited : HeaderWrites written written (leads (Some 100) 1 1)
 header-waited =
-    writes_long written (leads (At 100) 1 1) written (lent_long written lent_written)
-    (node-fits (At 100) 1 1 (omega arith) (omega arith) (omega arith)) put-waited
+    writes_long written (leads (Some 100) 1 1) written (lent_long written lent_written)
+    (node-fits (Some 100) 1 1 (omega arith) (omega arith) (omega arith)) put-waited
 
 -- ---- the call
 
 abbrev waited : NodeWaited
-waited = record { answer = W.Done; shrink = record { items = replicate 32 (node 0); count = 0 }; node = leads (At 100) 1 1 }
+waited = record { answer = W.Done; shrink = record { items = replicate 32 (node 0); count = 0 }; node = leads (Some 100) 1 1 }
 
-done : WaitsNode (leads (At 100) 1 1) key 1 1 6 10 waited
+done : WaitsNode (leads (Some 100) 1 1) key 1 1 6 10 waited
 unfolding opened lent_node slots_fit counts_fit
 done = λ s. rw (s.long 0 1) refl
 
-keeps : Keeps (leads (At 100) 1 1) (leads (At 100) 1 1)
+keeps : Keeps (leads (Some 100) 1 1) (leads (Some 100) 1 1)
 keeps = record { fits = λ e. e; slots_are = refl }
 
 -- ---- the buffers: no peer, and that there is none
@@ -61,16 +61,16 @@ none-put : room ≡ number_put room 0
 unfolding number_put
 none-put = refl
 
-rows-put : RowsPut id_bytes 8 0 written written [] [] room room [] (leads (At 100) 1 1) 0
+rows-put : RowsPut id_bytes 8 0 written written [] [] room room [] (leads (Some 100) 1 1) 0
 rows-put =
-    all-put {A = DataNodeId} id_bytes 8 0 written [] room [] (leads (At 100) 1 1) (omega arith) room 0 none-put refl
+    all-put {A = DataNodeId} id_bytes 8 0 written [] room [] (leads (Some 100) 1 1) (omega arith) room 0 none-put refl
     header-waited.image header-waited.becomes refl refl
 
 put : WaitPut written written [] [] room room waited 0
 put = waited_as written [] room waited W.Done refl rows-put.buffers (λ e r. header-waited.becomes)
 
 abbrev read : Lent
-read = record { found = true; node = leads (At 100) 1 1 }
+read = record { found = true; node = leads (Some 100) 1 1 }
 
 is_read_lem : read ≡ lent_header written
 is_read_lem = rw (lent_written, read-written)

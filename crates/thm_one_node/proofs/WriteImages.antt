@@ -9,7 +9,7 @@ use Rattle.spec.specs.Layout.Message as message
 use Rattle.spec.specs.Node.Wire.{op_in_domain}
 use Rattle.spec_laws.proofs.Lists.{none_some, some_same, not_both}
 use Rattle.spec_run.proofs.Cases.Opened.{opened}
-use Rattle.node_admit.specs.declared.Expiry.TheVariants.{At}
+use Rattle.std.specs.Prelude.{Some}
 use Rattle.node_header.specs.declared.Node.{Node}
 use Rattle.node_header.specs.View.{view_node}
 use Rattle.image_header_row.specs.Rows as rows
@@ -107,27 +107,27 @@ module _ (h h' : List ℕ) (n p : Node) (is_read : node_at h ≡ n) (lends-it : 
 
 -- ---- those of node 1 alone
 
-put_written : written ≡ header_put leased (leads (At 100) 1 1)
+put_written : written ≡ header_put leased (leads (Some 100) 1 1)
 unfolding header header_put rows.held_row_bytes tidy.tidy_held_row tidy.tidy_held canon.padded
 put_written = refl
 
-pub header-written : HeaderWrites leased written (leads (At 100) 1 1)
+pub header-written : HeaderWrites leased written (leads (Some 100) 1 1)
 header-written =
-    writes_long leased (leads (At 100) 1 1) written (lent_long leased lent-leased)
-    (node-fits (At 100) 1 1 (omega arith) (omega arith) (omega arith)) put_written
+    writes_long leased (leads (Some 100) 1 1) written (lent_long leased lent-leased)
+    (node-fits (Some 100) 1 1 (omega arith) (omega arith) (omega arith)) put_written
 
-first-place : place_of (leads (At 100) 0 0) key ≡ 0
+first-place : place_of (leads (Some 100) 0 0) key ≡ 0
 unfolding opened
 first-place = refl
 
 pub writes_images : WritesImages (buffers leased stores room) (buffers written stored offset) count count 5 1 bytes 0
 writes_images =
-    images_written leased written (leads (At 100) 0 0) (leads (At 100) 1 1) read-leased lends store-read first-place
-    (puts-kept leased written stores stored (leads (At 100) 0 0) (leads (At 100) 1 1) after 0 header-written (omega arith) puts) writes
+    images_written leased written (leads (Some 100) 0 0) (leads (Some 100) 1 1) read-leased lends store-read first-place
+    (puts-kept leased written stores stored (leads (Some 100) 0 0) (leads (Some 100) 1 1) after 0 header-written (omega arith) puts) writes
 
 -- ---- what the images are then read as
 
-stored-read : view_node (stores_in stored) (leads (At 100) 1 1) ≡ read (entry ∷ []) vectors
+stored-read : view_node (stores_in stored) (leads (Some 100) 1 1) ≡ read (entry ∷ []) vectors
 unfolding opened stores_in table.vectors_of table.vector_of
 stored-read = rw (log-stored, rows-stored) refl
 

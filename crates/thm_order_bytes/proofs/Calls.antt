@@ -22,7 +22,7 @@ use Rattle.log_store.specs.View.{log_of}
 use Rattle.log_store.specs.Table.{vectors_of}
 use Rattle.log_store.specs.Store.{well_formed_store}
 use Rattle.log_calls.proofs.FitLaws.{fits-sized, fits-well}
-use Rattle.node_admit.specs.declared.Expiry.TheVariants.{At}
+use Rattle.std.specs.Prelude.{Some}
 use Rattle.node_header.specs.declared.Node.{Node}
 use Rattle.node_header.specs.View.{Stores}
 use Rattle.node_header.specs.Formed.{lent_node}
@@ -63,7 +63,7 @@ use Rattle.thm_order_bytes.proofs.Written.{put_long, put-bytes}
 
 -- the header of node 1 with a lease until 100
 abbrev pub node : (stored last : ℕ) → Node
-node stored last = leads (At 100) stored last
+node stored last = leads (Some 100) stored last
 
 -- a header's image with so many rows and entries
 pub record Heads (h : List ℕ) (stored last : ℕ) : Type 0 where

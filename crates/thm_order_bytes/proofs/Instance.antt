@@ -20,7 +20,7 @@ use Rattle.spec_laws.proofs.Log.Edits.{op_id}
 use Rattle.spec_run.proofs.Cases.Opened.{opened}
 use Rattle.thm_run.proofs.Simulation.Client.{are_bytes}
 use Rattle.log_store.specs.Table as table
-use Rattle.node_admit.specs.declared.Expiry.TheVariants.{At}
+use Rattle.std.specs.Prelude.{Some}
 use Rattle.node_header.specs.declared.Node.{Node}
 use Rattle.node_header.specs.View.{view_node}
 use Rattle.image_parts.specs.Canon as canon
@@ -116,15 +116,15 @@ put-none = refl
 
 writes-two : HeaderWrites written (head 2 2) (node 2 2)
 writes-two =
-    writes_long written (node 2 2) (head 2 2) (lent_long written lent_written) (node-fits (At 100) 2 2 (omega arith) (omega arith) (omega arith)) put_two
+    writes_long written (node 2 2) (head 2 2) (lent_long written lent_written) (node-fits (Some 100) 2 2 (omega arith) (omega arith) (omega arith)) put_two
 
 writes_deleted : HeaderWrites written (head 0 2) (node 0 2)
 writes_deleted =
-    writes_long written (node 0 2) (head 0 2) (lent_long written lent_written) (node-fits (At 100) 0 2 (omega arith) (omega arith) (omega arith)) put_deleted
+    writes_long written (node 0 2) (head 0 2) (lent_long written lent_written) (node-fits (Some 100) 0 2 (omega arith) (omega arith) (omega arith)) put_deleted
 
 writes-none : HeaderWrites leased (head 0 1) (node 0 1)
 writes-none =
-    writes_long leased (node 0 1) (head 0 1) (lent_long leased lent-leased) (node-fits (At 100) 0 1 (omega arith) (omega arith) (omega arith)) put-none
+    writes_long leased (node 0 1) (head 0 1) (lent_long leased lent-leased) (node-fits (Some 100) 0 1 (omega arith) (omega arith) (omega arith)) put-none
 
 -- ---- what the columns have fits the stores
 

@@ -16,7 +16,7 @@ use Rattle.log_store.specs.View.{log_of}
 use Rattle.log_store.specs.Table.{rows_of, vectors_of}
 use Rattle.log_calls.specs.Fits.{lent_fits}
 use Rattle.log_calls.proofs.FitLaws.{fits-sized, fits-well}
-use Rattle.node_admit.specs.declared.Expiry.TheVariants.{At}
+use Rattle.std.specs.Prelude.{Some}
 use Rattle.node_header.specs.declared.Node.{Node}
 use Rattle.node_header.specs.View.{Stores, view_node, used}
 use Rattle.node_header.specs.Formed.{lent_node, slots_fit}
@@ -33,7 +33,7 @@ asks op = record { key = key; epoch = 1; op = op }
 
 -- the header with a lease until 100, so many rows in its table of vectors and so many entries in its log
 abbrev pub header : (stored last : ℕ) → Node
-header stored last = leads (At 100) stored last
+header stored last = leads (Some 100) stored last
 
 -- what columns are read as
 pub record Reads (a : LentStore) (stored last : ℕ) (l : Log) (v : Vectors) : Type 0 where

@@ -3,7 +3,7 @@ use Prim.Native.Nat.{ℕ, ◌^◌, ◌<◌}
 use native.Mathlib.Omega.{arith}
 use mathlib.Core.Path.{refl}
 use mathlib.Core.Bool.{Bool, true, false}
-use Rattle.node_admit.specs.declared.Expiry.{Expiry}
+use Rattle.std.specs.Prelude.{Option}
 use Rattle.image_header_row.specs.Rows.{expiry_time}
 use Rattle.image_header.proofs.Back.{Fits}
 use Rattle.image_header.proofs.Tidy.{HeldRowFits}
@@ -76,7 +76,7 @@ following-fits epoch stored last a b c = (
   ),
 )
 
-pub leads-fits : (e : Expiry) (stored last acked : ℕ) (aligned : Bool) → expiry_time e < 256 ^ 8 → stored < 256 ^ 8 → last < 256 ^ 8 → acked < 256 ^ 8
+pub leads-fits : (e : Option ℕ) (stored last acked : ℕ) (aligned : Bool) → expiry_time e < 256 ^ 8 → stored < 256 ^ 8 → last < 256 ^ 8 → acked < 256 ^ 8
     → Fits (leads e stored last acked aligned)
 leads-fits e stored last acked aligned t a b c = record {
   id = omega arith;

@@ -12,8 +12,8 @@ use Rattle.spec.specs.declared.Role.TheVariants.{Backup, Primary}
 use Rattle.spec_run.proofs.Cases.Opened.{opened}
 use Rattle.thm_run.proofs.Simulation.Client.{are_bytes}
 use Rattle.node_shard.specs.declared.Held.{Held}
-use Rattle.node_admit.specs.declared.Expiry.{Expiry}
-use Rattle.node_admit.specs.declared.Expiry.TheVariants.{Never, At}
+use Rattle.std.specs.Prelude.{Option}
+use Rattle.std.specs.Prelude.{None, Some}
 use Rattle.node_header.specs.declared.HeldRow.{HeldRow}
 use Rattle.node_header.specs.declared.Node.{Node}
 use Rattle.image_parts.specs.Shape as shape
@@ -73,7 +73,7 @@ following epoch last = record {
 abbrev pub kept : (stored : ℕ) → Held → HeldRow
 kept stored h = record { key = key; slot = 0; stored = stored; held = h }
 
-abbrev with : (id : ℕ) → Expiry → HeldRow → Node
+abbrev with : (id : ℕ) → Option ℕ → HeldRow → Node
 with id e x = record {
   id = node id;
   incarnation = 4;
@@ -83,33 +83,33 @@ with id e x = record {
   count = 1;
 }
 
-abbrev pub leads : Expiry → (stored last acked : ℕ) → Bool → Node
+abbrev pub leads : Option ℕ → (stored last acked : ℕ) → Bool → Node
 leads e stored last acked aligned = with 1 e (kept stored (leading last (row acked aligned)))
 
 abbrev pub follows : (epoch stored last : ℕ) → Node
-follows epoch stored last = with 2 Never (kept stored (following epoch last))
+follows epoch stored last = with 2 None (kept stored (following epoch last))
 
 pub read-new : node_at new_second ≡ fresh_node 2 4
 unfolding new_second node_at image.no_node shape.rows_at
 read-new = refl
 
-pub read-shown : node_at shown ≡ leads Never 0 0 0 false
+pub read-shown : node_at shown ≡ leads None 0 0 0 false
 unfolding opened first node_at shape.rows_at rows.held_row_at
 read-shown = refl
 
-pub read-leased : node_at leased ≡ leads (At 100) 0 0 0 false
+pub read-leased : node_at leased ≡ leads (Some 100) 0 0 0 false
 unfolding opened first node_at shape.rows_at rows.held_row_at
 read-leased = refl
 
-pub read-written : node_at written ≡ leads (At 100) 1 1 0 false
+pub read-written : node_at written ≡ leads (Some 100) 1 1 0 false
 unfolding opened first node_at shape.rows_at rows.held_row_at
 read-written = refl
 
-pub read-aligned : node_at aligned ≡ leads (At 100) 1 1 0 true
+pub read-aligned : node_at aligned ≡ leads (Some 100) 1 1 0 true
 unfolding opened first node_at shape.rows_at rows.held_row_at
 read-aligned = refl
 
-pub read-acked : node_at acked ≡ leads (At 100) 1 1 1 true
+pub read-acked : node_at acked ≡ leads (Some 100) 1 1 1 true
 unfolding opened first node_at shape.rows_at rows.held_row_at
 read-acked = refl
 

@@ -21,7 +21,7 @@ use Rattle.log_store.specs.Table as table
 use Rattle.log_store.specs.Store.{well_formed_store, every_below, same_rows}
 use Rattle.log_calls.specs.Fits.{sized, lent_fits}
 use Rattle.node_shard.specs.declared.Held.{Held}
-use Rattle.node_admit.specs.declared.Expiry.TheVariants.{At}
+use Rattle.std.specs.Prelude.{Some}
 use Rattle.node_header.specs.declared.Node.{Node}
 use Rattle.node_header.specs.View.{Stores, view_node, used}
 use Rattle.node_header.specs.Formed.{lent_node, slots_fit, counts_fit}
@@ -64,11 +64,11 @@ first l v p = record {
 abbrev pub second : (epoch : ℕ) → Log → Vectors → held.Node
 second epoch l v = record { id = 2; incarnation = 4; expiry = none; version = 3; held = shard epoch l v Backup false [] ∷ [] }
 
-pub first-empty : (s : Stores) → view_node s (leads (At 100) 0 0 0 false) ≡ first [] [] (row 0 false)
+pub first-empty : (s : Stores) → view_node s (leads (Some 100) 0 0 0 false) ≡ first [] [] (row 0 false)
 first-empty s = rw (nil (s.log 0 0) (s.long 0 0), s.bare 0) refl
 
 pub first_one : (s : Stores) (aligned : Bool) → s.log 0 1 ≡ entry ∷ [] → s.vectors 0 1 1 ≡ vectors
-    → view_node s (leads (At 100) 1 1 0 aligned) ≡ first (entry ∷ []) vectors (row 0 aligned)
+    → view_node s (leads (Some 100) 1 1 0 aligned) ≡ first (entry ∷ []) vectors (row 0 aligned)
 first_one s aligned l v = rw (l, v) refl
 
 pub second_empty : (s : Stores) (epoch : ℕ) → view_node s (follows epoch 0 0) ≡ second epoch [] []
@@ -79,7 +79,7 @@ second-one s l v = rw (l, v) refl
 
 -- ---- with the zeroed store
 
-pub leased_lent_store : lent_store_in stores (leads (At 100) 0 0 0 false) key ≡ before
+pub leased_lent_store : lent_store_in stores (leads (Some 100) 0 0 0 false) key ≡ before
 unfolding opened lent_store_at
 leased_lent_store = kept_read
 
@@ -103,18 +103,18 @@ pub empty-fits : lent_fits (store_in before 0 0) ≡ true
 unfolding opened lent_fits sized well_formed_store every_below same_rows view.log_of view.firsts table.rows_of table.zipped table.play_rows table.play_rows_from
 empty-fits = refl
 
-leased-node : (s : Stores) → lent_node s (leads (At 100) 0 0 0 false) ≡ true
+leased-node : (s : Stores) → lent_node s (leads (Some 100) 0 0 0 false) ≡ true
 unfolding opened lent_node slots_fit counts_fit
 leased-node s = rw (s.long 0 0) refl
 
-leased-store : let n = leads (At 100) 0 0 0 false in lent_at n before (place_of n key) ≡ true
+leased-store : let n = leads (Some 100) 0 0 0 false in lent_at n before (place_of n key) ≡ true
 unfolding opened lent_at held_row_store
 leased-store = empty-fits
 
-pub first_passes : (s : Stores) → lent_for s (leads (At 100) 0 0 0 false) before key ≡ true
+pub first_passes : (s : Stores) → lent_for s (leads (Some 100) 0 0 0 false) before key ≡ true
 unfolding lent_for
 first_passes s =
-    let n = leads (At 100) 0 0 0 false in and_true (lent_node s n) (lent_at n before (place_of n key)) (leased-node s) leased-store
+    let n = leads (Some 100) 0 0 0 false in and_true (lent_node s n) (lent_at n before (place_of n key)) (leased-node s) leased-store
 
 empty-node : (s : Stores) (epoch : ℕ) → lent_node s (follows epoch 0 0) ≡ true
 unfolding opened lent_node slots_fit counts_fit
@@ -131,7 +131,7 @@ second-passes s epoch =
 
 -- ---- with the store that has the entry
 
-pub first-node : (aligned : Bool) (s : Stores) → lent_node s (leads (At 100) 1 1 0 aligned) ≡ true
+pub first-node : (aligned : Bool) (s : Stores) → lent_node s (leads (Some 100) 1 1 0 aligned) ≡ true
 unfolding opened lent_node slots_fit counts_fit
 first-node aligned s = rw (s.long 0 1) refl
 
@@ -139,7 +139,7 @@ second-node : (s : Stores) → lent_node s (follows 1 1 1) ≡ true
 unfolding opened lent_node slots_fit counts_fit
 second-node s = rw (s.long 0 1) refl
 
-first_image : (aligned : Bool) → let n = leads (At 100) 1 1 0 aligned in cond (holds_key n key) (held_row_image stored (held_row_of n key)) true ≡ true
+first_image : (aligned : Bool) → let n = leads (Some 100) 1 1 0 aligned in cond (holds_key n key) (held_row_image stored (held_row_of n key)) true ≡ true
 unfolding opened
 first_image aligned = image_stored
 
@@ -147,7 +147,7 @@ second_image : let n = follows 1 1 1 in cond (holds_key n key) (held_row_image s
 unfolding opened
 second_image = image_stored
 
-pub first-full : (aligned : Bool) → lent_store_in stored (leads (At 100) 1 1 0 aligned) key ≡ columns
+pub first-full : (aligned : Bool) → lent_store_in stored (leads (Some 100) 1 1 0 aligned) key ≡ columns
 unfolding opened lent_store_at
 first-full aligned = refl
 
@@ -164,14 +164,14 @@ lends_aligned = lends_stored aligned _ lent-aligned read-aligned (first-node tru
 pub lends_holding : lends_state holding stored key ≡ true
 lends_holding = lends_stored holding _ lent-holding read-holding second-node second_image (stores_in [])
 
-pub written-passes : (s : Stores) → lent_for s (leads (At 100) 1 1 0 false) columns key ≡ true
+pub written-passes : (s : Stores) → lent_for s (leads (Some 100) 1 1 0 false) columns key ≡ true
 written-passes s =
-    subst (λ (a : LentStore). lent_for s (leads (At 100) 1 1 0 false) a key ≡ true) (first-full false)
+    subst (λ (a : LentStore). lent_for s (leads (Some 100) 1 1 0 false) a key ≡ true) (first-full false)
     (passes-stored written _ lent_written read-written (first-node false) (first_image false) s)
 
-pub aligned-passes : (s : Stores) → lent_for s (leads (At 100) 1 1 0 true) columns key ≡ true
+pub aligned-passes : (s : Stores) → lent_for s (leads (Some 100) 1 1 0 true) columns key ≡ true
 aligned-passes s =
-    subst (λ (a : LentStore). lent_for s (leads (At 100) 1 1 0 true) a key ≡ true) (first-full true)
+    subst (λ (a : LentStore). lent_for s (leads (Some 100) 1 1 0 true) a key ≡ true) (first-full true)
     (passes-stored aligned _ lent-aligned read-aligned (first-node true) (first_image true) s)
 
 pub holding-passes : (s : Stores) → lent_for s (follows 1 1 1) columns key ≡ true
@@ -181,7 +181,7 @@ holding-passes s =
 
 -- ---- the store in its slot, and what is left passes the test of a store
 
-pub first_slot : (stored last : ℕ) (aligned : Bool) → slot_of (leads (At 100) stored last 0 aligned) key ≡ 0
+pub first_slot : (stored last : ℕ) (aligned : Bool) → slot_of (leads (Some 100) stored last 0 aligned) key ≡ 0
 unfolding opened slot_of
 first_slot stored last aligned = refl
 
@@ -189,7 +189,7 @@ pub second-slot : (epoch stored last : ℕ) → slot_of (follows epoch stored la
 unfolding opened slot_of
 second-slot epoch stored last = refl
 
-pub first-slots : slots_fit (used (leads (At 100) 1 1 0 false)) ≡ true
+pub first-slots : slots_fit (used (leads (Some 100) 1 1 0 false)) ≡ true
 unfolding opened slots_fit
 first-slots = refl
 

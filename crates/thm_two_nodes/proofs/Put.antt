@@ -3,7 +3,7 @@ use native.Mathlib.Omega.{arith}
 use mathlib.Core.Path.{◌≡◌, refl}
 use mathlib.Core.Bool.{true, false}
 use Rattle.spec_run.proofs.Cases.Opened.{opened}
-use Rattle.node_admit.specs.declared.Expiry.TheVariants.{Never, At}
+use Rattle.std.specs.Prelude.{None, Some}
 use Rattle.image_parts.specs.Canon as canon
 use Rattle.image_header_row.specs.Rows as rows
 use Rattle.image_header_row.specs.Tidy as tidy
@@ -19,75 +19,75 @@ use Rattle.thm_two_nodes.proofs.Fits.{leads-fits, follows-fits}
 
 -- ---- node 1
 
-put-shown : shown ≡ header_put new (leads Never 0 0 0 false)
+put-shown : shown ≡ header_put new (leads None 0 0 0 false)
 unfolding opened new free first header_put rows.held_row_bytes tidy.tidy_held_row tidy.tidy_held canon.padded
 put-shown = refl
 
-pub header-shown : HeaderWrites new shown (leads Never 0 0 0 false)
+pub header-shown : HeaderWrites new shown (leads None 0 0 0 false)
 header-shown =
-    writes_long new (leads Never 0 0 0 false) shown (lent_long new one.lent-new)
-    (leads-fits Never 0 0 0 false (omega arith) (omega arith) (omega arith) (omega arith)) put-shown
+    writes_long new (leads None 0 0 0 false) shown (lent_long new one.lent-new)
+    (leads-fits None 0 0 0 false (omega arith) (omega arith) (omega arith) (omega arith)) put-shown
 
 pub lent-shown : header_lent shown ≡ true
 lent-shown = (header-shown.becomes (lent_long new one.lent-new)).lent
 
-put-leased : leased ≡ header_put shown (leads (At 100) 0 0 0 false)
+put-leased : leased ≡ header_put shown (leads (Some 100) 0 0 0 false)
 unfolding opened first header_put rows.held_row_bytes tidy.tidy_held_row tidy.tidy_held canon.padded
 put-leased = refl
 
-pub header-leased : HeaderWrites shown leased (leads (At 100) 0 0 0 false)
+pub header-leased : HeaderWrites shown leased (leads (Some 100) 0 0 0 false)
 header-leased =
-    writes_long shown (leads (At 100) 0 0 0 false) leased (lent_long shown lent-shown)
-    (leads-fits (At 100) 0 0 0 false (omega arith) (omega arith) (omega arith) (omega arith)) put-leased
+    writes_long shown (leads (Some 100) 0 0 0 false) leased (lent_long shown lent-shown)
+    (leads-fits (Some 100) 0 0 0 false (omega arith) (omega arith) (omega arith) (omega arith)) put-leased
 
 pub lent-leased : header_lent leased ≡ true
 lent-leased = (header-leased.becomes (lent_long shown lent-shown)).lent
 
-put_written : written ≡ header_put leased (leads (At 100) 1 1 0 false)
+put_written : written ≡ header_put leased (leads (Some 100) 1 1 0 false)
 unfolding opened first header_put rows.held_row_bytes tidy.tidy_held_row tidy.tidy_held canon.padded
 put_written = refl
 
-pub header-written : HeaderWrites leased written (leads (At 100) 1 1 0 false)
+pub header-written : HeaderWrites leased written (leads (Some 100) 1 1 0 false)
 header-written =
-    writes_long leased (leads (At 100) 1 1 0 false) written (lent_long leased lent-leased)
-    (leads-fits (At 100) 1 1 0 false (omega arith) (omega arith) (omega arith) (omega arith)) put_written
+    writes_long leased (leads (Some 100) 1 1 0 false) written (lent_long leased lent-leased)
+    (leads-fits (Some 100) 1 1 0 false (omega arith) (omega arith) (omega arith) (omega arith)) put_written
 
 pub lent_written : header_lent written ≡ true
 lent_written = (header-written.becomes (lent_long leased lent-leased)).lent
 
-put-aligned : aligned ≡ header_put written (leads (At 100) 1 1 0 true)
+put-aligned : aligned ≡ header_put written (leads (Some 100) 1 1 0 true)
 unfolding opened first header_put rows.held_row_bytes tidy.tidy_held_row tidy.tidy_held canon.padded
 put-aligned = refl
 
-pub header-aligned : HeaderWrites written aligned (leads (At 100) 1 1 0 true)
+pub header-aligned : HeaderWrites written aligned (leads (Some 100) 1 1 0 true)
 header-aligned =
-    writes_long written (leads (At 100) 1 1 0 true) aligned (lent_long written lent_written)
-    (leads-fits (At 100) 1 1 0 true (omega arith) (omega arith) (omega arith) (omega arith)) put-aligned
+    writes_long written (leads (Some 100) 1 1 0 true) aligned (lent_long written lent_written)
+    (leads-fits (Some 100) 1 1 0 true (omega arith) (omega arith) (omega arith) (omega arith)) put-aligned
 
 pub lent-aligned : header_lent aligned ≡ true
 lent-aligned = (header-aligned.becomes (lent_long written lent_written)).lent
 
-put-acked : acked ≡ header_put aligned (leads (At 100) 1 1 1 true)
+put-acked : acked ≡ header_put aligned (leads (Some 100) 1 1 1 true)
 unfolding opened first header_put rows.held_row_bytes tidy.tidy_held_row tidy.tidy_held canon.padded
 put-acked = refl
 
-pub header-acked : HeaderWrites aligned acked (leads (At 100) 1 1 1 true)
+pub header-acked : HeaderWrites aligned acked (leads (Some 100) 1 1 1 true)
 header-acked =
-    writes_long aligned (leads (At 100) 1 1 1 true) acked (lent_long aligned lent-aligned)
-    (leads-fits (At 100) 1 1 1 true (omega arith) (omega arith) (omega arith) (omega arith)) put-acked
+    writes_long aligned (leads (Some 100) 1 1 1 true) acked (lent_long aligned lent-aligned)
+    (leads-fits (Some 100) 1 1 1 true (omega arith) (omega arith) (omega arith) (omega arith)) put-acked
 
 pub lent-acked : header_lent acked ≡ true
 lent-acked = (header-acked.becomes (lent_long aligned lent-aligned)).lent
 
 -- a wait leaves it as it was
-put-waited : acked ≡ header_put acked (leads (At 100) 1 1 1 true)
+put-waited : acked ≡ header_put acked (leads (Some 100) 1 1 1 true)
 unfolding opened first header_put rows.held_row_bytes tidy.tidy_held_row tidy.tidy_held canon.padded
 put-waited = refl
 
-pub header-waited : HeaderWrites acked acked (leads (At 100) 1 1 1 true)
+pub header-waited : HeaderWrites acked acked (leads (Some 100) 1 1 1 true)
 header-waited =
-    writes_long acked (leads (At 100) 1 1 1 true) acked (lent_long acked lent-acked)
-    (leads-fits (At 100) 1 1 1 true (omega arith) (omega arith) (omega arith) (omega arith)) put-waited
+    writes_long acked (leads (Some 100) 1 1 1 true) acked (lent_long acked lent-acked)
+    (leads-fits (Some 100) 1 1 1 true (omega arith) (omega arith) (omega arith) (omega arith)) put-waited
 
 -- ---- node 2
 

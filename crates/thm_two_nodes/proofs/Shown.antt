@@ -16,7 +16,7 @@ use Rattle.spec_laws.proofs.Lists.{not_both, and_true}
 use Rattle.spec_run.proofs.Cases.Opened.{opened}
 use Rattle.map_tables.specs.View.{view_map}
 use Rattle.map_check.specs.Lent.{well_formed_lent}
-use Rattle.node_admit.specs.declared.Expiry.TheVariants.{Never}
+use Rattle.std.specs.Prelude.{None}
 use Rattle.node_header.specs.declared.Node.{Node}
 use Rattle.node_header.specs.View.{Stores, view_node}
 use Rattle.node_header.specs.Formed.{slots_fit, lent_node, formed_node}
@@ -63,7 +63,7 @@ abbrev starting : Start
 starting = record { key = key; epoch = record { 0 = 1 }; metric = Euclidean; peers = record { items = node 2 ∷ replicate 31 (node 0); count = 1 } }
 
 abbrev first : NodeShown
-first = record { answer = S.Shown; starts = replicate 8 starting; count = 1; node = leads Never 0 0 0 false }
+first = record { answer = S.Shown; starts = replicate 8 starting; count = 1; node = leads None 0 0 0 false }
 
 abbrev second : NodeShown
 second = record { answer = S.Shown; starts = replicate 8 starting; count = 0; node = follows 0 0 0 }
@@ -132,9 +132,9 @@ started-put : started ≡ sets worker 0 (start_bytes workers)
 unfolding opened started
 started-put = refl
 
-first_rows : RowsPut worker_bytes 54 0 new shown worker started room offset workers (leads Never 0 0 0 false) 0
+first_rows : RowsPut worker_bytes 54 0 new shown worker started room offset workers (leads None 0 0 0 false) 0
 first_rows =
-    all-put {A = show.Worker} worker_bytes 54 0 new worker room workers (leads Never 0 0 0 false) (omega arith) offset 1 one-put refl
+    all-put {A = show.Worker} worker_bytes 54 0 new worker room workers (leads None 0 0 0 false) (omega arith) offset 1 one-put refl
     header-shown.image header-shown.becomes started-put refl
 
 first-put : ShowPut new shown worker started room offset first 0

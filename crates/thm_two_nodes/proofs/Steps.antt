@@ -14,7 +14,7 @@ use Rattle.spec.specs.Node.Calls as calls
 use Rattle.spec.specs.declared.Metric.TheVariants.{Euclidean}
 use Rattle.spec_laws.proofs.Lists.{not_both}
 use Rattle.spec_run.proofs.Cases.Opened.{opened}
-use Rattle.node_admit.specs.declared.Expiry.TheVariants.{At}
+use Rattle.std.specs.Prelude.{Some}
 use Rattle.node_admit.specs.declared.Step.TheVariants as step
 use Rattle.node_header.specs.declared.Node.{Node}
 use Rattle.node_header.specs.declared.StepAnswer.{StepAnswer}
@@ -61,32 +61,32 @@ send_at [] v e = absurd (omega arith)
 send_at (x ∷ []) v e = refl
 send_at (x ∷ y ∷ l) v e = absurd (omega arith)
 
-aligns : StepsNode (leads (At 100) 1 1 0 false) key 1 2 (stepped.Stepped step.Align)
+aligns : StepsNode (leads (Some 100) 1 1 0 false) key 1 2 (stepped.Stepped step.Align)
 aligns s = rw (first-node false s) (align_at_lem (s.log 0 1) (s.vectors 0 1 1) (s.long 0 1))
 
-sends : StepsNode (leads (At 100) 1 1 0 true) key 1 2 (stepped.Stepped (step.Send 1 1))
+sends : StepsNode (leads (Some 100) 1 1 0 true) key 1 2 (stepped.Stepped (step.Send 1 1))
 sends s = rw (first-node true s) (send_at (s.log 0 1) (s.vectors 0 1 1) (s.long 0 1))
 
 -- ---- the requests
 
 align_asked : (s : Stores)
-    → calls.request_with (lent_for s (leads (At 100) 1 1 0 false) columns) (first (entry ∷ []) vectors (row 0 false)) (length space) key 1 2 Euclidean
+    → calls.request_with (lent_for s (leads (Some 100) 1 1 0 false) columns) (first (entry ∷ []) vectors (row 0 false)) (length space) key 1 2 Euclidean
     ≡ calls.written align_bytes
 unfolding opened align_bytes
 align_asked s = rw (written-passes s) refl
 
 entry-asked : (s : Stores)
-    → calls.request_with (lent_for s (leads (At 100) 1 1 0 true) columns) (first (entry ∷ []) vectors (row 0 true)) (length space) key 1 2 Euclidean
+    → calls.request_with (lent_for s (leads (Some 100) 1 1 0 true) columns) (first (entry ∷ []) vectors (row 0 true)) (length space) key 1 2 Euclidean
     ≡ calls.written entry_bytes
 unfolding opened entry_bytes fits to_bits of_bits
 entry-asked s = rw (aligned-passes s) refl
 
 module _ (isAligned : Bool) (sends : List ℕ)
     (asked : (s : Stores)
-    → calls.request_with (lent_for s (leads (At 100) 1 1 0 isAligned) columns) (first (entry ∷ []) vectors (row 0 isAligned)) (length space) key 1 2 Euclidean
+    → calls.request_with (lent_for s (leads (Some 100) 1 1 0 isAligned) columns) (first (entry ∷ []) vectors (row 0 isAligned)) (length space) key 1 2 Euclidean
     ≡ calls.written sends) where
   abbrev n : Node
-  n = leads (At 100) 1 1 0 isAligned
+  n = leads (Some 100) 1 1 0 isAligned
 
   said : (s : Stores) → Lends s (slot_of n key) columns
       → calls.request_with (lent_for s n columns) (view_node s n) (length space) key 1 2 Euclidean ≡ calls.written sends

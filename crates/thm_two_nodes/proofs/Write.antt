@@ -12,7 +12,7 @@ use Rattle.spec.specs.Node.Refused as refused
 use Rattle.spec_laws.proofs.Lists.{not_both}
 use Rattle.spec_run.proofs.Cases.Opened.{opened}
 use Rattle.log_calls.proofs.FitLaws.{fits-sized, fits-well}
-use Rattle.node_admit.specs.declared.Expiry.TheVariants.{At}
+use Rattle.std.specs.Prelude.{Some}
 use Rattle.node_header.specs.declared.Node.{Node}
 use Rattle.node_header.specs.View.{Stores}
 use Rattle.node_header.specs.Answers.{answered_as}
@@ -36,10 +36,10 @@ use Rattle.thm_two_nodes.proofs.Nodes.{first, first-empty, first_one, leased_len
 -- ---- the call, on the columns that the bytes are read into
 
 abbrev was : Node
-was = leads (At 100) 0 0 0 false
+was = leads (Some 100) 0 0 0 false
 
 abbrev is : Node
-is = leads (At 100) 1 1 0 false
+is = leads (Some 100) 1 1 0 false
 
 taken : (s : Stores)
     → record { answer = accepted; node = first (entry ∷ []) vectors (row 0 false) }

@@ -1,19 +1,18 @@
 -- What a caller is shown as, by the first nine bytes. Assumes nothing.
-use Prim.Native.Nat.{ℕ, zero, suc, ◌+◌, ◌-◌, ◌≤◌, ◌<◌}
+use Prim.Native.Nat.{ℕ, ◌+◌, ◌-◌, ◌≤◌, ◌<◌}
 use mathlib.Core.Path.{◌≡◌, refl, sym, ap, ◌∙◌}
-use mathlib.Core.Bool.{Bool, true, false, cond, not}
+use mathlib.Core.Bool.{Bool, true, false, not}
 use mathlib.Core.List.{List, [], ◌∷◌, append-nil}
 use native.Mathlib.Omega.{arith}
-use lib.Dec.{eqb, leb}
+use lib.Dec.{eqb}
 use lib.ListN.{length, get_or, take, drop, set, length-drop}
 use lib.Seq.{sets, sets-eq, take_at}
 use borrow.Author.Tests.{le-leb, lt-leb, ne_eqb, eq-eqb}
 use Rattle.spec.specs.Lists.{◌and◌, ◌or◌}
 use Rattle.spec.specs.Layout.Format.{number_at}
-use Rattle.spec_callers.specs.Editions.{is_second, caller_behind, first_code, plain}
+use Rattle.spec_callers.specs.Editions.{is_second, first_code, plain}
 use Rattle.wire_put.proofs.Writes.{sets_then}
 use Rattle.wire_caller.specs.Callers.{caller_shown}
-use Rattle.wire_caller.specs.declared.Caller.{Caller}
 use Rattle.wire_caller.specs.declared.Caller.TheVariants.{First, By, Nobody}
 
 pub empty : (s : List ℕ) → length s ≡ 0 → First ≡ caller_shown s

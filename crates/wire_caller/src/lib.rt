@@ -2,11 +2,7 @@
 // and Search, which read no other message of it.
 #![tactic(auto)]
 
-ghost use mathlib.Core.Path.{◌≡◌};
-ghost use mathlib.Core.Bool.{true};
-ghost use Prim.Native.Nat.{◌≤◌};
-ghost use lib.Dec.{eqb};
-ghost use lib.ListN.{length, take};
+ghost use Rattle.std.specs.Prelude.{◌≡◌, ◌≤◌, true, eqb, length, take};
 ghost use Rattle.spec.specs.Lists.{◌or◌};
 ghost use Rattle.spec_callers.specs.Editions.{is_second, first_code, plain};
 ghost use Rattle.wire_caller.specs.Callers.{caller_shown};
@@ -25,10 +21,7 @@ pub enum Caller {
 fn is_second(code: u8) -> bool
     ensures { result ≡ (eqb code 0x28 or eqb code 0x29) }
 {
-    if code == 0x28 {
-        return true;
-    }
-    code == 0x29
+    code == 0x28 || code == 0x29
 }
 
 // Who calls.

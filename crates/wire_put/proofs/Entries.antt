@@ -1,15 +1,14 @@
 -- Entries and lists, stored one after another. Assumes nothing.
-use Prim.Native.Nat.{ℕ, suc, ◌+◌, ◌*◌, ◌%◌, ◌≤◌}
+use Prim.Native.Nat.{ℕ, ◌+◌, ◌%◌, ◌≤◌}
 use mathlib.Core.Path.{◌≡◌, refl, sym, ap, ◌∙◌}
 use mathlib.Core.Bool.{Bool}
-use mathlib.Core.List.{List, [], ◌∷◌, ◌++◌}
+use mathlib.Core.List.{List, ◌∷◌, ◌++◌}
 use lib.ListN.{length, set}
 use lib.Seq.{sets}
 use native.Mathlib.Omega.{arith}
 use Rattle.spec.specs.Layout.Format.{Format, Value, many, bytes_of, concat_map, encode}
-use Rattle.spec.specs.Layout.Parts.{u64, entry_f, entry_value, WireOp, WireEntry}
-use Rattle.wire_put.specs.Entries.{entry_given}
-use Rattle.wire_put.specs.Fields.{wire_of, op_bytes, op_size}
+use Rattle.spec.specs.Layout.Parts.{u64}
+use Rattle.wire_put.specs.Fields.{op_bytes, op_size}
 use Rattle.wire_put.proofs.Writes.{sets_then, op-size}
 
 -- one value more of any format

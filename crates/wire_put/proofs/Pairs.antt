@@ -1,12 +1,12 @@
 -- The pairs of an epoch table, stored one after another. Assumes nothing.
-use Prim.Native.Nat.{ℕ, suc, ◌+◌, ◌*◌, ◌≤◌, ◌<◌}
+use Prim.Native.Nat.{ℕ, suc, ◌+◌, ◌*◌, ◌<◌}
 use mathlib.Core.Path.{◌≡◌, refl, sym, ap, ◌∙◌}
 use mathlib.Core.List.{List, [], ◌∷◌, ◌++◌, map, append_assoc}
 use lib.ListN.{length, get_or, drop, set, length-append}
 use lib.Seq.{sets, drop-cons}
 use native.Mathlib.Omega.{arith}
 use native.Mathlib.Numerals.{add-one}
-use Rattle.spec.specs.Layout.Format.{◌▸◌, bytes_of, concat_map, encode}
+use Rattle.spec.specs.Layout.Format.{◌▸◌, bytes_of, encode}
 use Rattle.spec.specs.Layout.Parts.{u64, table_f, metric_f, end_value}
 use Rattle.wire_put.specs.Tables.{ends_given, table_bytes}
 use Rattle.wire_put.proofs.Writes.{sets_then}

@@ -1,19 +1,19 @@
 -- The entries of 22 from columns: steps of the loops. Assumes nothing.
 use Prim.Native.Nat.{ℕ, zero, suc, ◌+◌, ◌-◌, ◌*◌, ◌≤◌, ◌<◌}
 use mathlib.Core.Path.{◌≡◌, refl, sym, ap, ◌∙◌}
-use mathlib.Core.Bool.{Bool, true, false}
-use mathlib.Core.List.{List, [], ◌∷◌, ◌++◌, map}
+use mathlib.Core.Bool.{true}
+use mathlib.Core.List.{List, ◌++◌, map}
 use lib.ListN.{length, get_or, take, drop, length-drop, length-append}
 use lib.Seq.{sets, length-take-le}
-use lib.Dec.{eqb, leb}
+use lib.Dec.{eqb}
 use native.Mathlib.Omega.{arith}
-use borrow.Author.Tests.{leb-true, le-leb}
+use borrow.Author.Tests.{leb-true}
 use Rattle.spec.specs.Lists.{◌and◌}
-use Rattle.spec.specs.Layout.Format.{bytes_of, concat_map, encode}
+use Rattle.spec.specs.Layout.Format.{bytes_of, encode}
 use Rattle.spec.specs.Layout.Parts.{entry_f, entries_f, entry_value}
 use Rattle.spec_laws.proofs.Wire.Tests.{and_left, and_right}
 use Rattle.wire_put.specs.Rows.{row_fits, rows_fit, rows_size, row_at, rows_given, rows_bytes, long_enough}
-use Rattle.wire_put.specs.Fields.{op_fits, op_size, op_bytes, wire_of}
+use Rattle.wire_put.specs.Fields.{op_fits, op_size, wire_of}
 use Rattle.wire_put.proofs.Writes.{op_small, sets_then}
 use Rattle.wire_put.proofs.Entries.{entry-size}
 

@@ -3,8 +3,10 @@ use Prim.Native.Nat.{ℕ, suc, ◌+◌, ◌-◌, ◌*◌, ◌%◌, ◌≤◌, �
 use mathlib.Core.Path.{◌≡◌, refl, sym, ap, ◌∙◌}
 use mathlib.Core.Bool.{Bool, true, false}
 use mathlib.Core.List.{List, [], ◌∷◌, ◌++◌, append_assoc}
-use lib.ListN.{length, get_or, drop, set, replicate, length-append, length-replicate}
-use lib.Seq.{sets, drop-cons, drop-length}
+use lib.ListN.{length, get_or, take, drop, set, replicate, length-append, length-replicate}
+use lib.Seq.{sets, sets-eq, drop-cons, drop-length, take-length}
+use borrow.Rule.Slice.PartMut.{put_mid}
+use Rattle.std.proofs.lemmas.Slice.{put_mid-paste}
 use lib.Dec.{leb}
 use native.Mathlib.Omega.{arith}
 use native.Mathlib.Numerals.{add-one}
@@ -28,19 +30,12 @@ sets_then l i j a b e = rw e (sym (sets-append l i a b))
 
 -- ---- loops
 
-pub bytes-step : (l v : List ℕ) (at i : ℕ) → i < length v
-    → sets (set l (at + i) (get_or v i 0)) (at + (i + 1)) (drop (i + 1) v) ≡ sets l (at + i) (drop i v)
-bytes-step l v at i h =
-    let q : at + (i + 1) ≡ suc (at + i) = omega arith in
-    let d : drop i v ≡ get_or v i 0 ∷ drop (i + 1) v = rw add-one (drop-cons v i 0 h) in
-    rw (q, d)
-
-pub zeros-step : (l : List ℕ) (at i n : ℕ) → i < n
-    → sets (set l (at + i) 0) (at + (i + 1)) (replicate (n - (i + 1)) 0) ≡ sets l (at + i) (replicate (n - i) 0)
-zeros-step l at i n h =
-    let q : at + (i + 1) ≡ suc (at + i) = omega arith in
-    let e : n - i ≡ suc (n - (i + 1)) = omega arith in
-    rw (q, e)
+-- what a part of the list was overwritten with is stored there
+pub put-stored : (l v w : List ℕ) (at k : ℕ) → w ≡ v → k ≡ length v → at + length v ≤ length l → put_mid at k l w ≡ sets l at v
+put-stored l v w at k e n h =
+    put_mid-paste at k l w v (length v) e (sym n) refl
+    ∙ ap (λ (x : List ℕ). take at l ++ x ++ drop (at + length v) l) (take-length v)
+    ∙ sym (sets-eq v l at h)
 
 -- numbers of k bytes, the first i of them stored: the rest, stored behind them, makes up the whole
 module _ (k : ℕ) (out₀ : List ℕ) (at : ℕ) (v : List ℕ) (out : List ℕ) (i : ℕ) where

@@ -1,5 +1,4 @@
 -- An entry of 22 as a writer is handed it.
-use Rattle.std.specs.Prelude.{ℕ}
 use Rattle.spec.specs.Layout.Parts.{WireOp, WireEntry}
 use Rattle.spec.specs.declared.Epoch.{Epoch}
 use Rattle.spec.specs.declared.Offset.{Offset}

@@ -23,12 +23,10 @@ pub fn rows_fit(codes: &[u8], lens: &[u8], n: usize) -> bool
     requires { (n ≤ length codes.now) × (n ≤ length lens.now) }
     ensures { result ≡ rows_fit codes.now lens.now n 0 }
 {
-    let mut i = 0;
-    while i < n {
+    for i in 0..n {
         if !row_fits(codes[i], lens[i]) {
             return false;
         }
-        i += 1;
     }
     true
 }
@@ -39,11 +37,9 @@ pub fn rows_size(codes: &[u8], lens: &[u8], n: usize) -> usize
     ensures { result ≡ rows_size codes.now lens.now n 0 }
 {
     let mut total: usize = 0;
-    let mut i = 0;
-    while i < n {
+    for i in 0..n {
         let len = lens[i] as usize;
         total += 16 + op_size(codes[i] == 1, len);
-        i += 1;
     }
     total
 }
@@ -64,8 +60,7 @@ pub fn put_rows(
     ensures { out.new ≡ sets out.old at (rows_bytes epochs.now offsets.now codes.now ids.now lens.now bits.now n 0) }
 {
     let mut p = at;
-    let mut i = 0;
-    while i < n {
+    for i in 0..n {
         let len = lens[i] as usize;
         let from = 32 * i;
         let upsert = codes[i] == 1;
@@ -81,7 +76,6 @@ pub fn put_rows(
             &bits[from..from + len],
         );
         p += 16 + op_size(upsert, len);
-        i += 1;
     }
 }
 

@@ -11,11 +11,9 @@ pub fn put_ends(out: &mut [u8], at: usize, epochs: &[u64], ends: &[u64])
     requires { (at + 16 * length epochs.now ≤ length out.old) × (length epochs.now ≡ length ends.now) × (length epochs.now ≤ 1024) }
     ensures { out.new ≡ sets out.old at (table_bytes epochs.now ends.now) }
 {
-    let mut i = 0;
-    while i < epochs.len() {
+    for i in 0..epochs.len() {
         num::put8(out, at + 16 * i, epochs[i]);
         num::put8(out, at + 16 * i + 8, ends[i]);
-        i += 1;
     }
 }
 

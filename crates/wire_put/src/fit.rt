@@ -9,16 +9,14 @@ pub fn text_fits(v: &[u8], c: usize) -> bool
     if c < v.len() {
         return false;
     }
-    let mut i = 0;
-    while i < v.len() {
-        let b = v[i];
+    for x in v {
+        let b = *x;
         if b < 0x20 {
             return false;
         }
         if 0x7E < b {
             return false;
         }
-        i += 1;
     }
     true
 }

@@ -14,12 +14,10 @@ pub fn lists_fit(counts: &[u8], n: usize) -> bool
     requires { n ≤ length counts.now }
     ensures { result ≡ lists_fit counts.now n 0 }
 {
-    let mut i = 0;
-    while i < n {
+    for i in 0..n {
         if 8 < counts[i] {
             return false;
         }
-        i += 1;
     }
     true
 }
@@ -30,11 +28,9 @@ pub fn lists_size(counts: &[u8], n: usize) -> usize
     ensures { result ≡ lists_size counts.now n 0 }
 {
     let mut total: usize = 0;
-    let mut i = 0;
-    while i < n {
+    for i in 0..n {
         let len = counts[i] as usize;
         total += 1 + 8 * len;
-        i += 1;
     }
     total
 }
@@ -56,13 +52,11 @@ pub fn put_lists(out: &mut [u8], at: usize, counts: &[u8], nodes: &[u64], n: usi
     ensures { out.new ≡ sets out.old at (lists_bytes counts.now nodes.now n 0) }
 {
     let mut p = at;
-    let mut i = 0;
-    while i < n {
+    for i in 0..n {
         let len = counts[i] as usize;
         let from = 8 * i;
         put_list(out, p, &nodes[from..from + len]);
         p += 1 + 8 * len;
-        i += 1;
     }
 }
 

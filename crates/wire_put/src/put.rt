@@ -19,11 +19,7 @@ pub fn put_bytes(out: &mut [u8], at: usize, v: &[u8])
     requires { at + length v.now ≤ length out.old }
     ensures { out.new ≡ sets out.old at v.now }
 {
-    let mut i = 0;
-    while i < v.len() {
-        out[at + i] = v[i];
-        i += 1;
-    }
+    out[at..at + v.len()].copy_from_slice(v);
 }
 
 // n zeros.
@@ -31,11 +27,7 @@ fn put_zeros(out: &mut [u8], at: usize, n: usize)
     requires { at + n ≤ length out.old }
     ensures { out.new ≡ sets out.old at (replicate n 0) }
 {
-    let mut i = 0;
-    while i < n {
-        out[at + i] = 0;
-        i += 1;
-    }
+    out[at..at + n].fill(0);
 }
 
 // A text: its length, its bytes, and zeros up to c.
@@ -54,10 +46,8 @@ pub fn put_words4(out: &mut [u8], at: usize, v: &[u32])
     requires { (at + 4 * length v.now ≤ length out.old) × (length v.now ≤ 65536) }
     ensures { out.new ≡ sets out.old at (concat_map (bytes_of 4) v.now) }
 {
-    let mut i = 0;
-    while i < v.len() {
-        num::put4(out, at + 4 * i, v[i]);
-        i += 1;
+    for (i, x) in v.iter().enumerate() {
+        num::put4(out, at + 4 * i, *x);
     }
 }
 
@@ -66,10 +56,8 @@ pub fn put_words8(out: &mut [u8], at: usize, v: &[u64])
     requires { (at + 8 * length v.now ≤ length out.old) × (length v.now ≤ 65536) }
     ensures { out.new ≡ sets out.old at (concat_map (bytes_of 8) v.now) }
 {
-    let mut i = 0;
-    while i < v.len() {
-        num::put8(out, at + 8 * i, v[i]);
-        i += 1;
+    for (i, x) in v.iter().enumerate() {
+        num::put8(out, at + 8 * i, *x);
     }
 }
 

@@ -4,7 +4,6 @@
 -- Assumes nothing.
 use Rattle.std.proofs.Common.{◌≡◌, ℕ, Bool, true, false, cond, eqb, List, get_or, sym, refl, ap, ◌∙◌, arith, eqb-true}
 use mathlib.Core.Option.{Option, none, some}
-use borrow.Author.Tests.{eqb-false}
 use Rattle.spec.specs.Layout.Format.{Format, code, ◌▸◌, fits, value, whole}
 use Rattle.spec.specs.Layout.Request as request
 use Rattle.spec.specs.Layout.Message as message

@@ -1,12 +1,12 @@
 -- For the crates above: the bytes of names and the items of vectors, tables, lists and entries, where a message was
 -- read. A part's place and length come from Decoded.antt, its items from here. Assumes nothing.
-use Rattle.std.proofs.Common.{◌≡◌, ℕ, zero, suc, ◌+◌, ◌*◌, ◌<◌, ◌≤◌, Bool, true, false, leb, List, [], ◌∷◌, map, length, get_or, take, drop, sym, refl, ap, ◌∙◌, mul-le-mul_right, suc-mul, zero-mul, arith, leb-true}
+use Rattle.std.proofs.Common.{◌≡◌, ℕ, zero, suc, ◌+◌, ◌*◌, ◌<◌, ◌≤◌, true, List, ◌∷◌, map, length, get_or, take, drop, sym, refl, ap, ◌∙◌, mul-le-mul_right, suc-mul, zero-mul, arith, leb-true}
 use Rattle.spec.specs.Log.{End}
-use Rattle.spec.specs.Layout.Format.{Format, Value, word, text, ◌▸◌, many, fits, fits_n, next, next_n, value, value_n, number_at}
-use Rattle.spec.specs.Layout.Parts.{u64, entry_f, end_of, entry_of, WireEntry}
+use Rattle.spec.specs.Layout.Format.{Format, Value, word, text, ◌▸◌, fits, fits_n, next, value, value_n, number_at}
+use Rattle.spec.specs.Layout.Parts.{u64, end_of}
 use Rattle.spec_laws.proofs.Wire.Tests.{and_left, and_right}
-use Rattle.wire_shape.proofs.Skips.{fixed_fits, fixed_next}
-use Rattle.wire_read.proofs.Places.{text-length, length-value_n}
+use Rattle.wire_shape.proofs.Skips.{fixed_fits}
+use Rattle.wire_read.proofs.Places.{text-length}
 
 -- a name or an address: as many bytes after the length byte as it has
 pub text-bytes : (c : ℕ) (s : List ℕ) (at : ℕ) → fits (text c) s at ≡ true

@@ -1,14 +1,12 @@
 -- The parts of a message at their places: how far they reach, and what is shown of them. Assumes nothing.
-use Rattle.std.proofs.Common.{◌≡◌, ℕ, zero, suc, ◌+◌, ◌-◌, ◌*◌, ◌<◌, ◌≤◌, Bool, true, false, eqb, leb, ◌⊎◌, List, [], ◌∷◌, length, get_or, take, drop, sym, refl, ap, ◌∙◌, inl, inr, add_assoc, mul-zero, arith, length-drop, drop_of_length-le, length-take-le, take_all, eq-eqb, ne_eqb, eqb-true, leb-true}
+use Rattle.std.proofs.Common.{◌≡◌, ℕ, zero, suc, ◌+◌, ◌-◌, ◌*◌, ◌≤◌, Bool, true, false, eqb, List, [], length, get_or, take, drop, sym, refl, ap, ◌∙◌, arith, length-drop, drop_of_length-le, length-take-le, take_all, eq-eqb, ne_eqb, eqb-true, leb-true}
 use lib.Seq.{take-nil}
 use Rattle.spec.specs.declared.Metric.TheVariants.{Angular}
 use borrow.Author.Tests.{eqb-false}
-use Rattle.spec.specs.Lists.{◌and◌}
-use Rattle.spec.specs.Layout.Format.{Format, code, word, text, ◌▸◌, many, either, fits, next, value, value_n, next_n, fits_n, number_at}
-use Rattle.spec.specs.Layout.Parts.{u64, u32, key_f, vector_f, op_f, entry_f, metric_of, op_of, key_of, entry_of}
+use Rattle.spec.specs.Layout.Format.{Format, code, text, ◌▸◌, many, either, fits, next, value, value_n, fits_n, number_at}
+use Rattle.spec.specs.Layout.Parts.{u64, u32, key_f, vector_f, op_f, entry_f, metric_of, op_of, key_of}
 use Rattle.spec_laws.proofs.Wire.Tests.{and_left, and_right}
-use Rattle.wire_read.specs.Shown.{part, key_shown, op_shown, entry_shown}
-use Rattle.wire_read.specs.declared.OpPart.{OpPart}
+use Rattle.wire_read.specs.Shown.{part, key_shown, op_shown}
 use Rattle.wire_read.specs.declared.OpPart.TheVariants.{Upsert, Delete}
 use Rattle.wire_shape.proofs.Skips.{fixed_next, fixed_fits, count_byte}
 

@@ -1,5 +1,5 @@
 -- The remainder that `shard_of` answers. Assumes nothing.
-use Rattle.std.proofs.Common.{◌≡◌, ℕ, zero, suc, ◌+◌, ◌*◌, ◌%◌, ◌<◌, max, sym, refl, ap, ◌∙◌, mod-lt, arith}
+use Rattle.std.proofs.Common.{◌≡◌, ℕ, zero, suc, ◌+◌, ◌*◌, ◌%◌, ◌<◌, sym, refl, ap, ◌∙◌, mod-lt, arith}
 use native.Mathlib.Nat.{mod-one, max-eq_left}
 use Rattle.spec.specs.Layout.ShardOf.{shard_of, mixed, low64, folded}
 

@@ -1,6 +1,7 @@
 -- How a message that was read is shown as the enum `Message`: its numbers, and the places of its names, vectors,
 -- tables, lists and entries in the bytes. What the bytes say is `spec`'s (`decode_write` and so on).
 use Rattle.std.specs.Prelude.{ℕ, ◌+◌, cond, List, length, ◌==◌, slice_index_or}
+use Rattle.std.specs.Prelude as prelude
 use Rattle.std.proofs.Math.Option.{Option, none, some}
 use Rattle.spec.specs.Keys.{Name, Key}
 use Rattle.spec.specs.Log.{End}
@@ -173,6 +174,12 @@ module _ {A : Type 0} where
   shown_or f none = Undecodable
   shown_or f (some a) = f a
 
+-- a value that was read, shown
+module _ {A B : Type 0} where
+  abbrev pub shown : (A → B) → Option A → prelude.Option B
+  shown f none = prelude.None
+  shown f (some a) = prelude.Some (f a)
+
 -- 'Bytes on the wire': the message that all of the bytes are, by its code, or Undecodable
 unfoldable pub message_of : List ℕ → Message
 message_of s =
@@ -192,3 +199,10 @@ read_or at (some r) = record { message = request_shown at r.0; next = r.1 }
 -- 'Program applymap': the request that stands at a position, with the position after it
 unfoldable pub request_read_of : List ℕ → ℕ → RequestRead
 request_read_of s at = read_or at (request.request_at s at)
+
+-- the same as a value, with the position after it
+abbrev pub request_end : ℕ → request.Request × ℕ → RequestPart × ℕ
+request_end at r = (request_part at r.0, r.1)
+
+unfoldable pub request_part_of : List ℕ → ℕ → prelude.Option (RequestPart × ℕ)
+request_part_of s at = shown (request_end at) (request.request_at s at)

@@ -22,12 +22,12 @@ fn create_at(s: &[u8], at: usize) -> CreatePart
     let replication = num::get4(s, p + 4 + 1 + 4);
     let placement = text_at(s, p + 4 + 1 + 4 + 4);
     CreatePart {
-        name: name,
-        dimension: dimension,
-        metric: metric,
-        shards: shards,
-        replication: replication,
-        placement: placement,
+        name,
+        dimension,
+        metric,
+        shards,
+        replication,
+        placement,
     }
 }
 
@@ -40,9 +40,9 @@ fn register_at(s: &[u8], at: usize) -> RegisterPart
     let address = text_at(s, at + 8);
     let incarnation = num::get8(s, at + 8 + 1 + 64);
     RegisterPart {
-        node: node,
-        address: address,
-        incarnation: incarnation,
+        node,
+        address,
+        incarnation,
     }
 }
 
@@ -53,10 +53,7 @@ fn dead_at(s: &[u8], at: usize) -> DeadPart
 {
     let node = DataNodeId(num::get8(s, at));
     let incarnation = num::get8(s, at + 8);
-    DeadPart {
-        node: node,
-        incarnation: incarnation,
-    }
+    DeadPart { node, incarnation }
 }
 
 // 14: key node incarnation epoch.
@@ -70,10 +67,10 @@ fn add_at(s: &[u8], at: usize) -> AddPart
     let incarnation = num::get8(s, p + 8);
     let epoch = Epoch(num::get8(s, p + 8 + 8));
     AddPart {
-        key: key,
-        node: node,
-        incarnation: incarnation,
-        epoch: epoch,
+        key,
+        node,
+        incarnation,
+        epoch,
     }
 }
 
@@ -86,11 +83,7 @@ fn change_at(s: &[u8], at: usize) -> ChangePart
     let p = at + 1 + 32 + 4;
     let node = DataNodeId(num::get8(s, p));
     let epoch = Epoch(num::get8(s, p + 8));
-    ChangePart {
-        key: key,
-        node: node,
-        epoch: epoch,
-    }
+    ChangePart { key, node, epoch }
 }
 
 // A command, at the place of its code.

@@ -5,6 +5,7 @@
 #![tactic(auto)]
 
 ghost use Rattle.std.specs.Prelude.{◌≡◌};
+ghost use Rattle.std.specs.Option.{unwrap_or};
 ghost use Rattle.wire_read.specs.Shown.{message_of, request_read_of};
 
 use kinds::{
@@ -189,12 +190,12 @@ pub struct RequestRead {
     pub next: usize,
 }
 
-// The message that the bytes are, all of them, or Undecodable.
-pub fn decode(s: &[u8]) -> Message
-    ensures { result ≡ message_of s.now }
+// The message that the bytes are, all of them.
+fn read(s: &[u8]) -> Option<Message>
+    ensures { unwrap_or result Message.Undecodable ≡ message_of s.now }
 {
     if s.len() == 0 {
-        return Message::Undecodable;
+        return None;
     }
     match s[0] {
         0x01 => read_whole_request(s),
@@ -207,9 +208,25 @@ pub fn decode(s: &[u8]) -> Message
     }
 }
 
+// The message that the bytes are, all of them, or Undecodable.
+pub fn decode(s: &[u8]) -> Message
+    ensures { result ≡ message_of s.now }
+{
+    read(s).unwrap_or(Message::Undecodable)
+}
+
 // The request that begins at a position, taken by its own length: for requests that follow one another.
 pub fn request_at(s: &[u8], at: usize) -> RequestRead
     ensures { result ≡ request_read_of s.now at }
 {
-    read_request(s, at)
+    match read_request(s, at) {
+        Some((request, next)) => RequestRead {
+            message: Message::Request(request),
+            next,
+        },
+        None => RequestRead {
+            message: Message::Undecodable,
+            next: at,
+        },
+    }
 }

@@ -51,10 +51,7 @@ pub fn end_at(s: &[u8], table: Part, i: usize) -> EndPart
     let p = at + i * 16;
     let epoch = Epoch(num::get8(s, p));
     let end = Offset(num::get8(s, p + 8));
-    EndPart {
-        epoch: epoch,
-        end: end,
-    }
+    EndPart { epoch, end }
 }
 
 // A part with its length byte at a position.
@@ -92,10 +89,7 @@ pub fn key_at(s: &[u8], at: usize) -> KeyPart
 {
     let name = text_at(s, at);
     let shard = num::get4(s, at + 1 + 32);
-    KeyPart {
-        name: name,
-        shard: shard,
-    }
+    KeyPart { name, shard }
 }
 
 // An operation.
@@ -106,12 +100,9 @@ pub fn op_at(s: &[u8], at: usize) -> OpPart
     let id = num::get8(s, at + 1);
     if s[at] == 1 {
         let vector = text_at(s, at + 1 + 8);
-        return OpPart::Upsert {
-            id: id,
-            vector: vector,
-        };
+        return OpPart::Upsert { id, vector };
     }
-    OpPart::Delete { id: id }
+    OpPart::Delete { id }
 }
 
 // The position after an operation.
@@ -136,9 +127,9 @@ pub fn entry_at(s: &[u8], at: usize) -> EntryPart
     let op = op_at(s, at + 8 + 8);
     let next = op_end(s, at + 8 + 8);
     EntryPart {
-        epoch: epoch,
-        offset: offset,
-        op: op,
-        next: next,
+        epoch,
+        offset,
+        op,
+        next,
     }
 }

@@ -8,11 +8,11 @@ use lib.Dec.{leb}
 use native.Mathlib.Omega.{arith}
 use borrow.Author.Tests.{le-leb, lt-leb, ne_eqb}
 use Rattle.spec.specs.Lists.{◌and◌}
-use Rattle.spec.specs.Layout.Format.{code, word, below, text, ◌▸◌}
+use Rattle.spec.specs.Layout.Format.{word, below, text, ◌▸◌}
 use Rattle.spec.specs.Layout.Parts.{u64, u32, name_f, key_f, metric_f, placement_f}
 use Rattle.spec.specs.Layout.Request.{command_f, create_f, register_f, add_f, ownership_f, bench_f}
 use Rattle.wire_shape.specs.Skip.{skip}
-use Rattle.wire_shape.specs.declared.Skip.TheVariants.{Bad}
+use Rattle.std.specs.Prelude.{None}
 use Rattle.wire_shape.proofs.Skips.{no_1, skip_no, Same, same_trans, same_sym, same_after, same_left, same-words, same_words_then, same_keyed}
 
 -- ---- the operands, as the code groups them
@@ -40,7 +40,7 @@ same_add =
 -- ---- the code picks the operands
 
 module _ (s : List ℕ) (at : ℕ) where
-  pub command_end : length s ≤ at → Bad ≡ skip command_f s at
+  pub command_end : length s ≤ at → None ≡ skip command_f s at
   command_end h = skip_no command_f s at (no_1 _ _ (lt-leb (at + 1) (length s) (omega arith)))
 
   module _ (h : at < length s) where
@@ -89,7 +89,7 @@ module _ (s : List ℕ) (at : ℕ) where
 
     pub command_none : (get_or s at 0 ≡ 0x10 → ⊥) → (get_or s at 0 ≡ 0x11 → ⊥) → (get_or s at 0 ≡ 0x12 → ⊥) → (get_or s at 0 ≡ 0x13 → ⊥)
         → (get_or s at 0 ≡ 0x14 → ⊥) → (get_or s at 0 ≡ 0x15 → ⊥) → (get_or s at 0 ≡ 0x16 → ⊥) → (get_or s at 0 ≡ 0x17 → ⊥)
-        → (get_or s at 0 ≡ 0x18 → ⊥) → (get_or s at 0 ≡ 0x19 → ⊥) → Bad ≡ skip command_f s at
+        → (get_or s at 0 ≡ 0x18 → ⊥) → (get_or s at 0 ≡ 0x19 → ⊥) → None ≡ skip command_f s at
     unfolding skip ◌and◌
     command_none a b c d e f g i j k =
         rw (

@@ -4,16 +4,15 @@ use mathlib.Core.Path.{◌≡◌, refl, sym, ap, ◌∙◌}
 use mathlib.Core.Bool.{Bool, true, false}
 use mathlib.Core.List.{List}
 use lib.ListN.{length, get_or}
-use lib.Dec.{leb, ltb, eqb}
+use lib.Dec.{leb}
 use native.Mathlib.Omega.{arith}
 use native.Mathlib.Nat.{add_assoc, zero-mul, suc-mul}
-use borrow.Author.Tests.{lt-leb, le-leb, leb-true, leb-false, eq-eqb, ne_eqb, lt-ltb, le-ltb}
+use borrow.Author.Tests.{lt-leb, le-leb, leb-true, leb-false, eq-eqb, ne_eqb}
 use Rattle.spec.specs.Lists.{◌and◌}
 use Rattle.spec.specs.Layout.Format.{Format, code, word, below, many, text, either, ◌▸◌, fits, next, fits_n, next_n, number_at, all_within}
-use Rattle.spec_laws.proofs.Wire.Tests.{and_intro, and_left, and_right, and_true, and_false}
+use Rattle.spec_laws.proofs.Wire.Tests.{and_intro, and_left, and_true, and_false}
 use Rattle.wire_shape.specs.Skip.{skip, skip_if, skip_n}
-use Rattle.wire_shape.specs.declared.Skip.{Skip}
-use Rattle.wire_shape.specs.declared.Skip.TheVariants.{Next, Bad}
+use Rattle.std.specs.Prelude.{Some, None}
 
 -- ---- tests that fail
 
@@ -33,48 +32,48 @@ and_assoc false b c = refl
 
 -- ---- a test and its answer
 
-skip_if_next : (b : Bool) (n p : ℕ) → skip_if b n ≡ Next p → (b ≡ true) × (n ≡ p)
+skip_if_next : (b : Bool) (n p : ℕ) → skip_if b n ≡ Some p → (b ≡ true) × (n ≡ p)
 skip_if_next true n p e = (refl, cc)
 skip_if_next false n p e = let z : ◌≡◌ {A = ℕ} 0 1 = cc in absurd (omega arith)
 
-skip_if_bad : (b : Bool) (n : ℕ) → skip_if b n ≡ Bad → b ≡ false
+skip_if_bad : (b : Bool) (n : ℕ) → skip_if b n ≡ None → b ≡ false
 skip_if_bad true n e = let z : ◌≡◌ {A = ℕ} 0 1 = cc in absurd (omega arith)
 skip_if_bad false n e = refl
 
 module _ (f : Format) (s : List ℕ) (at : ℕ) where
-  pub skip-ok : fits f s at ≡ true → Next (next f s at) ≡ skip f s at
+  pub skip-ok : fits f s at ≡ true → Some (next f s at) ≡ skip f s at
   unfolding skip
   skip-ok e = rw e
 
-  pub skip_no : fits f s at ≡ false → Bad ≡ skip f s at
+  pub skip_no : fits f s at ≡ false → None ≡ skip f s at
   unfolding skip
   skip_no e = rw e
 
-  pub skip-next : (p : ℕ) → skip f s at ≡ Next p → (fits f s at ≡ true) × (next f s at ≡ p)
+  pub skip-next : (p : ℕ) → skip f s at ≡ Some p → (fits f s at ≡ true) × (next f s at ≡ p)
   unfolding skip
   skip-next p e = skip_if_next (fits f s at) (next f s at) p e
 
-  pub skip_bad : skip f s at ≡ Bad → fits f s at ≡ false
+  pub skip_bad : skip f s at ≡ None → fits f s at ≡ false
   unfolding skip
   skip_bad e = skip_if_bad (fits f s at) (next f s at) e
 
 module _ (f g : Format) (s : List ℕ) (at : ℕ) where
   -- one field after another
-  pub pair-next : (p : ℕ) → skip f s at ≡ Next p → skip g s p ≡ skip (f ▸ g) s at
+  pub pair-next : (p : ℕ) → skip f s at ≡ Some p → skip g s p ≡ skip (f ▸ g) s at
   unfolding skip ◌and◌
   pair-next p e = let h = skip-next f s at p e in let h₀ = h.0 in let h₁ = h.1 in rw (h₀, h₁)
 
   -- the same, by the place that the first field's end is known to be
-  pub pair_then : (p : ℕ) → skip f s at ≡ Next p → skip g s (next f s at) ≡ skip (f ▸ g) s at
+  pub pair_then : (p : ℕ) → skip f s at ≡ Some p → skip g s (next f s at) ≡ skip (f ▸ g) s at
   unfolding skip ◌and◌
   pair_then p e = let h = skip-next f s at p e in rw h.0
 
-  pub pair_bad : skip f s at ≡ Bad → Bad ≡ skip (f ▸ g) s at
+  pub pair_bad : skip f s at ≡ None → None ≡ skip (f ▸ g) s at
   unfolding skip ◌and◌
   pair_bad e = let h = skip_bad f s at e in rw h
 
 -- a byte below m is there
-pub below-there : (m : ℕ) (s : List ℕ) (at p : ℕ) → skip (below m) s at ≡ Next p → at < length s
+pub below-there : (m : ℕ) (s : List ℕ) (at p : ℕ) → skip (below m) s at ≡ Some p → at < length s
 below-there m s at p e =
     let l : at + 1 ≤ length s = leb-true _ _ (and_left _ _ (skip-next (below m) s at p e).0) in
     omega arith
@@ -162,11 +161,11 @@ module _ (s : List ℕ) (w : ℕ) where
 -- ---- a count and its items
 
 module _ (f : Format) (s : List ℕ) where
-  pub skip_n-none : (p : ℕ) → Next p ≡ skip_n f s 0 p
+  pub skip_n-none : (p : ℕ) → Some p ≡ skip_n f s 0 p
   unfolding skip_n
   skip_n-none p = refl
 
-  pub skip_n-next : (n i p q : ℕ) → i < n → skip f s p ≡ Next q → skip_n f s (n - i) p ≡ skip_n f s (n - (i + 1)) q
+  pub skip_n-next : (n i p q : ℕ) → i < n → skip f s p ≡ Some q → skip_n f s (n - i) p ≡ skip_n f s (n - (i + 1)) q
   unfolding skip_n ◌and◌
   skip_n-next n i p q h e =
       let k : n - i ≡ suc (n - (i + 1)) = omega arith in
@@ -175,7 +174,7 @@ module _ (f : Format) (s : List ℕ) where
       let r₁ = r.1 in
       rw k (rw r₀ (ap (λ (x : ℕ). skip_if (fits_n (fits f s) (next f s) (n - (i + 1)) x) (next_n (next f s) (n - (i + 1)) x)) r₁))
 
-  pub skip_n_bad : (n i p : ℕ) → i < n → skip f s p ≡ Bad → skip_n f s (n - i) p ≡ Bad
+  pub skip_n_bad : (n i p : ℕ) → i < n → skip f s p ≡ None → skip_n f s (n - i) p ≡ None
   unfolding skip_n ◌and◌
   skip_n_bad n i p h e =
       let k : n - i ≡ suc (n - (i + 1)) = omega arith in
@@ -188,13 +187,13 @@ module _ (f : Format) (s : List ℕ) where
     unfolding skip skip_n ◌and◌
     many-next l h₁ h₂ = rw (le-leb _ _ l, le-leb _ _ h₁, le-leb _ _ h₂)
 
-    pub many-end : length s < at + k → Bad ≡ skip (many k lo hi f) s at
+    pub many-end : length s < at + k → None ≡ skip (many k lo hi f) s at
     many-end h = skip_no (many k lo hi f) s at (no_1 _ _ (lt-leb (at + k) (length s) h))
 
-    pub many-low : number_at k s at < lo → Bad ≡ skip (many k lo hi f) s at
+    pub many-low : number_at k s at < lo → None ≡ skip (many k lo hi f) s at
     many-low h = skip_no (many k lo hi f) s at (no_2 _ _ (no_1 _ _ (lt-leb lo (number_at k s at) h)))
 
-    pub many_high : hi < number_at k s at → Bad ≡ skip (many k lo hi f) s at
+    pub many_high : hi < number_at k s at → None ≡ skip (many k lo hi f) s at
     many_high h = skip_no (many k lo hi f) s at (no_2 _ _ (no_2 _ _ (no_1 _ _ (lt-leb (number_at k s at) hi h))))
 
 -- a count of one byte is that byte
@@ -212,7 +211,7 @@ same-many k lo hi f g h s at = (
 -- ---- one of two
 
 module _ (t : ℕ) (f g : Format) (s : List ℕ) (at : ℕ) where
-  pub either_end : length s ≤ at → Bad ≡ skip (either t f g) s at
+  pub either_end : length s ≤ at → None ≡ skip (either t f g) s at
   either_end h = skip_no (either t f g) s at (no_1 _ _ (lt-leb (at + 1) (length s) (omega arith)))
 
   pub either_first : at < length s → get_or s at 0 ≡ t → skip f s (at + 1) ≡ skip (either t f g) s at
@@ -228,7 +227,7 @@ pub code-first : (c : ℕ) (g : Format) (s : List ℕ) (at : ℕ) → at < lengt
 unfolding skip ◌and◌
 code-first c g s at h e = let l : at + 1 ≤ length s = omega arith in rw (le-leb _ _ l, eq-eqb _ _ e)
 
-pub code_other : (c : ℕ) (g : Format) (s : List ℕ) (at : ℕ) → (get_or s at 0 ≡ c → ⊥) → Bad ≡ skip (code c ▸ g) s at
+pub code_other : (c : ℕ) (g : Format) (s : List ℕ) (at : ℕ) → (get_or s at 0 ≡ c → ⊥) → None ≡ skip (code c ▸ g) s at
 code_other c g s at n = skip_no (code c ▸ g) s at (no_1 _ _ (no_2 _ _ (ne_eqb _ _ n)))
 
 -- ---- texts
@@ -242,14 +241,14 @@ within_step lo hi n i s at h =
     ap (λ (m : ℕ). all_within lo hi m s (at + i)) e ∙ (rw (add_assoc at i 1))
 
 module _ (c k : ℕ) (s : List ℕ) (at : ℕ) where
-  pub text-end : length s < at + 1 + c + k → Bad ≡ skip (text c ▸ word k) s at
+  pub text-end : length s < at + 1 + c + k → None ≡ skip (text c ▸ word k) s at
   text-end h = skip_no (text c ▸ word k) s at (no_2 _ _ (lt-leb (at + 1 + c + k) (length s) h))
 
-  pub text_no : fits (text c) s at ≡ false → Bad ≡ skip (text c ▸ word k) s at
+  pub text_no : fits (text c) s at ≡ false → None ≡ skip (text c ▸ word k) s at
   text_no h = skip_no (text c ▸ word k) s at (no_1 _ _ h)
 
   pub text-ok : at + 1 + c + k ≤ length s → get_or s at 0 ≤ c → all_within 0x20 0x7E (get_or s at 0) s (at + 1) ≡ true
-      → all_within 0 0 (c - get_or s at 0) s (at + 1 + get_or s at 0) ≡ true → Next (at + 1 + c + k) ≡ skip (text c ▸ word k) s at
+      → all_within 0 0 (c - get_or s at 0) s (at + 1 + get_or s at 0) ≡ true → Some (at + 1 + c + k) ≡ skip (text c ▸ word k) s at
   text-ok l n p z =
       skip-ok (text c ▸ word k) s at
       (and_intro (and_intro (le-leb (at + 1 + c) (length s) (omega arith)) (and_intro (le-leb _ _ n) (and_intro p z))) (le-leb _ _ l))

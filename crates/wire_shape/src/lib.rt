@@ -8,24 +8,17 @@ ghost use Rattle.spec.specs.Layout.Parts.{u64, op_f, placement_f, entry_f, entri
 ghost use Rattle.spec.specs.Layout.Request.{command_f, create_f, register_f};
 ghost use Rattle.wire_shape.specs.Skip.{skip, skip_n};
 
-// Where the next field begins, or that no value of the field stands here.
-#[derive(Drop)]
-pub enum Skip {
-    Next(usize),
-    Bad,
-}
-
 // k bytes of any kind.
-pub fn skip_word(s: &[u8], at: usize, k: usize) -> Skip
+pub fn skip_word(s: &[u8], at: usize, k: usize) -> Option<usize>
     ensures { result ≡ skip (word k) s.now at }
 {
     if s.len() < at {
-        return Skip::Bad;
+        return None;
     }
     if s.len() - at < k {
-        return Skip::Bad;
+        return None;
     }
-    Skip::Next(at + k)
+    Some(at + k)
 }
 
 // Whether the n bytes at a position lie between lo and hi.
@@ -33,8 +26,7 @@ fn within(s: &[u8], at: usize, n: usize, lo: u8, hi: u8) -> bool
     requires { at + n ≤ length s.now }
     ensures { result ≡ all_within lo hi n s.now at }
 {
-    let mut i = 0;
-    while i < n {
+    for i in 0..n {
         let b = s[at + i];
         if b < lo {
             return false;
@@ -42,211 +34,190 @@ fn within(s: &[u8], at: usize, n: usize, lo: u8, hi: u8) -> bool
         if hi < b {
             return false;
         }
-        i += 1;
     }
     true
 }
 
 // A text of at most c bytes, filled up with zeros, and then k bytes of any kind.
-pub fn skip_text(s: &[u8], at: usize, c: usize, k: usize) -> Skip
+pub fn skip_text(s: &[u8], at: usize, c: usize, k: usize) -> Option<usize>
     requires { k ≤ 64 }
     ensures { result ≡ skip (text c ▸ word k) s.now at }
 {
     if s.len() <= at {
-        return Skip::Bad;
+        return None;
     }
     if s.len() - at <= c {
-        return Skip::Bad;
+        return None;
     }
     if s.len() - at - c <= k {
-        return Skip::Bad;
+        return None;
     }
     let n = s[at] as usize;
     if c < n {
-        return Skip::Bad;
+        return None;
     }
     if within(s, at + 1, n, 0x20, 0x7E) {
         if within(s, at + 1 + n, c - n, 0, 0) {
-            return Skip::Next(at + 1 + c + k);
+            return Some(at + 1 + c + k);
         }
     }
-    Skip::Bad
+    None
 }
 
 // A byte below m.
-pub fn skip_below(s: &[u8], at: usize, m: u8) -> Skip
+pub fn skip_below(s: &[u8], at: usize, m: u8) -> Option<usize>
     ensures { result ≡ skip (below m) s.now at }
 {
     if s.len() <= at {
-        return Skip::Bad;
+        return None;
     }
     if s[at] < m {
-        return Skip::Next(at + 1);
+        return Some(at + 1);
     }
-    Skip::Bad
+    None
 }
 
 // A count byte between lo and hi, and that many items of w bytes.
-pub fn skip_run(s: &[u8], at: usize, lo: u8, hi: u8, w: usize) -> Skip
+pub fn skip_run(s: &[u8], at: usize, lo: u8, hi: u8, w: usize) -> Option<usize>
     requires { w ≤ 16 }
     ensures { result ≡ skip (many 1 lo hi (word w)) s.now at }
 {
     if s.len() <= at {
-        return Skip::Bad;
+        return None;
     }
     let n = s[at];
     if n < lo {
-        return Skip::Bad;
+        return None;
     }
     if hi < n {
-        return Skip::Bad;
+        return None;
     }
     skip_word(s, at + 1, (n as usize) * w)
 }
 
 // A count of two bytes, at most hi, and that many items of w bytes.
-pub fn skip_long_run(s: &[u8], at: usize, hi: u16, w: usize) -> Skip
+pub fn skip_long_run(s: &[u8], at: usize, hi: u16, w: usize) -> Option<usize>
     requires { w ≤ 16 }
     ensures { result ≡ skip (many 2 0 hi (word w)) s.now at }
 {
     if s.len() < at {
-        return Skip::Bad;
+        return None;
     }
     if s.len() - at < 2 {
-        return Skip::Bad;
+        return None;
     }
     let n = num::get2(s, at);
     if hi < n {
-        return Skip::Bad;
+        return None;
     }
     skip_word(s, at + 2, (n as usize) * w)
 }
 
 // An operation: 1 id vector, or 2 id.
-pub fn skip_op(s: &[u8], at: usize) -> Skip
+pub fn skip_op(s: &[u8], at: usize) -> Option<usize>
     ensures { result ≡ skip op_f s.now at }
 {
     if s.len() <= at {
-        return Skip::Bad;
+        return None;
     }
     let t = s[at];
     if t == 1 {
-        let Skip::Next(p) = skip_word(s, at + 1, 8) else {
-            return Skip::Bad;
-        };
+        let p = skip_word(s, at + 1, 8)?;
         return skip_run(s, p, 1, 32, 4);
     }
     if t == 2 {
         return skip_word(s, at + 1, 8);
     }
-    Skip::Bad
+    None
 }
 
 // An entry: epoch offset op.
-pub fn skip_entry(s: &[u8], at: usize) -> Skip
+pub fn skip_entry(s: &[u8], at: usize) -> Option<usize>
     ensures { result ≡ skip entry_f s.now at }
 {
-    let Skip::Next(p) = skip_word(s, at, 16) else {
-        return Skip::Bad;
-    };
+    let p = skip_word(s, at, 16)?;
     skip_op(s, p)
 }
 
 // n entries.
-pub fn skip_entries_n(s: &[u8], at: usize, n: usize) -> Skip
+pub fn skip_entries_n(s: &[u8], at: usize, n: usize) -> Option<usize>
     ensures { result ≡ skip_n entry_f s.now n at }
 {
     let mut p = at;
-    let mut i = 0;
-    while i < n {
-        let Skip::Next(q) = skip_entry(s, p) else {
-            return Skip::Bad;
-        };
+    for i in 0..n {
+        let q = skip_entry(s, p)?;
         p = q;
-        i += 1;
     }
-    Skip::Next(p)
+    Some(p)
 }
 
 // A count of two bytes, at most 256, and that many entries.
-pub fn skip_entries(s: &[u8], at: usize) -> Skip
+pub fn skip_entries(s: &[u8], at: usize) -> Option<usize>
     ensures { result ≡ skip entries_f s.now at }
 {
     if s.len() < at {
-        return Skip::Bad;
+        return None;
     }
     if s.len() - at < 2 {
-        return Skip::Bad;
+        return None;
     }
     let n = num::get2(s, at);
     if 256 < n {
-        return Skip::Bad;
+        return None;
     }
     skip_entries_n(s, at + 2, n as usize)
 }
 
 // n lists of at most 8 nodes.
-pub fn skip_lists_n(s: &[u8], at: usize, n: usize) -> Skip
+pub fn skip_lists_n(s: &[u8], at: usize, n: usize) -> Option<usize>
     ensures { result ≡ skip_n (many 1 0 8 u64) s.now n at }
 {
     let mut p = at;
-    let mut i = 0;
-    while i < n {
-        let Skip::Next(q) = skip_run(s, p, 0, 8, 8) else {
-            return Skip::Bad;
-        };
+    for i in 0..n {
+        let q = skip_run(s, p, 0, 8, 8)?;
         p = q;
-        i += 1;
     }
-    Skip::Next(p)
+    Some(p)
 }
 
 // A placement: a count byte, at most 16, and that many lists.
-pub fn skip_lists(s: &[u8], at: usize) -> Skip
+pub fn skip_lists(s: &[u8], at: usize) -> Option<usize>
     ensures { result ≡ skip placement_f s.now at }
 {
     if s.len() <= at {
-        return Skip::Bad;
+        return None;
     }
     let n = s[at];
     if 16 < n {
-        return Skip::Bad;
+        return None;
     }
     skip_lists_n(s, at + 1, n as usize)
 }
 
 // The operands of 10.
-pub fn skip_create(s: &[u8], at: usize) -> Skip
+pub fn skip_create(s: &[u8], at: usize) -> Option<usize>
     ensures { result ≡ skip create_f s.now at }
 {
-    let Skip::Next(p) = skip_text(s, at, 32, 4) else {
-        return Skip::Bad;
-    };
-    let Skip::Next(q) = skip_below(s, p, 2) else {
-        return Skip::Bad;
-    };
-    let Skip::Next(t) = skip_word(s, q, 8) else {
-        return Skip::Bad;
-    };
+    let p = skip_text(s, at, 32, 4)?;
+    let q = skip_below(s, p, 2)?;
+    let t = skip_word(s, q, 8)?;
     skip_lists(s, t)
 }
 
 // The operands of 12.
-pub fn skip_register(s: &[u8], at: usize) -> Skip
+pub fn skip_register(s: &[u8], at: usize) -> Option<usize>
     ensures { result ≡ skip register_f s.now at }
 {
-    let Skip::Next(p) = skip_word(s, at, 8) else {
-        return Skip::Bad;
-    };
+    let p = skip_word(s, at, 8)?;
     skip_text(s, p, 64, 8)
 }
 
 // A command with its code, 10 to 19.
-pub fn skip_command(s: &[u8], at: usize) -> Skip
+pub fn skip_command(s: &[u8], at: usize) -> Option<usize>
     ensures { result ≡ skip command_f s.now at }
 {
     if s.len() <= at {
-        return Skip::Bad;
+        return None;
     }
     let p = at + 1;
     let t = s[at];
@@ -261,6 +232,6 @@ pub fn skip_command(s: &[u8], at: usize) -> Skip
         0x17 => skip_text(s, p, 32, 20),
         0x18 => skip_text(s, p, 32, 20),
         0x19 => skip_long_run(s, p, 1024, 1),
-        _ => Skip::Bad,
+        _ => None,
     }
 }

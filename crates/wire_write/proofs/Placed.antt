@@ -16,7 +16,8 @@ use Rattle.wire_put.specs.Placed.{lists_fit, lists_size, lists_long, lists_given
 use Rattle.wire_write.specs.Requests.{request_given}
 use Rattle.wire_put.specs.Fields.{request_head}
 use Rattle.wire_write.specs.Written.{Written, text_fits, count_fits}
-use Rattle.wire_write.specs.declared.Wrote.TheVariants.{Bytes, Short}
+use Rattle.std.specs.Prelude.{Ok, Err}
+use Rattle.wire_write.specs.declared.Unwritten.TheVariants.{Short}
 use Rattle.wire_write.proofs.Requests.{request_bytes, request-length, request-put}
 use Rattle.wire_write.proofs.Writes.{sets_then, text-short, fits_count, short, wrote}
 use Rattle.wire_put.proofs.Placed.{head-length, lists_length, given-length, long_nodes}
@@ -68,12 +69,12 @@ module _ (i c q : ℕ) (cs ns name : List ℕ) (d : ℕ) (m : Metric) (s r n : �
         ∙ request-length i c q 0x10 (create_bytes cs ns name d m s r n)
         ∙ omega (arith, create_length cs ns name d m s r n (text-short 32 name t) (fits_count 0 16 n f) e (long_nodes cs ns n l))
 
-    pub create_short : length out < 73 + lists_size cs n 0 → Written create_fits created_bytes out out Short
+    pub create_short : length out < 73 + lists_size cs n 0 → Written create_fits created_bytes out out (Err Short)
     create_short h = short created_bytes out create_fits created-fits (omega (arith, created-length))
 
     pub create_wrote : (k : ℕ) (after : List ℕ) → k ≡ 73 + lists_size cs n 0 → k ≤ length out
         → after ≡ sets (sets (sets out 0 (request_head i c q 0x10)) 26 (create_head name d m s r n)) 73 (lists_bytes cs ns n 0)
-        → Written create_fits created_bytes out after (Bytes k)
+        → Written create_fits created_bytes out after (Ok k)
     create_wrote k after g h a =
         wrote created_bytes out create_fits k after created-fits (g ∙ sym created-length) (omega (arith, created-length))
         (a

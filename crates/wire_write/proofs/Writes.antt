@@ -12,20 +12,21 @@ use Rattle.wire_write.specs.Written.{reply_given, reply_code, reply_number}
 use Rattle.wire_write.specs.declared.Reply.{Reply}
 use Rattle.wire_write.specs.declared.Reply.TheVariants.{Stored, Gap, StaleEpoch, Adopted}
 use Rattle.spec.specs.Layout.Message.{encode_reply}
-use Rattle.wire_write.specs.declared.Wrote.TheVariants.{Bytes, Short, Unfit}
+use Rattle.std.specs.Prelude.{Ok, Err}
+use Rattle.wire_write.specs.declared.Unwritten.TheVariants.{Short, Unfit}
 pub use Rattle.wire_put.proofs.Writes.{sets_then, length-text, length-words, length-key, upsert_put, delete_put, upsert_count, text-short, op-size, op_small, head_bytes, message-length, message-put, no_first, no_second, fits_count, search_put}
 
 -- ---- what a writer answers
 
 module _ (bs out : List ℕ) where
-  pub unfit : (fit : Bool) → fit ≡ false → Written fit bs out out Unfit
+  pub unfit : (fit : Bool) → fit ≡ false → Written fit bs out out (Err Unfit)
   unfit fit e = record { answer = rw e; bytes = rw e }
 
-  pub short : (fit : Bool) → fit ≡ true → length out < length bs → Written fit bs out out Short
+  pub short : (fit : Bool) → fit ≡ true → length out < length bs → Written fit bs out out (Err Short)
   short fit e h = record { answer = rw (e, lt-leb _ _ h); bytes = rw (e, lt-leb _ _ h) }
 
   pub wrote : (fit : Bool) (n : ℕ) (after : List ℕ) → fit ≡ true → n ≡ length bs → length bs ≤ length out → after ≡ sets out 0 bs
-      → Written fit bs out after (Bytes n)
+      → Written fit bs out after (Ok n)
   wrote fit n after e l h s = record { answer = rw (e, le-leb _ _ h, l); bytes = rw (e, le-leb _ _ h) s }
 
 pub reply-bytes : (r : Reply) → encode_reply (reply_given r) ≡ reply_code r ∷ bytes_of 8 (reply_number r)

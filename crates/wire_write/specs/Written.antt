@@ -9,21 +9,22 @@ use Rattle.spec.specs.declared.Epoch.{Epoch}
 use Rattle.spec.specs.declared.Offset.{Offset}
 use Rattle.wire_write.specs.declared.Reply.{Reply}
 use Rattle.wire_write.specs.declared.Reply.TheVariants.{Stored, Gap, StaleEpoch, Adopted}
-use Rattle.wire_write.specs.declared.Wrote.{Wrote}
-use Rattle.wire_write.specs.declared.Wrote.TheVariants.{Bytes, Short, Unfit}
+use Rattle.std.specs.Prelude.{Result, Ok, Err}
+use Rattle.wire_write.specs.declared.Unwritten.{Unwritten}
+use Rattle.wire_write.specs.declared.Unwritten.TheVariants.{Short, Unfit}
 unfoldable pub use Rattle.wire_put.specs.Fields.{text_fits, count_fits}
 pub use Rattle.wire_put.specs.Fields.{wire_of, op_bytes, op_fits, op_size, key_given}
 
 -- the answer for n bytes and a buffer of w
-abbrev pub answered : (fit : Bool) (n w : ℕ) → Wrote
-answered fit n w = cond fit (cond (leb n w) (Bytes n) Short) Unfit
+abbrev pub answered : (fit : Bool) (n w : ℕ) → Result ℕ Unwritten
+answered fit n w = cond fit (cond (leb n w) (Ok n) (Err Short)) (Err Unfit)
 
 -- the buffer afterwards
 abbrev pub left : (fit : Bool) → (bs out : List ℕ) → List ℕ
 left fit bs out = cond fit (cond (leb (length bs) (length out)) (sets out 0 bs) out) out
 
 -- what a writer of the bytes promises, of the buffer before and after
-pub record Written (fit : Bool) (bs before after : List ℕ) (r : Wrote) : Type 0 where
+pub record Written (fit : Bool) (bs before after : List ℕ) (r : Result ℕ Unwritten) : Type 0 where
   pub answer : r ≡ answered fit (length bs) (length before)
   pub bytes : after ≡ left fit bs before
 

@@ -6,7 +6,7 @@ ghost use Rattle.wire_write.specs.Requests.{request_given};
 ghost use Rattle.wire_write.specs.Written.{Written};
 ghost use Rattle.wire_put.specs.Fields.{count_fits, text_fits};
 
-use crate::Wrote;
+use crate::Unwritten;
 use spec::Metric;
 use wire_put::fit::{count_fits, text_fits};
 use wire_put::lists::{lists_fit, lists_long, lists_size, put_create_head, put_lists};
@@ -26,27 +26,27 @@ pub fn write_create(
     counts: &[u8],
     nodes: &[u64],
     n: usize,
-) -> Wrote
+) -> Result<usize, Unwritten>
     ensures { Written (text_fits 32 name.now and (count_fits 0 16 n and (lists_long counts.now nodes.now n and lists_fit counts.now n 0))) (encode_request (request_given index client seq (create_given counts.now nodes.now name.now dimension metric shards replication n))) out.old out.new result }
 {
     if !text_fits(name, 32) {
-        return Wrote::Unfit;
+        return Err(Unwritten::Unfit);
     }
     if !count_fits(0, 16, n) {
-        return Wrote::Unfit;
+        return Err(Unwritten::Unfit);
     }
     if !lists_long(counts, nodes, n) {
-        return Wrote::Unfit;
+        return Err(Unwritten::Unfit);
     }
     if !lists_fit(counts, n) {
-        return Wrote::Unfit;
+        return Err(Unwritten::Unfit);
     }
     let lists = lists_size(counts, n);
     if out.len() < 73 + lists {
-        return Wrote::Short;
+        return Err(Unwritten::Short);
     }
     put_request_head(out, index, client, seq, 0x10);
     put_create_head(out, name, dimension, metric, shards, replication, n as u8);
     put_lists(out, 73, counts, nodes, n);
-    Wrote::Bytes(73 + lists)
+    Ok(73 + lists)
 }

@@ -14,12 +14,11 @@ pub mod put;
 pub mod request;
 pub mod table;
 
-// How many bytes were written from the buffer's start, or why none were.
-#[derive(Clone, Copy)]
-pub enum Wrote {
-    Bytes(usize),
-    Short,
+// Why a message is not written: a value that the layout cannot carry, or too little room.
+#[derive(Clone, Copy, Debug, PartialEq, Eq)]
+pub enum Unwritten {
     Unfit,
+    Short,
 }
 
 // 30 to 33.

@@ -5,7 +5,7 @@ ghost use Rattle.spec.specs.Layout.Message.{encode_replicate, encode_reply, enco
 ghost use Rattle.wire_write.specs.Written.{Written, replicate_given, reply_code, reply_given, reply_number, search_given, write_given};
 ghost use Rattle.wire_put.specs.Fields.{count_fits, op_fits, text_fits, wire_of};
 
-use crate::{Reply, Wrote};
+use crate::{Reply, Unwritten};
 use spec::{Epoch, Offset};
 use wire_put::fit::{count_fits, op_fits, op_size, text_fits};
 use wire_put::put::{put_byte, put_head, put_op, put_words4};
@@ -20,24 +20,24 @@ pub fn write_replicate(
     upsert: bool,
     id: u64,
     bits: &[u32],
-) -> Wrote
+) -> Result<usize, Unwritten>
     ensures { Written (text_fits 32 name.now and op_fits upsert (length bits.now)) (encode_replicate (replicate_given name.now shard epoch offset (wire_of upsert id bits.now))) out.old out.new result }
 {
     if !text_fits(name, 32) {
-        return Wrote::Unfit;
+        return Err(Unwritten::Unfit);
     }
     let n = bits.len();
     if !op_fits(upsert, n) {
-        return Wrote::Unfit;
+        return Err(Unwritten::Unfit);
     }
     let size = 54 + op_size(upsert, n);
     if out.len() < size {
-        return Wrote::Short;
+        return Err(Unwritten::Short);
     }
     put_head(out, 0x20, name, shard, epoch.0);
     num::put8(out, 46, offset.0);
     put_op(out, 54, upsert, id, bits);
-    Wrote::Bytes(size)
+    Ok(size)
 }
 
 // 23: key epoch op.
@@ -49,23 +49,23 @@ pub fn write_write(
     upsert: bool,
     id: u64,
     bits: &[u32],
-) -> Wrote
+) -> Result<usize, Unwritten>
     ensures { Written (text_fits 32 name.now and op_fits upsert (length bits.now)) (encode_write (write_given name.now shard epoch (wire_of upsert id bits.now))) out.old out.new result }
 {
     if !text_fits(name, 32) {
-        return Wrote::Unfit;
+        return Err(Unwritten::Unfit);
     }
     let n = bits.len();
     if !op_fits(upsert, n) {
-        return Wrote::Unfit;
+        return Err(Unwritten::Unfit);
     }
     let size = 46 + op_size(upsert, n);
     if out.len() < size {
-        return Wrote::Short;
+        return Err(Unwritten::Short);
     }
     put_head(out, 0x23, name, shard, epoch.0);
     put_op(out, 46, upsert, id, bits);
-    Wrote::Bytes(size)
+    Ok(size)
 }
 
 // 24: key epoch, k, vector.
@@ -76,25 +76,25 @@ pub fn write_search(
     epoch: Epoch,
     k: u32,
     bits: &[u32],
-) -> Wrote
+) -> Result<usize, Unwritten>
     ensures { Written (text_fits 32 name.now and count_fits 1 32 (length bits.now)) (encode_search (search_given name.now shard epoch k bits.now)) out.old out.new result }
 {
     if !text_fits(name, 32) {
-        return Wrote::Unfit;
+        return Err(Unwritten::Unfit);
     }
     let n = bits.len();
     if !count_fits(1, 32, n) {
-        return Wrote::Unfit;
+        return Err(Unwritten::Unfit);
     }
     let size = 51 + 4 * n;
     if out.len() < size {
-        return Wrote::Short;
+        return Err(Unwritten::Short);
     }
     put_head(out, 0x24, name, shard, epoch.0);
     num::put4(out, 46, k);
     put_byte(out, 50, n as u8);
     put_words4(out, 51, bits);
-    Wrote::Bytes(size)
+    Ok(size)
 }
 
 // The code of a reply.
@@ -122,13 +122,13 @@ fn reply_number(reply: Reply) -> u64
 }
 
 // 30 to 33: one u64.
-pub fn write_reply(out: &mut [u8], reply: Reply) -> Wrote
+pub fn write_reply(out: &mut [u8], reply: Reply) -> Result<usize, Unwritten>
     ensures { Written true (encode_reply (reply_given reply)) out.old out.new result }
 {
     if out.len() < 9 {
-        return Wrote::Short;
+        return Err(Unwritten::Short);
     }
     put_byte(out, 0, reply_code(reply));
     num::put8(out, 1, reply_number(reply));
-    Wrote::Bytes(9)
+    Ok(9)
 }

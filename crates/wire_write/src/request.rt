@@ -5,24 +5,30 @@ ghost use Rattle.wire_write.specs.Requests.{change_code, change_given, request_g
 ghost use Rattle.wire_write.specs.Written.{Written};
 ghost use Rattle.wire_put.specs.Fields.{count_fits, key_given, text_fits};
 
-use crate::{Change, Wrote};
+use crate::{Change, Unwritten};
 use spec::{DataNodeId, Epoch};
 use wire_put::fit::{count_fits, text_fits};
 use wire_put::put::{put_bytes, put_key, put_request_head, put_text};
 
 // 11 Drop: name.
-pub fn write_drop(out: &mut [u8], index: u64, client: u64, seq: u64, name: &[u8]) -> Wrote
+pub fn write_drop(
+    out: &mut [u8],
+    index: u64,
+    client: u64,
+    seq: u64,
+    name: &[u8],
+) -> Result<usize, Unwritten>
     ensures { Written (text_fits 32 name.now) (encode_request (request_given index client seq (drop_collection name.now))) out.old out.new result }
 {
     if !text_fits(name, 32) {
-        return Wrote::Unfit;
+        return Err(Unwritten::Unfit);
     }
     if out.len() < 59 {
-        return Wrote::Short;
+        return Err(Unwritten::Short);
     }
     put_request_head(out, index, client, seq, 0x11);
     put_text(out, 26, 32, name);
-    Wrote::Bytes(59)
+    Ok(59)
 }
 
 // 12 Register: node address incarnation.
@@ -34,20 +40,20 @@ pub fn write_register(
     node: DataNodeId,
     address: &[u8],
     incarnation: u64,
-) -> Wrote
+) -> Result<usize, Unwritten>
     ensures { Written (text_fits 64 address.now) (encode_request (request_given index client seq (register node.0 address.now incarnation))) out.old out.new result }
 {
     if !text_fits(address, 64) {
-        return Wrote::Unfit;
+        return Err(Unwritten::Unfit);
     }
     if out.len() < 107 {
-        return Wrote::Short;
+        return Err(Unwritten::Short);
     }
     put_request_head(out, index, client, seq, 0x12);
     num::put8(out, 26, node.0);
     put_text(out, 34, 64, address);
     num::put8(out, 99, incarnation);
-    Wrote::Bytes(107)
+    Ok(107)
 }
 
 // 13 MarkNodeDead: node incarnation.
@@ -58,16 +64,16 @@ pub fn write_mark_dead(
     seq: u64,
     node: DataNodeId,
     incarnation: u64,
-) -> Wrote
+) -> Result<usize, Unwritten>
     ensures { Written true (encode_request (request_given index client seq (mark_dead node.0 incarnation))) out.old out.new result }
 {
     if out.len() < 42 {
-        return Wrote::Short;
+        return Err(Unwritten::Short);
     }
     put_request_head(out, index, client, seq, 0x13);
     num::put8(out, 26, node.0);
     num::put8(out, 34, incarnation);
-    Wrote::Bytes(42)
+    Ok(42)
 }
 
 // 14 AddReplica: key node incarnation epoch.
@@ -81,21 +87,21 @@ pub fn write_add_replica(
     node: DataNodeId,
     incarnation: u64,
     epoch: Epoch,
-) -> Wrote
+) -> Result<usize, Unwritten>
     ensures { Written (text_fits 32 name.now) (encode_request (request_given index client seq (add_replica (key_given name.now shard) node.0 incarnation epoch.0))) out.old out.new result }
 {
     if !text_fits(name, 32) {
-        return Wrote::Unfit;
+        return Err(Unwritten::Unfit);
     }
     if out.len() < 87 {
-        return Wrote::Short;
+        return Err(Unwritten::Short);
     }
     put_request_head(out, index, client, seq, 0x14);
     put_key(out, 26, name, shard);
     num::put8(out, 63, node.0);
     num::put8(out, 71, incarnation);
     num::put8(out, 79, epoch.0);
-    Wrote::Bytes(87)
+    Ok(87)
 }
 
 // The code of a change.
@@ -121,35 +127,41 @@ pub fn write_change(
     shard: u32,
     node: DataNodeId,
     epoch: Epoch,
-) -> Wrote
+) -> Result<usize, Unwritten>
     ensures { Written (text_fits 32 name.now) (encode_request (request_given index client seq (change_given change (key_given name.now shard) node.0 epoch.0))) out.old out.new result }
 {
     if !text_fits(name, 32) {
-        return Wrote::Unfit;
+        return Err(Unwritten::Unfit);
     }
     if out.len() < 79 {
-        return Wrote::Short;
+        return Err(Unwritten::Short);
     }
     put_request_head(out, index, client, seq, change_code(change));
     put_key(out, 26, name, shard);
     num::put8(out, 63, node.0);
     num::put8(out, 71, epoch.0);
-    Wrote::Bytes(79)
+    Ok(79)
 }
 
 // 19 Bench: length, bytes.
-pub fn write_bench(out: &mut [u8], index: u64, client: u64, seq: u64, bytes: &[u8]) -> Wrote
+pub fn write_bench(
+    out: &mut [u8],
+    index: u64,
+    client: u64,
+    seq: u64,
+    bytes: &[u8],
+) -> Result<usize, Unwritten>
     ensures { Written (count_fits 0 1024 (length bytes.now)) (encode_request (request_given index client seq (bench bytes.now))) out.old out.new result }
 {
     let n = bytes.len();
     if !count_fits(0, 1024, n) {
-        return Wrote::Unfit;
+        return Err(Unwritten::Unfit);
     }
     if out.len() < 28 + n {
-        return Wrote::Short;
+        return Err(Unwritten::Short);
     }
     put_request_head(out, index, client, seq, 0x19);
     num::put2(out, 26, n as u16);
     put_bytes(out, 28, bytes);
-    Wrote::Bytes(28 + n)
+    Ok(28 + n)
 }

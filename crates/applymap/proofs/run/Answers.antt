@@ -9,16 +9,16 @@ use Rattle.applymap.proofs.run.Goals as goal
 pub start-requires : goal.start-requires
 start-requires g c = c.requires.0
 
-pub loop-turns-init : goal.loop-turns-init
-loop-turns-init g c = (c.start.ensures.intact, omega arith, refl, refl, c.requires.1, search rules)
+pub loop-init : goal.loop-init
+loop-init g c = (c.start.ensures.intact, omega arith, refl, refl, c.requires.1, search rules)
 
 pub drain-done-requires : goal.drain-done-requires
-drain-done-requires g c = (c.loop-turns.invariant.0, search rules)
+drain-done-requires g c = (c.loop.invariant.0, search rules)
 
 pub print_all-requires : goal.print_all-requires
 print_all-requires g c = c.drain-done.ensures.count
 
-pub loop-turns-preserved : goal.loop-turns-preserved
-loop-turns-preserved g c =
+pub loop-preserved : goal.loop-preserved
+loop-preserved g c =
     let r = c.refill-more in let fits : r.result ≤ length r.new.buf = r.ensures.within.1 in
-    (c.drain-done.ensures.intact, fits, sym (length-take-le r.result r.new.buf fits), r.ensures.same ∙ c.loop-turns.invariant.3, c.loop-turns.invariant.4, search rules)
+    (c.drain-done.ensures.intact, fits, sym (length-take-le r.result r.new.buf fits), r.ensures.same ∙ c.loop.invariant.3, c.loop.invariant.4, search rules)

@@ -1,7 +1,8 @@
 use native.Mathlib.Omega.{arith}
 use mathlib.Core.Path.{sym, ◌∙◌, ap}
 use Rattle.map_place.specs.Read.{best_of}
-use Rattle.map_place.specs.declared.Best.{Best}
+use Rattle.map_place.specs.declared.Load.{Load}
+use Rattle.std.specs.Prelude.{Option}
 use Rattle.spec.specs.Map.Place.{replaced_with}
 use Rattle.image_map_loads.proofs.Rows.{held-few}
 use Rattle.calls_place.proofs.Places.{absent, present}
@@ -45,9 +46,9 @@ lightest_beside-best-requires c =
 pub returns-in_default : goal.returns-in_default
 returns-in_default c =
     let t = c.if-count-at.false in let e = c.get8-count.ensures in
-    ap (λ (b : Best). replaced_with (best_of b)) (sym c.in_default.is) ∙ present c.args.map.now c.args.key c.requires.1 c.requires.0 c.shard_place-at.result c.shard_place-at.ensures (omega arith) _ _ c.get8-held.ensures c.lightest_beside-best.ensures
+    ap (λ (b : Option Load). replaced_with (best_of b)) (sym c.in_default.is) ∙ present c.args.map.now c.args.key c.requires.1 c.requires.0 c.shard_place-at.result c.shard_place-at.ensures (omega arith) _ _ c.get8-held.ensures c.lightest_beside-best.ensures
 
 pub returns : goal.returns
 returns c =
     let t = c.if-count-at.false in let e = c.get8-count.ensures in
-    ap (λ (b : Best). replaced_with (best_of b)) (sym c.in-At.is) ∙ present c.args.map.now c.args.key c.requires.1 c.requires.0 c.shard_place-at.result c.shard_place-at.ensures (omega arith) _ _ c.get8-held.ensures c.lightest_beside-best.ensures
+    ap (λ (b : Option Load). replaced_with (best_of b)) (sym c.in-Some.is) ∙ present c.args.map.now c.args.key c.requires.1 c.requires.0 c.shard_place-at.result c.shard_place-at.ensures (omega arith) _ _ c.get8-held.ensures c.lightest_beside-best.ensures

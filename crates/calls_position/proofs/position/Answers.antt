@@ -8,8 +8,8 @@ use Rattle.calls_position.proofs.position.Goals as goal
 
 pub returns-then-position-lt16 : goal.returns-then-position-lt16
 returns-then-position-lt16 c =
-    answers_23 position_bytes _ _ _ (sym c.to_position.ensures ∙ ap placed c.in-Placed.is) (omega (arith, position_size c.in-Placed.p))
+    answers_23 position_bytes _ _ _ (sym c.to_position.ensures ∙ ap placed c.in-Some.is) (omega (arith, position_size c.in-Some.p))
 
 pub returns : goal.returns
 returns c =
-    answers position_bytes _ _ _ (sym c.to_position.ensures ∙ ap placed c.in-Placed.is) _ (omega (arith, position_size c.in-Placed.p)) c.put_position.ensures
+    answers position_bytes _ _ _ (sym c.to_position.ensures ∙ ap placed c.in-Some.is) _ (omega (arith, position_size c.in-Some.p)) c.put_position.ensures

@@ -6,7 +6,3 @@ use Rattle.image_header.proofs.flags_listed.Given as goal
 abbrev pub invariant-loop-i : goal.invariant-loop-i
 invariant-loop-i l =
     (l.i ≤ l.n) × (flags_listed l.s (l.n - l.i) (48 + 1280 * l.i) ≡ flags_listed l.s l.n 48)
-
-abbrev pub decreases-loop-i : goal.decreases-loop-i
-decreases-loop-i l =
-    l.n - l.i

@@ -7,7 +7,3 @@ use Rattle.image_header_counts.proofs.rows_counted.Given as goal
 abbrev pub invariant-loop-i : goal.invariant-loop-i
 invariant-loop-i l =
     Done l.initial.out (counted_rows l.initial.out l.count l.row l.last l.stored) l.out l.i × (l.i ≤ l.count) × (l.count ≤ 8) × (10288 ≤ length l.initial.out) × (l.row < l.count)
-
-abbrev pub decreases-loop-i : goal.decreases-loop-i
-decreases-loop-i l =
-    l.count - l.i

@@ -6,7 +6,3 @@ use Rattle.image_header_put.proofs.rows_tidied.Given as goal
 abbrev pub invariant-loop-i : goal.invariant-loop-i
 invariant-loop-i l =
     Done l.initial.out (rows l.initial.out l.count) l.out l.i × (l.i ≤ l.count) × (l.count ≤ 8) × (10288 ≤ length l.initial.out)
-
-abbrev pub decreases-loop-i : goal.decreases-loop-i
-decreases-loop-i l =
-    l.count - l.i

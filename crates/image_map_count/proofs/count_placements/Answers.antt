@@ -1,14 +1,12 @@
 use borrow.Author.Rules.{rules}
 use native.Mathlib.Omega.{arith}
-use mathlib.Core.Path.{◌≡◌, sym, ◌∙◌, ap}
+use mathlib.Core.Path.{◌≡◌, sym, ◌∙◌}
 use Prim.Native.Nat.{◌≤◌}
 use lib.ListN.{length}
 use Rattle.image_map.specs.Image.{map_at}
 use borrow.Author.Tests.{not-true, not-false}
 use lib.Seq.{length-take-le}
-use Rattle.image_map_count.specs.Answers.{counting_as}
 use Rattle.image_map_count.specs.Read.{view_ids, view_six}
-use Rattle.image_map_count.specs.declared.Ending.{Ending}
 use Rattle.image_map_count.proofs.Ids.{narrow}
 use Rattle.image_map_count.proofs.Answer.{malformed_answer, wide-answer, beyond-answer, six_answer, total_of_lem, total-fits, total-beyond}
 use Rattle.image_map_count.proofs.count_placements.Goals as goal
@@ -25,16 +23,16 @@ is_formed-requires c = c.requires
 
 pub returns-then-not-is_formed : goal.returns-then-not-is_formed
 returns-then-not-is_formed c =
-    ap (λ (h : Ending). counting_as h c.uncounted.result.six) c.uncounted.ensures ∙ malformed_answer (map_at c.args.map.now) c.args.name c.args.spec c.args.ids c.args.lists c.args.nodes (sym c.is_formed.ensures ∙ c.if-not-is_formed.true)
+    malformed_answer (map_at c.args.map.now) c.args.name c.args.spec c.args.ids c.args.lists c.args.nodes (sym c.is_formed.ensures ∙ c.if-not-is_formed.true)
 
 pub returns-then-too_wide : goal.returns-then-too_wide
 returns-then-too_wide c =
-    ap (λ (h : Ending). counting_as h c.uncounted-then-too_wide.result.six) c.uncounted-then-too_wide.ensures ∙ wide-answer (map_at c.args.map.now) c.args.name c.args.spec c.args.ids c.args.lists c.args.nodes (sym c.is_formed.ensures ∙ c.if-not-is_formed.false) (sym c.too_wide.ensures ∙ c.if-too_wide.true)
+    wide-answer (map_at c.args.map.now) c.args.name c.args.spec c.args.ids c.args.lists c.args.nodes (sym c.is_formed.ensures ∙ c.if-not-is_formed.false) (sym c.too_wide.ensures ∙ c.if-too_wide.true)
 
 pub returns-then-not-total : goal.returns-then-not-total
 returns-then-not-total c =
     let w = narrow c.args.ids c.args.lists c.args.nodes (sym c.too_wide.ensures ∙ c.if-too_wide.false) in
-    ap (λ (h : Ending). counting_as h c.uncounted-then-not-total.result.six) c.uncounted-then-not-total.ensures ∙ beyond-answer (map_at c.args.map.now) c.args.name c.args.spec c.args.ids c.args.lists c.args.nodes (sym c.is_formed.ensures ∙ c.if-not-is_formed.false) (sym c.too_wide.ensures ∙ c.if-too_wide.false) (total-beyond c.args.ids.count c.args.lists c.args.nodes (length (view_ids c.args.ids)) w.few w.held (size (goal.at.returns-then-not-total c).Start w.few) c.geometric-each.result c.geometric-total.result c.geometric-each.ensures c.geometric-total.ensures (not-true _ c.if-not-total.true))
+    beyond-answer (map_at c.args.map.now) c.args.name c.args.spec c.args.ids c.args.lists c.args.nodes (sym c.is_formed.ensures ∙ c.if-not-is_formed.false) (sym c.too_wide.ensures ∙ c.if-too_wide.false) (total-beyond c.args.ids.count c.args.lists c.args.nodes (length (view_ids c.args.ids)) w.few w.held (size (goal.at.returns-then-not-total c).Start w.few) c.geometric-each.result c.geometric-total.result c.geometric-each.ensures c.geometric-total.ensures (not-true _ c.if-not-total.true))
 
 pub six_of-six-requires : goal.six_of-six-requires
 six_of-six-requires c =

@@ -10,7 +10,3 @@ use Rattle.image_map_put.proofs.collections_tidied.Given as goal
 abbrev pub invariant-loop-i : goal.invariant-loop-i
 invariant-loop-i l =
     Done collection_bytes 56 3112 no_collection l.initial.out (Tidy image_collection view_collection l.count (collection_at l.initial.out) 56 3112 no_collection) l.out l.i × (l.i ≤ l.count) × (l.count ≤ 16) × (26536 ≤ length l.initial.out)
-
-abbrev pub decreases-loop-i : goal.decreases-loop-i
-decreases-loop-i l =
-    l.count - l.i

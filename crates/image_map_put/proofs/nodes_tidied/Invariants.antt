@@ -10,7 +10,3 @@ use Rattle.image_map_put.proofs.nodes_tidied.Given as goal
 abbrev pub invariant-loop-i : goal.invariant-loop-i
 invariant-loop-i l =
     Done node_bytes 96 40 no_node l.initial.out (Tidy image_node view_node l.count (node_at l.initial.out) 96 40 no_node) l.out l.i × (l.i ≤ l.count) × (l.count ≤ 32) × (26536 ≤ length l.initial.out)
-
-abbrev pub decreases-loop-i : goal.decreases-loop-i
-decreases-loop-i l =
-    l.count - l.i

@@ -10,7 +10,3 @@ use Rattle.image_map_put.proofs.sessions_tidied.Given as goal
 abbrev pub invariant-loop-i : goal.invariant-loop-i
 invariant-loop-i l =
     Done session_bytes 80 21416 no_session l.initial.out (Tidy image_session view_session l.count (session_at l.initial.out) 80 21416 no_session) l.out l.i × (l.i ≤ l.count) × (l.count ≤ 64) × (26536 ≤ length l.initial.out)
-
-abbrev pub decreases-loop-i : goal.decreases-loop-i
-decreases-loop-i l =
-    l.count - l.i

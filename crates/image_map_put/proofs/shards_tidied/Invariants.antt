@@ -10,7 +10,3 @@ use Rattle.image_map_put.proofs.shards_tidied.Given as goal
 abbrev pub invariant-loop-i : goal.invariant-loop-i
 invariant-loop-i l =
     Done shard_bytes 272 4008 no_shard l.initial.out (Tidy image_shard view_shard l.count (shard_at l.initial.out) 272 4008 no_shard) l.out l.i × (l.i ≤ l.count) × (l.count ≤ 64) × (26536 ≤ length l.initial.out)
-
-abbrev pub decreases-loop-i : goal.decreases-loop-i
-decreases-loop-i l =
-    l.count - l.i

@@ -7,6 +7,7 @@ use Rattle.image_store.specs.Read.{codes_in}
 use Rattle.image_store_check.specs.Test.{offsets_in, ids_in}
 use Rattle.image_store_table.proofs.Table.{row-set, row-dropped}
 use Rattle.image_store_table.proofs.played.Goals as goal
+use Rattle.image_store_table.proofs.played.Goals.{then-stores-codes-eq1, else-stores-codes-eq1}
 
 pub loop-i-init : goal.loop-i-init
 loop-i-init c = (refl, refl, refl, omega arith, omega arith, rebuilt_zero _ _ _ _ _)
@@ -46,13 +47,6 @@ set_row-n-requires c =
     let p = c.requires.0 in let l = c.loop-i-test.true in let t = c.loop-i.invariant.5 in let f = c.loop-i.invariant.4 in let a = c.requires.2 in let b = c.requires.3 in
     (omega (arith, t.keys), omega (arith, t.places))
 
-pub loop-i-preserved-then-stores-codes-eq1 : goal.loop-i-preserved-then-stores-codes-eq1
-loop-i-preserved-then-stores-codes-eq1 c =
-    let a = c.args in let l = c.loop-i in let t = l.invariant.5 in let lt = c.loop-i-test.true in let p = c.requires.0 in let s = a.stores.now in
-    let r = rebuilt-on (offsets_in s a.base) (ids_in s a.base) (codes_in s a.base) _ _ _ _ _ l.i t _ _ _ l.invariant.4
-    (row-set s a.base l.i (omega arith) _ _ _ _ _ _ _ _ _ _ _ l.invariant.0 l.invariant.1 l.invariant.2 c.get8-id.ensures c.get8-offset.ensures c.if-stores-codes-eq1.true c.set_row-n.ensures) in
-    (l.invariant.0, l.invariant.1, l.invariant.2, omega arith, r.0, r.1)
-
 pub drop_row-n-requires : goal.drop_row-n-requires
 drop_row-n-requires c =
     let p = c.requires.0 in let l = c.loop-i-test.true in let t = c.loop-i.invariant.5 in let f = c.loop-i.invariant.4 in let a = c.requires.2 in let b = c.requires.3 in
@@ -60,10 +54,16 @@ drop_row-n-requires c =
 
 pub loop-i-preserved : goal.loop-i-preserved
 loop-i-preserved c =
-    let a = c.args in let l = c.loop-i in let t = l.invariant.5 in let lt = c.loop-i-test.true in let p = c.requires.0 in let s = a.stores.now in
-    let r = rebuilt-on (offsets_in s a.base) (ids_in s a.base) (codes_in s a.base) _ _ _ _ _ l.i t _ _ _ l.invariant.4
-    (row-dropped s a.base l.i (omega arith) _ _ _ _ _ _ _ _ _ l.invariant.1 l.invariant.2 c.get8-id.ensures c.if-stores-codes-eq1.false c.drop_row-n.ensures) in
-    (l.invariant.0, l.invariant.1, l.invariant.2, omega arith, r.0, r.1)
+    let a = c.args in let l = c.loop-i in let t = l.invariant.5 in let lt = c.loop-i-test.true in let p = c.requires.0 in let s = a.stores.now in elim c.if-stores-codes-eq1.branch [
+      | then-stores-codes-eq1 w ↦
+          let r = rebuilt-on (offsets_in s a.base) (ids_in s a.base) (codes_in s a.base) _ _ _ _ _ l.i t _ _ _ l.invariant.4
+          (row-set s a.base l.i (omega arith) _ _ _ _ _ _ _ _ _ _ _ l.invariant.0 l.invariant.1 l.invariant.2 c.get8-id.ensures w.get8-offset.ensures w.if-stores-codes-eq1.true w.set_row-n.ensures) in
+          rw (w.keys-is, w.places-is, w.n-is) (l.invariant.0, l.invariant.1, l.invariant.2, omega arith, r.0, r.1)
+      | else-stores-codes-eq1 w ↦
+          let r = rebuilt-on (offsets_in s a.base) (ids_in s a.base) (codes_in s a.base) _ _ _ _ _ l.i t _ _ _ l.invariant.4
+          (row-dropped s a.base l.i (omega arith) _ _ _ _ _ _ _ _ _ l.invariant.1 l.invariant.2 c.get8-id.ensures w.if-stores-codes-eq1.false w.drop_row-n.ensures) in
+          rw (w.keys-is, w.places-is, w.n-is) (l.invariant.0, l.invariant.1, l.invariant.2, omega arith, r.0, r.1)
+    ]
 
 pub shape_of-keys : goal.shape_of-keys
 shape_of-keys c = c.loop-i.invariant.5.keys

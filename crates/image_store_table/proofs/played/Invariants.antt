@@ -1,5 +1,5 @@
 use mathlib.Core.Path.{◌≡◌}
-use Prim.Native.Nat.{◌+◌, ◌-◌, ◌≤◌}
+use Prim.Native.Nat.{◌+◌, ◌≤◌}
 use Rattle.log_store.specs.Table.{Tabled, rows_played}
 use Rattle.image_store.specs.Read.{codes_in}
 use Rattle.image_store_check.specs.Test.{offsets_in, ids_in}
@@ -8,7 +8,3 @@ use Rattle.image_store_table.proofs.played.Given as goal
 abbrev pub invariant-loop-i : goal.invariant-loop-i
 invariant-loop-i l =
     (l.offsets ≡ l.base + 8192) × (l.ids ≡ l.base + 16384) × (l.codes ≡ l.base + 24576) × (l.i ≤ l.count) × (l.n ≤ l.i) × Tabled l.i l.initial.keys l.initial.places l.keys l.places l.n (rows_played (offsets_in l.stores l.base) (ids_in l.stores l.base) (codes_in l.stores l.base) l.i)
-
-abbrev pub decreases-loop-i : goal.decreases-loop-i
-decreases-loop-i l =
-    l.count - l.i

@@ -4,7 +4,3 @@ use Rattle.loadsheet.proofs.print_lines.Given as goal
 abbrev pub invariant-loop-i : goal.invariant-loop-i
 invariant-loop-i l =
     l.i ≤ l.l.count
-
-abbrev pub decreases-loop-i : goal.decreases-loop-i
-decreases-loop-i l =
-    l.l.count - l.i

@@ -3,7 +3,6 @@ use mathlib.Core.Path.{sym, ◌∙◌, ap}
 use Prim.Native.Nat.{◌<◌}
 use lib.ListN.{length}
 use Rattle.spec.specs.declared.DataNodeId.{DataNodeId}
-use mathlib.Core.Bool.{true, false}
 use Rattle.map_tables.proofs.Defaults.{no_id}
 use mathlib.Core.Option.{some}
 use Rattle.spec_laws.proofs.Lists.{nth-none, nth_get_d}

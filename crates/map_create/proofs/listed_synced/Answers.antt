@@ -7,7 +7,6 @@ use lib.ListN.{length, get_or, drop}
 use Rattle.spec.specs.Map.Create.{add_all}
 use Rattle.spec.specs.Map.Change.{id_below}
 use Rattle.spec.specs.declared.DataNodeId.{DataNodeId}
-use mathlib.Core.Bool.{true, false}
 use Rattle.map_tables.proofs.Defaults.{no_id}
 use Rattle.spec_laws.proofs.Map.Rows.{put-most}
 use Rattle.map_tables.specs.View.{view_list, view_in_sync}

@@ -4,7 +4,6 @@ use mathlib.Core.Path.{◌≡◌, refl, sym, ◌∙◌, ap}
 use mathlib.Core.List.{[]}
 use Prim.Native.Nat.{ℕ, ◌≤◌, ◌<◌}
 use lib.ListN.{length, get_or}
-use mathlib.Core.Bool.{true, false}
 use Rattle.spec.specs.Map.Create.{list_matches}
 use Rattle.map_tables.specs.View.{view_list, view_placement}
 use Rattle.map_tables.proofs.Defaults.{no_list}

@@ -1,5 +1,5 @@
 use mathlib.Core.Path.{◌≡◌}
-use Prim.Native.Nat.{◌-◌, ◌≤◌}
+use Prim.Native.Nat.{◌≤◌}
 use lib.ListN.{drop}
 use Rattle.spec.specs.Lists.{every}
 use Rattle.spec.specs.Map.Create.{list_matches}
@@ -9,7 +9,3 @@ use Rattle.map_create.proofs.lists_match.Given as goal
 abbrev pub invariant-loop-i : goal.invariant-loop-i
 invariant-loop-i l =
     (l.i ≤ l.p.count) × (every (list_matches l.replication) (view_placement l.p) ≡ every (list_matches l.replication) (drop l.i (view_placement l.p)))
-
-abbrev pub decreases-loop-i : goal.decreases-loop-i
-decreases-loop-i l =
-    l.p.count - l.i

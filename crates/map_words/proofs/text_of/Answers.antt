@@ -1,6 +1,5 @@
 use native.Mathlib.Omega.{arith}
 use mathlib.Core.Path.{◌∙◌}
-use lib.ListN.{length}
 use Rattle.map_words.proofs.PartLaws.{first-put}
 use Rattle.map_words.proofs.text_of.Goals as goal
 

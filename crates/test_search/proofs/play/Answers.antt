@@ -1,21 +1,14 @@
 use borrow.Author.Rules.{rules}
-use native.Mathlib.Omega.{arith}
 use mathlib.Core.Path.{refl, ◌∙◌}
 use Rattle.test_search.proofs.play.Goals as goal
 
-pub loop-left-init : goal.loop-left-init
-loop-left-init c = (search rules, refl, refl, refl, refl, refl, refl, refl, refl)
+pub loop-init : goal.loop-init
+loop-init c = (search rules, refl, refl, refl, refl, refl, refl, refl, refl)
 
-pub overflow_sub-left : goal.overflow_sub-left
-overflow_sub-left c = omega (arith, c.loop-left-test.true)
-
-pub loop-left-smaller : goal.loop-left-smaller
-loop-left-smaller c = omega (arith, c.loop-left-test.true)
-
-pub loop-left-preserved : goal.loop-left-preserved
-loop-left-preserved c =
-    let l = c.loop-left in (
-      c.operation-n.auto.message ∙ l.invariant.0,
+pub loop-preserved : goal.loop-preserved
+loop-preserved c =
+    let l = c.loop in (
+      c.operation.auto.message ∙ l.invariant.0,
       c.append-d.auto.epochs ∙ l.invariant.1,
       c.append-d.auto.offsets ∙ l.invariant.2,
       c.append-d.auto.ids ∙ l.invariant.3,

@@ -28,7 +28,7 @@ use Rattle.map_tables.specs.declared.CollectionRow.{CollectionRow}
 use Rattle.map_tables.specs.declared.ShardRow.{ShardRow}
 use Rattle.map_tables.specs.declared.SessionRow.{SessionRow}
 use Rattle.map_tables.specs.declared.ShardMap.{ShardMap}
-use Rattle.map_tables.specs.declared.Primary.TheVariants as primary
+use Rattle.std.specs.Prelude.{Some}
 use Rattle.map_tables.specs.declared.Outcome.TheVariants as outcome
 use Rattle.map_tables.specs.View.{view_map}
 use Rattle.map_check.specs.Lent.{table_counted, counted, well_formed_lent}
@@ -37,8 +37,8 @@ use Rattle.node_shard.specs.declared.Held.{Held}
 use Rattle.node_shard.specs.declared.Sent.TheVariants as sent
 use Rattle.node_shard.specs.declared.AckAnswer.TheVariants as A
 use Rattle.node_shard.specs.declared.WaitAnswer.TheVariants as W
-use Rattle.node_admit.specs.declared.Expiry.{Expiry}
-use Rattle.node_admit.specs.declared.Expiry.TheVariants.{Never, At}
+use Rattle.std.specs.Prelude.{Option}
+use Rattle.std.specs.Prelude.{None, Some}
 use Rattle.log_store.specs.View.{firsts, op_of, entry_of, log_of}
 use Rattle.log_store.specs.Table.{zipped, rows_of, vectors_of, row_op, play_rows, play_rows_from}
 use Rattle.log_store.specs.Store.{well_formed_store, every_below, same_rows}
@@ -89,7 +89,7 @@ abbrev shard : ShardRow
 shard = record {
   key = key;
   replicas = record { items = array 8 (record { node = node 0; incarnation = 0 }) copies; count = 2 };
-  primary = primary.At (node 1);
+  primary = Some (node 1);
   insync = record { items = array 8 (node 0) (node 1 ∷ node 2 ∷ []); count = 2 };
   epoch = record { 0 = 1 };
 }
@@ -167,16 +167,16 @@ following epoch last = record {
   count = 0;
 }
 
-abbrev header : ℕ → Expiry → Held → Node
+abbrev header : ℕ → Option ℕ → Held → Node
 header n e h =
     let x : HeldRow = record { key = key; slot = 0; stored = 0; held = h } in
     record { id = node n; incarnation = 4; expiry = e; version = 3; held = array 8 no_held_row (x ∷ []); count = 1 }
 
-abbrev pub first : Expiry → (last acked : ℕ) → Bool → Node
+abbrev pub first : Option ℕ → (last acked : ℕ) → Bool → Node
 first e last acked aligned = header 1 e (leading last (row acked aligned))
 
 abbrev pub second : (epoch last : ℕ) → Node
-second epoch last = header 2 Never (following epoch last)
+second epoch last = header 2 None (following epoch last)
 
 -- ---- the first maps shown
 
@@ -184,7 +184,7 @@ abbrev starting : Start
 starting = record { key = key; epoch = record { 0 = 1 }; metric = Euclidean; peers = record { items = array 32 (node 0) (node 2 ∷ []); count = 1 } }
 
 abbrev pub shown-first : NodeShown
-shown-first = record { answer = S.Shown; starts = array 8 starting (starting ∷ []); count = 1; node = first Never 0 0 false }
+shown-first = record { answer = S.Shown; starts = array 8 starting (starting ∷ []); count = 1; node = first None 0 0 false }
 
 pub shows_first : HearsMap (new 1) map 0 shown-first
 unfolding opened fill well_formed_lent counted table_counted lent_node formed_node slots_fit view_starts slotted slots_after free_from
@@ -210,32 +210,32 @@ shows_second = record {
 -- ---- calls on a header alone
 
 abbrev pub granted : NodeGranted
-granted = record { answer = G.Granted; node = first (At 100) 0 0 false }
+granted = record { answer = G.Granted; node = first (Some 100) 0 0 false }
 
-pub grants : GrantsNode (first Never 0 0 false) 4 0 100 granted
+pub grants : GrantsNode (first None 0 0 false) 4 0 100 granted
 unfolding opened fill lent_node slots_fit counts_fit
 grants = λ s. rw (s.long 0 0) refl
 
 -- the reply to the first alignment counts
 abbrev pub aligned : NodeAcked
-aligned = record { answer = A.Noted; node = first (At 100) 1 0 true }
+aligned = record { answer = A.Noted; node = first (Some 100) 1 0 true }
 
-pub aligns : HearsReply (first (At 100) 1 0 false) run.key 1 2 sent.Align (message.encode_reply (message.reply_adopted 0)) aligned
+pub aligns : HearsReply (first (Some 100) 1 0 false) run.key 1 2 sent.Align (message.encode_reply (message.reply_adopted 0)) aligned
 unfolding opened fill lent_node slots_fit counts_fit
 aligns = λ s. rw (s.long 0 1) refl
 
 -- the reply to the entry counts
 abbrev pub acked : NodeAcked
-acked = record { answer = A.Noted; node = first (At 100) 1 1 true }
+acked = record { answer = A.Noted; node = first (Some 100) 1 1 true }
 
-pub acks : HearsReply (first (At 100) 1 0 true) run.key 1 2 sent.Replicate (message.encode_reply (message.reply_stored 1)) acked
+pub acks : HearsReply (first (Some 100) 1 0 true) run.key 1 2 sent.Replicate (message.encode_reply (message.reply_stored 1)) acked
 unfolding opened fill lent_node slots_fit counts_fit
 acks = λ s. rw (s.long 0 1) refl
 
 abbrev pub waited : NodeWaited
-waited = record { answer = W.Done; shrink = record { items = array 32 (node 0) []; count = 0 }; node = first (At 100) 1 1 true }
+waited = record { answer = W.Done; shrink = record { items = array 32 (node 0) []; count = 0 }; node = first (Some 100) 1 1 true }
 
-pub waits : WaitsNode (first (At 100) 1 1 true) run.key 1 1 6 10 waited
+pub waits : WaitsNode (first (Some 100) 1 1 true) run.key 1 1 6 10 waited
 unfolding opened fill lent_node slots_fit counts_fit
 waits = λ s. rw (s.long 0 1) refl
 
@@ -273,12 +273,12 @@ read_first l p = record {
 abbrev read-second : (epoch : ℕ) → Log → held.Node
 read-second epoch l = record { id = 2; incarnation = 4; expiry = none; version = 3; held = read_held epoch l Backup false [] ∷ [] }
 
-first-empty : (s : Stores) → view_node s (first (At 100) 0 0 false) ≡ read_first [] (row 0 false)
+first-empty : (s : Stores) → view_node s (first (Some 100) 0 0 false) ≡ read_first [] (row 0 false)
 unfolding fill
 first-empty s = rw (nil (s.log 0 0) (s.long 0 0), s.bare 0) refl
 
 first_one : (s : Stores) (aligned : Bool) → s.log 0 1 ≡ run.entry 1 1 41 ∷ [] → s.vectors 0 1 0 ≡ []
-    → view_node s (first (At 100) 1 0 aligned) ≡ read_first (run.entry 1 1 41 ∷ []) (row 0 aligned)
+    → view_node s (first (Some 100) 1 0 aligned) ≡ read_first (run.entry 1 1 41 ∷ []) (row 0 aligned)
 unfolding fill
 first_one s aligned l v = rw (l, v) refl
 
@@ -291,11 +291,11 @@ unfolding fill
 second-one s l v = rw (l, v) refl
 
 -- each header and its store pass the test
-first_empty_lent : (s : Stores) → lent_for s (first (At 100) 0 0 false) before run.key ≡ true
+first_empty_lent : (s : Stores) → lent_for s (first (Some 100) 0 0 false) before run.key ≡ true
 unfolding opened fill lent_for lent_node slots_fit counts_fit lent_at held_row_store lent_fits sized well_formed_store every_below same_rows log_of firsts rows_of zipped play_rows play_rows_from
 first_empty_lent s = rw (s.long 0 0) refl
 
-first_one_lent : (s : Stores) (aligned : Bool) → lent_for s (first (At 100) 1 0 aligned) after run.key ≡ true
+first_one_lent : (s : Stores) (aligned : Bool) → lent_for s (first (Some 100) 1 0 aligned) after run.key ≡ true
 unfolding opened fill lent_for lent_node slots_fit counts_fit lent_at held_row_store lent_fits sized well_formed_store every_below same_rows log_of firsts entry_of op_of rows_of zipped row_op play_rows play_rows_from
 first_one_lent s aligned = rw (s.long 0 1) refl
 
@@ -308,7 +308,7 @@ unfolding opened fill lent_for lent_node slots_fit counts_fit lent_at held_row_s
 second_one_lent s = rw (s.long 0 1) refl
 
 -- the slots stay as they are, and the stores are whole
-first-slots : slots_fit (used (first (At 100) 1 0 false)) ≡ true
+first-slots : slots_fit (used (first (Some 100) 1 0 false)) ≡ true
 unfolding opened fill slots_fit
 first-slots = refl
 
@@ -324,42 +324,42 @@ one-fits : lent_fits (store_of after (get_or (second 1 1).held 0 no_held_row)) �
 unfolding opened fill lent_fits sized well_formed_store every_below same_rows log_of firsts entry_of op_of rows_of zipped row_op play_rows play_rows_from
 one-fits = refl
 
-first_fits : lent_fits (store_of after (get_or (first (At 100) 1 0 false).held 0 no_held_row)) ≡ true
+first_fits : lent_fits (store_of after (get_or (first (Some 100) 1 0 false).held 0 no_held_row)) ≡ true
 unfolding opened fill lent_fits sized well_formed_store every_below same_rows log_of firsts entry_of op_of rows_of zipped row_op play_rows play_rows_from
 first_fits = refl
 
 -- ---- the Write
 
-write-slot : (slot : ℕ) → WriteSlot (first (At 100) 0 0 false) bytes slot → slot ≡ 0
+write-slot : (slot : ℕ) → WriteSlot (first (Some 100) 0 0 false) bytes slot → slot ≡ 0
 unfolding opened fill slot_of
 write-slot slot w = w (record { key = run.key; epoch = 1; op = wire_delete 41 }) refl
 
 write-taken : (s : Stores)
     → record { answer = accepted; node = read_first (run.entry 1 1 41 ∷ []) (row 0 false) }
-    ≡ answered_as write_word (calls.write_with (lent_for s (first (At 100) 0 0 false) before) (read_first [] (row 0 false)) 5 1 bytes)
+    ≡ answered_as write_word (calls.write_with (lent_for s (first (Some 100) 0 0 false) before) (read_first [] (row 0 false)) 5 1 bytes)
 unfolding opened
 write-taken s = rw (first_empty_lent s) refl
 
-write_same : SameWrite (first (At 100) 0 0 false) before after 5 1 bytes accepted (first (At 100) 1 0 false)
+write_same : SameWrite (first (Some 100) 0 0 false) before after 5 1 bytes accepted (first (Some 100) 1 0 false)
 write_same = λ s t slot w c.
     let z = write-slot slot w in
     ap (λ (x : held.Node). record { answer = accepted; node = x }) (first_one t false (log-one t slot z c.after) (vectors-one t slot z c.after))
     ∙ write-taken s
-    ∙ ap (λ (x : held.Node). answered_as write_word (calls.write_with (lent_for s (first (At 100) 0 0 false) before) x 5 1 bytes)) (sym (first-empty s))
+    ∙ ap (λ (x : held.Node). answered_as write_word (calls.write_with (lent_for s (first (Some 100) 0 0 false) before) x 5 1 bytes)) (sym (first-empty s))
 
 abbrev pub wrote : WriteAnswer
-wrote = record { answer = accepted; node = first (At 100) 1 0 false; refused = 0 }
+wrote = record { answer = accepted; node = first (Some 100) 1 0 false; refused = 0 }
 
-write-key : Whole (first (At 100) 0 0 false) (first (At 100) 1 0 false) after run.key
+write-key : Whole (first (Some 100) 0 0 false) (first (Some 100) 1 0 false) after run.key
 unfolding opened fill
 write-key e = (fits-sized _ first_fits, fits-well _ first_fits)
 
-write-whole : (k : Key) → WriteNames bytes k → Whole (first (At 100) 0 0 false) (first (At 100) 1 0 false) after k
+write-whole : (k : Key) → WriteNames bytes k → Whole (first (Some 100) 0 0 false) (first (Some 100) 1 0 false) after k
 unfolding opened
 write-whole k named =
-    subst (Whole (first (At 100) 0 0 false) (first (At 100) 1 0 false) after) (sym (named (record { key = run.key; epoch = 1; op = wire_delete 41 }) refl)) write-key
+    subst (Whole (first (Some 100) 0 0 false) (first (Some 100) 1 0 false) after) (sym (named (record { key = run.key; epoch = 1; op = wire_delete 41 }) refl)) write-key
 
-pub writes : WritesAt (first (At 100) 0 0 false) before after 5 1 bytes 0 wrote
+pub writes : WritesAt (first (Some 100) 0 0 false) before after 5 1 bytes 0 wrote
 unfolding refused.counted
 writes = record {
   same = write_same;
@@ -388,31 +388,31 @@ lone = record { key = run.key; epoch = 1; offset = 1; op = wire_delete 41 }
 abbrev pub entry_bytes : List ℕ
 entry_bytes = message.encode_replicate lone
 
-pub first_slot : (aligned : Bool) → slot_of (first (At 100) 1 0 aligned) run.key ≡ 0
+pub first_slot : (aligned : Bool) → slot_of (first (Some 100) 1 0 aligned) run.key ≡ 0
 unfolding opened fill slot_of
 first_slot aligned = refl
 
-pub align_asked : (s : Stores) → calls.request_with (lent_for s (first (At 100) 1 0 false) after) (read_first (run.entry 1 1 41 ∷ []) (row 0 false)) (length output) run.key 1 2 Euclidean
+pub align_asked : (s : Stores) → calls.request_with (lent_for s (first (Some 100) 1 0 false) after) (read_first (run.entry 1 1 41 ∷ []) (row 0 false)) (length output) run.key 1 2 Euclidean
     ≡ calls.written align_bytes
 unfolding opened fill
 align_asked s = rw (first_one_lent s false) refl
 
-pub entry-asked : (s : Stores) → calls.request_with (lent_for s (first (At 100) 1 0 true) after) (read_first (run.entry 1 1 41 ∷ []) (row 0 true)) (length output) run.key 1 2 Euclidean
+pub entry-asked : (s : Stores) → calls.request_with (lent_for s (first (Some 100) 1 0 true) after) (read_first (run.entry 1 1 41 ∷ []) (row 0 true)) (length output) run.key 1 2 Euclidean
     ≡ calls.written entry_bytes
 unfolding opened fill
 entry-asked s = rw (first_one_lent s true) refl
 
 module _ (aligned : Bool) (sends : List ℕ)
-    (asked : (s : Stores) → calls.request_with (lent_for s (first (At 100) 1 0 aligned) after) (read_first (run.entry 1 1 41 ∷ []) (row 0 aligned)) (length output) run.key 1 2 Euclidean
+    (asked : (s : Stores) → calls.request_with (lent_for s (first (Some 100) 1 0 aligned) after) (read_first (run.entry 1 1 41 ∷ []) (row 0 aligned)) (length output) run.key 1 2 Euclidean
     ≡ calls.written sends) where
-  pub requests : Requests (first (At 100) 1 0 aligned) after run.key 1 2 Euclidean output (left_of (calls.written sends) output) (Q.Written (length sends))
+  pub requests : Requests (first (Some 100) 1 0 aligned) after run.key 1 2 Euclidean output (left_of (calls.written sends) output) (Q.Written (length sends))
   requests = record { answer = λ s c. ap answer_of (sym (said s c)); bytes = λ s c. ap (λ (a : calls.RequestAnswer). left_of a output) (sym (said s c)) }
     where
-      said : (s : Stores) → Lends s (slot_of (first (At 100) 1 0 aligned) run.key) after
-          → calls.request_with (lent_for s (first (At 100) 1 0 aligned) after) (view_node s (first (At 100) 1 0 aligned)) (length output) run.key 1 2 Euclidean ≡ calls.written sends
+      said : (s : Stores) → Lends s (slot_of (first (Some 100) 1 0 aligned) run.key) after
+          → calls.request_with (lent_for s (first (Some 100) 1 0 aligned) after) (view_node s (first (Some 100) 1 0 aligned)) (length output) run.key 1 2 Euclidean ≡ calls.written sends
       said s c =
           let z = first_slot aligned in
-          ap (λ (x : held.Node). calls.request_with (lent_for s (first (At 100) 1 0 aligned) after) x (length output) run.key 1 2 Euclidean)
+          ap (λ (x : held.Node). calls.request_with (lent_for s (first (Some 100) 1 0 aligned) after) x (length output) run.key 1 2 Euclidean)
           (first_one s aligned (log-one s _ z c) (vectors-one s _ z c)) ∙ asked s
 
 -- ---- what node 2 hears

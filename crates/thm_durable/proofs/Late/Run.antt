@@ -30,7 +30,7 @@ use Rattle.spec_run.proofs.Cases.Opened.{opened}
 use Rattle.spec_run.proofs.Cases.Start as run
 use Rattle.node_shard.specs.declared.AckAnswer.TheVariants as A
 use Rattle.node_shard.specs.declared.WaitAnswer.TheVariants as W
-use Rattle.node_admit.specs.declared.Expiry.TheVariants.{Never, At}
+use Rattle.std.specs.Prelude.{None, Some}
 use Rattle.log_store.specs.View.{firsts, op_of, entry_of, log_of}
 use Rattle.node_header.specs.declared.Node.{Node}
 use Rattle.node_lent.specs.Lend.{slot_of}
@@ -52,7 +52,7 @@ use Rattle.thm_durable.proofs.Late.Calls.{map, copies, first, second, tested, is
 
 nodes : ℕ → Node
 nodes zero = new 0
-nodes (suc zero) = first Never 0 0 false
+nodes (suc zero) = first None 0 0 false
 nodes (suc (suc zero)) = second 0 0
 nodes (suc (suc (suc n))) = new 0
 
@@ -136,10 +136,10 @@ reply s r = record { node = 1; peer = 2; sent = s; key = run.key; epoch = 1; byt
 -- ---- the engines after each call
 
 leased : Engine
-leased = with_node begun 1 (first (At 100) 0 0 false)
+leased = with_node begun 1 (first (Some 100) 0 0 false)
 
 written : Engine
-written = host (with_store leased 1 (first (At 100) 1 0 false) 0 after) (λ s. write_said s 1 (message.decode_write bytes) accepted)
+written = host (with_store leased 1 (first (Some 100) 1 0 false) 0 after) (λ s. write_said s 1 (message.decode_write bytes) accepted)
 
 asked : Engine
 asked = host written (λ s. request_said s 1 run.key 1 2 (Q.Written (length align_bytes)) (left_of (calls.written align_bytes) output))
@@ -155,7 +155,7 @@ met = host (with_store doubled 2 (second 1 0) 0 before) (λ s. peer_said (taken 
 
 counted : Engine
 counted =
-    host (with_node met 1 (first (At 100) 1 0 true))
+    host (with_node met 1 (first (Some 100) 1 0 true))
     (λ s. ack_said (set_replies s (removed s.replies 0)) (reply ack.sent_align (message.reply_adopted 0)) A.Noted)
 
 sent : Engine
@@ -170,11 +170,11 @@ late = host (with_store held 2 (second 1 1) 0 after) (λ s. peer_said (taken 0 s
 
 known : Engine
 known =
-    host (with_node late 1 (first (At 100) 1 1 true))
+    host (with_node late 1 (first (Some 100) 1 1 true))
     (λ s. ack_said (set_replies s (removed s.replies 0)) (reply ack.sent_replicate (message.reply_stored 1)) A.Noted)
 
 pub last : Engine
-last = host (with_node known 1 (first (At 100) 1 1 true)) (λ s. wait_said s (run.wrote 1 1 1 41) W.Done [])
+last = host (with_node known 1 (first (Some 100) 1 1 true)) (λ s. wait_said s (run.wrote 1 1 1 41) W.Done [])
 
 -- ---- each is what its call leaves
 
@@ -182,9 +182,9 @@ on-grant : Called begun (lease_granted 1 4 0 100) leased
 unfolding Called begun nodes leased
 on-grant = (granted, grants, refl)
 
-write-slot : WriteSlot (first (At 100) 0 0 false) bytes 0
+write-slot : WriteSlot (first (Some 100) 0 0 false) bytes 0
 unfolding opened fill slot_of
-write-slot v e = ap (λ (k : Key). slot_of (first (At 100) 0 0 false) k) (ap (λ (m : message.Write). m.key) (some_same e))
+write-slot v e = ap (λ (k : Key). slot_of (first (Some 100) 0 0 false) k) (ap (λ (m : message.Write). m.key) (some_same e))
 
 on-write : Called leased (client_writes 1 5 1 bytes) written
 unfolding Called opened with_node begun leased written

@@ -6,6 +6,6 @@ pub returns-then-code-eq40 : goal.returns-then-code-eq40
 unfolding ◌or◌
 returns-then-code-eq40 c = rw c.if-code-eq40.true
 
-pub returns : goal.returns
+pub returns-else-code-eq40 : goal.returns-else-code-eq40
 unfolding ◌or◌
-returns c = rw (ne_eqb _ _ c.if-code-eq40.false)
+returns-else-code-eq40 c = rw (ne_eqb _ _ c.if-code-eq40.false)

@@ -7,7 +7,3 @@ use Rattle.wire_shape.proofs.skip_entries_n.Given as goal
 abbrev pub invariant-loop-i : goal.invariant-loop-i
 invariant-loop-i l =
     (l.i ≤ l.n) × (skip_n entry_f l.s l.n l.at ≡ skip_n entry_f l.s (l.n - l.i) l.p)
-
-abbrev pub decreases-loop-i : goal.decreases-loop-i
-decreases-loop-i l =
-    l.n - l.i

@@ -8,7 +8,3 @@ use Rattle.wire_shape.proofs.skip_lists_n.Given as goal
 abbrev pub invariant-loop-i : goal.invariant-loop-i
 invariant-loop-i l =
     (l.i ≤ l.n) × (skip_n (many 1 0 8 u64) l.s l.n l.at ≡ skip_n (many 1 0 8 u64) l.s (l.n - l.i) l.p)
-
-abbrev pub decreases-loop-i : goal.decreases-loop-i
-decreases-loop-i l =
-    l.n - l.i

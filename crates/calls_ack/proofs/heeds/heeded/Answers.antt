@@ -25,8 +25,8 @@ returns-in_default c =
 
 pub returns-then-bad : goal.returns-then-bad
 returns-then-bad c =
-    heeds_none c.args.name.now c.args.step c.args.reply.now (sym (ack_step c.args.name.now c.args.step c.args.reply.now (ap not ((sym c.text_fits.ensures) ∙ c.if-not-text_fits.false)) (le-ltb _ _ c.if-step-lt2.false) (le-ltb _ _ c.if-step-gt4.false)) ∙ sym (reply_some (decode_reply c.args.reply.now) _ (sym c.reply_of-h.ensures ∙ c.in-Reply.is)) ∙ sym c.bad.ensures ∙ c.if-bad.true)
+    heeds_none c.args.name.now c.args.step c.args.reply.now (sym (ack_step c.args.name.now c.args.step c.args.reply.now (ap not ((sym c.text_fits.ensures) ∙ c.if-not-text_fits.false)) (le-ltb _ _ c.if-step-lt2.false) (le-ltb _ _ c.if-step-gt4.false)) ∙ sym (reply_some (decode_reply c.args.reply.now) _ (sym c.reply_of-h.ensures ∙ c.in-Some.is)) ∙ sym c.bad.ensures ∙ c.if-bad.true)
 
 pub returns : goal.returns
 returns c =
-    heeds_some c.args.name.now c.args.step c.args.reply.now _ (sym (ack_step c.args.name.now c.args.step c.args.reply.now (ap not ((sym c.text_fits.ensures) ∙ c.if-not-text_fits.false)) (le-ltb _ _ c.if-step-lt2.false) (le-ltb _ _ c.if-step-gt4.false)) ∙ sym (reply_some (decode_reply c.args.reply.now) _ (sym c.reply_of-h.ensures ∙ c.in-Reply.is)) ∙ sym c.bad.ensures ∙ c.if-bad.false) (sym c.reply_of-h.ensures ∙ c.in-Reply.is) (sym c.bad.ensures ∙ c.if-bad.false)
+    heeds_some c.args.name.now c.args.step c.args.reply.now _ (sym (ack_step c.args.name.now c.args.step c.args.reply.now (ap not ((sym c.text_fits.ensures) ∙ c.if-not-text_fits.false)) (le-ltb _ _ c.if-step-lt2.false) (le-ltb _ _ c.if-step-gt4.false)) ∙ sym (reply_some (decode_reply c.args.reply.now) _ (sym c.reply_of-h.ensures ∙ c.in-Some.is)) ∙ sym c.bad.ensures ∙ c.if-bad.false) (sym c.reply_of-h.ensures ∙ c.in-Some.is) (sym c.bad.ensures ∙ c.if-bad.false)

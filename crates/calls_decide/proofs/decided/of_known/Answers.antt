@@ -2,7 +2,7 @@ use borrow.Author.Rules.{rules}
 use native.Mathlib.Omega.{arith}
 use mathlib.Core.Path.{◌∙◌, ap}
 use Rattle.map_tables.specs.View.{view_session}
-use Rattle.map_tables.specs.declared.Answer.TheVariants.{Done}
+use Rattle.std.specs.Prelude.{Ok}
 use Rattle.map_tables.specs.declared.SessionRow.{SessionRow}
 use Rattle.calls_decide.proofs.DecidedLaws.{decides_now, decides_told, keeps_as, older_keeps, equal_keeps, next-fresh}
 use Rattle.spec.specs.Map.Tables as tables
@@ -24,7 +24,7 @@ returns-then-r-row c =
 
 pub returns-then-r-row-2 : goal.returns-then-r-row-2
 returns-then-r-row-2 c =
-    let e = ap (λ (x : SessionRow). x.seq) c.session_at-row.ensures in let h = c.if-r-row-2.true in decides_told c.args.map.now c.args.r (record { answer = Done c.session_at-row.result.outcome; key = c.session_at-row.result.key }) (keeps_as c.args.map.now c.args.r _ _ (ap (λ (x : SessionRow). tables.outcome (view_session x).outcome) c.session_at-row.ensures) (equal_keeps c.args.map.now c.args.r c.args.place (c.requires) (h ∙ e)))
+    let e = ap (λ (x : SessionRow). x.seq) c.session_at-row.ensures in let h = c.if-r-row-2.true in decides_told c.args.map.now c.args.r (record { answer = Ok c.session_at-row.result.outcome; key = c.session_at-row.result.key }) (keeps_as c.args.map.now c.args.r _ _ (ap (λ (x : SessionRow). tables.outcome (view_session x).outcome) c.session_at-row.ensures) (equal_keeps c.args.map.now c.args.r c.args.place (c.requires) (h ∙ e)))
 
 pub own_answer-verdict-requires : goal.own_answer-verdict-requires
 own_answer-verdict-requires c =

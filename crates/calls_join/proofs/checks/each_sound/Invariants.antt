@@ -1,13 +1,10 @@
 use mathlib.Core.Path.{◌≡◌}
+use Prim.Native.Nat.{◌-◌}
 use Rattle.spec.specs.Lists.{every}
 use Rattle.spec_join.specs.Join.{sound_answer}
 use Rattle.calls_join.specs.View.{Stand, answers_at}
 use Rattle.calls_join.proofs.checks.each_sound.Given as goal
 
-abbrev pub invariant-loop-left : goal.invariant-loop-left
-invariant-loop-left l =
-    Stand l.s l.left l.p × (every sound_answer (answers_at l.s l.left l.p) ≡ every sound_answer (answers_at l.s l.n 0))
-
-abbrev pub decreases-loop-left : goal.decreases-loop-left
-decreases-loop-left l =
-    l.left
+abbrev pub invariant-loop : goal.invariant-loop
+invariant-loop l =
+    Stand l.s (l.n - l.counter) l.p × (every sound_answer (answers_at l.s (l.n - l.counter) l.p) ≡ every sound_answer (answers_at l.s l.n 0))

@@ -1,14 +1,9 @@
 use mathlib.Core.Path.{◌≡◌}
-use Prim.Native.Nat.{◌+◌, ◌*◌, ◌≤◌}
-use lib.ListN.{length}
+use Prim.Native.Nat.{◌+◌, ◌-◌, ◌*◌}
 use Rattle.calls_join.specs.View.{hits_at}
 use Rattle.calls_join.specs.Owners.{own_hits}
 use Rattle.calls_join.proofs.owners.owns.Given as goal
 
-abbrev pub invariant-loop-left : goal.invariant-loop-left
-invariant-loop-left l =
-    (l.q + 12 * l.left ≤ length l.s) × (own_hits l.shards l.shard (hits_at l.s l.left l.q) ≡ own_hits l.shards l.shard (hits_at l.s l.n l.p))
-
-abbrev pub decreases-loop-left : goal.decreases-loop-left
-decreases-loop-left l =
-    l.left
+abbrev pub invariant-loop-i : goal.invariant-loop-i
+invariant-loop-i l =
+    own_hits l.shards l.shard (hits_at l.s (l.n - l.i) (l.p + 12 * l.i)) ≡ own_hits l.shards l.shard (hits_at l.s l.n l.p)

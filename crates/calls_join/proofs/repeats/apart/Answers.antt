@@ -11,24 +11,6 @@ pub loop-i-init : goal.loop-i-init
 loop-i-init c =
     (omega arith, length-replicate {A = ℕ} 2048 0, length-replicate {A = ℕ} 1024 0, kept-none _ _ _ _ (zeros 2048))
 
-pub overflow_mul-i : goal.overflow_mul-i
-overflow_mul-i c = let q = c.requires.0 in omega arith
-
-pub overflow_add-p : goal.overflow_add-p
-overflow_add-p c = let q = c.requires.0 in omega arith
-
-pub get8-id-requires : goal.get8-id-requires
-get8-id-requires c =
-    let q = c.requires.0 in
-    let t = c.loop-i-test.true in omega arith
-
-pub overflow_cast-c : goal.overflow_cast-c
-overflow_cast-c c =
-    let loop = c.loop-i in
-    let b = loop.invariant.3.below (c.get8-id.result % 2048) in
-    let h = loop.invariant.0 in
-    let q = c.requires.1 in omega arith
-
 pub listed-requires : goal.listed-requires
 listed-requires c =
     let pre = c.requires in
@@ -46,11 +28,6 @@ returns-then-listed c =
     let get8 = c.get8-id in
     let s = args.s.now in
     let l = subst (Listed s args.p loop.next loop.i (get_or loop.last (get8.result % 2048) 0) get8.result) c.if-listed.true c.listed.ensures in sym (apart_not s args.p args.n loop.i l.0 c.loop-i-test.true l.1.0 (l.1.1 ∙ get8.ensures))
-
-pub overflow_cast-last : goal.overflow_cast-last
-overflow_cast-last c =
-    let t = c.loop-i-test.true in
-    let r = c.requires.1 in omega arith
 
 pub loop-i-preserved : goal.loop-i-preserved
 loop-i-preserved c =

@@ -1,5 +1,5 @@
 use mathlib.Core.Path.{◌≡◌}
-use Prim.Native.Nat.{◌-◌, ◌≤◌}
+use Prim.Native.Nat.{◌≤◌}
 use lib.ListN.{length}
 use Rattle.calls_join.proofs.Buckets.{Kept}
 use Rattle.calls_join.proofs.repeats.apart.Given as goal
@@ -7,7 +7,3 @@ use Rattle.calls_join.proofs.repeats.apart.Given as goal
 abbrev pub invariant-loop-i : goal.invariant-loop-i
 invariant-loop-i l =
     (l.i ≤ l.n) × (length l.last ≡ 2048) × (length l.next ≡ 1024) × Kept l.s l.p l.last l.next l.i
-
-abbrev pub decreases-loop-i : goal.decreases-loop-i
-decreases-loop-i l =
-    l.n - l.i

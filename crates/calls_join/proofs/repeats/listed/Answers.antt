@@ -7,25 +7,6 @@ use Rattle.calls_join.proofs.repeats.listed.Goals as goal
 pub loop-c-init : goal.loop-c-init
 loop-c-init c = (c.requires.2, λ i r e. r)
 
-pub overflow_sub-c : goal.overflow_sub-c
-overflow_sub-c c = let l = c.loop-c-test.true in omega arith
-
-pub overflow_mul-c : goal.overflow_mul-c
-overflow_mul-c c =
-    let l = c.loop-c.invariant.0 in
-    let q = c.requires.0 in omega arith
-
-pub overflow_add-p : goal.overflow_add-p
-overflow_add-p c =
-    let l = c.loop-c.invariant.0 in
-    let q = c.requires.0 in omega arith
-
-pub get8-requires : goal.get8-requires
-get8-requires c =
-    let l = c.loop-c.invariant.0 in
-    let q = c.requires.0 in
-    let t = c.loop-c-test.true in omega arith
-
 pub returns-then-get8-id : goal.returns-then-get8-id
 returns-then-get8-id c =
     let loop = c.loop-c in (
@@ -37,29 +18,8 @@ returns-then-get8-id c =
       ),
     )
 
-pub overflow_sub-c-in-loop-c : goal.overflow_sub-c-in-loop-c
-overflow_sub-c-in-loop-c c = let l = c.loop-c-test.true in omega arith
-
-pub offset_bounds-next-c : goal.offset_bounds-next-c
-offset_bounds-next-c c =
-    let l = c.loop-c.invariant.0 in
-    let q = c.requires.1 in omega arith
-
-pub bounds-next-c : goal.bounds-next-c
-bounds-next-c c =
-    let l = c.loop-c.invariant.0 in
-    let q = c.requires.1 in
-    let t = c.loop-c-test.true in omega arith
-
 pub overflow_cast-c : goal.overflow_cast-c
 overflow_cast-c c = omega (arith, c.type_inv.next (c.loop-c.c - 1))
-
-pub loop-c-smaller : goal.loop-c-smaller
-loop-c-smaller c =
-    let loop = c.loop-c in
-    let l = loop.invariant.0 in
-    let t = c.loop-c-test.true in
-    let f = c.requires.3 (loop.c - 1) (omega arith) in omega arith
 
 pub loop-c-preserved : goal.loop-c-preserved
 loop-c-preserved c =

@@ -1,5 +1,5 @@
 use mathlib.Core.Path.{◌≡◌}
-use Prim.Native.Nat.{◌+◌, ◌-◌, ◌*◌, ◌≤◌}
+use Prim.Native.Nat.{◌+◌, ◌*◌, ◌≤◌}
 use lib.ListN.{length, take, drop}
 use lib.Seq.{sets}
 use Rattle.spec.specs.Layout.Format.{concat_map}
@@ -12,7 +12,3 @@ invariant-loop-i l =
     × (l.n ≤ 8)
     × (length l.out ≡ length l.initial.out)
     × (sets l.out (l.at + 8 * l.i) (concat_map id_bytes (drop l.i (take l.l.count l.l.nodes))) ≡ sets l.initial.out l.at (concat_map id_bytes (take l.l.count l.l.nodes)))
-
-abbrev pub decreases-loop-i : goal.decreases-loop-i
-decreases-loop-i l =
-    l.n - l.i

@@ -1,4 +1,3 @@
-use borrow.Author.Rules.{rules}
 use Rattle.calls_position.specs.Calls.{fields_bytes}
 use Rattle.calls_position.proofs.stored.put_fields.Goals as goal
 

@@ -9,8 +9,4 @@ use Rattle.calls_search.proofs.hits.put_hits.Given as goal
 
 abbrev pub invariant-loop-i : goal.invariant-loop-i
 invariant-loop-i l =
-    (l.i ≤ l.h.count) × (length l.hits ≡ length l.initial.hits) × (l.hits ≡ sets l.initial.hits 0 (hits_bytes (map id_of l.h.items) (map distance_of l.h.items) l.i))
-
-abbrev pub decreases-loop-i : goal.decreases-loop-i
-decreases-loop-i l =
-    l.h.count - l.i
+    (length l.hits ≡ length l.initial.hits) × (l.hits ≡ sets l.initial.hits 0 (hits_bytes (map id_of l.h.items) (map distance_of l.h.items) l.i))

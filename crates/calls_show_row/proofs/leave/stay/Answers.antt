@@ -12,17 +12,18 @@ pub retain-requires : goal.retain-requires
 retain-requires c =
     let p = c.requires.peers in let e = c.get8-was.ensures in (c.requires.room, omega arith, c.requires.sized.held)
 
-pub grow-n-requires : goal.grow-n-requires
-grow-n-requires c =
+pub grow-requires : goal.grow-requires
+grow-requires c =
     let p = c.requires.peers in let e = c.get8-was.ensures in let r = c.requires.room in let k = c.retain.auto.out in (omega arith, omega arith, c.requires.sized.held, omega arith)
 
-pub returns-then-n-gt32 : goal.returns-then-n-gt32
-returns-then-n-gt32 c =
-    let a = c.args in stay_over a.out.now _ _ a.at a.me a.row c.get8-was.result c.grow-n.result c.get8-was.ensures c.retain.ensures c.grow-n.ensures c.if-n-gt32.true
+pub returns-in_err-n : goal.returns-in_err-n
+returns-in_err-n c =
+    let a = c.args in rw c.from_residual.ensures (stay_over a.out.now _ _ a.at a.me a.row c.get8-was.result 33 c.get8-was.ensures c.retain.ensures c.in_err-n.ensures (omega arith))
 
 pub set_count-requires : goal.set_count-requires
-set_count-requires c = let l = c.grow-n.auto.out in let k = c.retain.auto.out in let r = c.requires.room in omega arith
+set_count-requires c = let l = c.grow.auto.out in let k = c.retain.auto.out in let r = c.requires.room in omega arith
 
 pub returns : goal.returns
 returns c =
-    let a = c.args in let p = c.requires.peers in let e = c.get8-was.ensures in stay_fits a.out.now _ _ a.at a.me a.row c.get8-was.result c.grow-n.result c.get8-was.ensures c.retain.ensures c.grow-n.ensures _ c.if-n-gt32.false (omega arith) c.set_count.ensures
+    let a = c.args in let p = c.requires.peers in let e = c.get8-was.ensures in
+    (omega arith, stay_fits a.out.now _ _ a.at a.me a.row c.get8-was.result c.in_ok-n.n c.get8-was.ensures c.retain.ensures c.in_ok-n.ensures.1 _ c.in_ok-n.ensures.0 (omega arith) c.set_count.ensures)

@@ -1,5 +1,5 @@
 use mathlib.Core.Path.{◌≡◌}
-use Prim.Native.Nat.{◌+◌, ◌-◌, ◌≤◌}
+use Prim.Native.Nat.{◌+◌, ◌≤◌}
 use lib.ListN.{length, take, drop}
 use Rattle.spec.specs.Lists.{collect}
 use Rattle.spec.specs.Node.Client.{node_of}
@@ -9,8 +9,4 @@ use Rattle.calls_show_row.proofs.news.count_new.Given as goal
 
 abbrev pub invariant-loop-i : goal.invariant-loop-i
 invariant-loop-i l =
-    (l.i ≤ l.count) × (l.n ≤ l.i) × (l.n + length (collect (is_new (take l.was (peers_at l.s l.at))) node_of (drop l.i (take l.count (peers_at l.t l.to)))) ≡ length (collect (is_new (take l.was (peers_at l.s l.at))) node_of (take l.count (peers_at l.t l.to))))
-
-abbrev pub decreases-loop-i : goal.decreases-loop-i
-decreases-loop-i l =
-    l.count - l.i
+    (l.n ≤ l.i) × (l.n + length (collect (is_new (take l.was (peers_at l.s l.at))) node_of (drop l.i (take l.count (peers_at l.t l.to)))) ≡ length (collect (is_new (take l.was (peers_at l.s l.at))) node_of (take l.count (peers_at l.t l.to))))

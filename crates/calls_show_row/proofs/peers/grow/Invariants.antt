@@ -1,5 +1,5 @@
 use mathlib.Core.Path.{◌≡◌}
-use Prim.Native.Nat.{◌-◌, ◌≤◌}
+use Prim.Native.Nat.{◌≤◌}
 use lib.ListN.{length, take, drop}
 use Rattle.spec.specs.Node.Shown.{with_rows}
 use Rattle.calls_show_row.specs.Peers.{peers_in}
@@ -8,8 +8,4 @@ use Rattle.calls_show_row.proofs.peers.grow.Given as goal
 
 abbrev pub invariant-loop-i : goal.invariant-loop-i
 invariant-loop-i l =
-    (l.i ≤ l.holders) × (l.n ≤ 32) × Only l.initial.out l.out l.row × (with_rows l.me (take l.synced l.insync) (drop l.i (take l.holders l.replicas)) (take l.n (peers_in l.out l.row)) ≡ with_rows l.me (take l.synced l.insync) (take l.holders l.replicas) (take l.initial.n (peers_in l.initial.out l.row))) × (l.holders ≤ length l.replicas)
-
-abbrev pub decreases-loop-i : goal.decreases-loop-i
-decreases-loop-i l =
-    l.holders - l.i
+    (l.n ≤ 32) × Only l.initial.out l.out l.row × (with_rows l.me (take l.synced l.insync) (drop l.i (take l.holders l.replicas)) (take l.n (peers_in l.out l.row)) ≡ with_rows l.me (take l.synced l.insync) (take l.holders l.replicas) (take l.initial.n (peers_in l.initial.out l.row))) × (l.holders ≤ length l.replicas)

@@ -1,5 +1,5 @@
 use mathlib.Core.Path.{◌≡◌}
-use Prim.Native.Nat.{◌+◌, ◌-◌, ◌≤◌}
+use Prim.Native.Nat.{◌+◌}
 use lib.ListN.{take, drop}
 use Rattle.spec.specs.Lists.{lead}
 use Rattle.node_shard.specs.View.{below}
@@ -8,8 +8,4 @@ use Rattle.calls_show_row.proofs.peers.place_for.Given as goal
 
 abbrev pub invariant-loop-i : goal.invariant-loop-i
 invariant-loop-i l =
-    (l.i ≤ l.count) × (lead (below l.node) (take l.count (peers_at l.s l.at)) ≡ l.i + lead (below l.node) (drop l.i (take l.count (peers_at l.s l.at))))
-
-abbrev pub decreases-loop-i : goal.decreases-loop-i
-decreases-loop-i l =
-    l.count - l.i
+    lead (below l.node) (take l.count (peers_at l.s l.at)) ≡ l.i + lead (below l.node) (drop l.i (take l.count (peers_at l.s l.at)))

@@ -29,12 +29,6 @@ pub set_peer-requires : goal.set_peer-requires
 set_peer-requires c =
     let l = c.loop-i.invariant.1.0.outside.long in let r = c.requires.0 in let t = c.loop-i-test.true in let k = c.requires.1 in (omega arith, omega arith)
 
-pub overflow_add-i : goal.overflow_add-i
-overflow_add-i c = let t = c.loop-i-test.true in let k = c.requires.1 in omega arith
-
-pub loop-i-smaller : goal.loop-i-smaller
-loop-i-smaller c = let t = c.loop-i-test.true in omega arith
-
 pub loop-i-preserved : goal.loop-i-preserved
 loop-i-preserved c =
     let a = c.args in let l = c.loop-i in let t = c.loop-i-test.true in let k = c.requires.1 in

@@ -1,4 +1,4 @@
-use Prim.Native.Nat.{◌-◌, ◌≤◌}
+use Prim.Native.Nat.{◌≤◌}
 use lib.ListN.{take}
 use Rattle.spec.specs.Node.Shown.{retained}
 use Rattle.calls_show_row.proofs.PeerLaws.{Changed}
@@ -7,7 +7,3 @@ use Rattle.calls_show_row.proofs.peers.retain.Given as goal
 abbrev pub invariant-loop-i : goal.invariant-loop-i
 invariant-loop-i l =
     (l.i ≤ l.count) × Changed l.initial.out l.row (retained (take l.holders l.replicas)) l.out l.i
-
-abbrev pub decreases-loop-i : goal.decreases-loop-i
-decreases-loop-i l =
-    l.count - l.i

@@ -8,11 +8,11 @@ use Rattle.calls_show_walk.proofs.row.keep_row.Goals as goal
 
 pub returns-then-held-at : goal.returns-then-held-at
 returns-then-held-at c =
-    let a = c.args in λ t lacks p. skipped (node_at a.header.now) t a.row (in_array a.header.now a.held c.requires.0) a.at c.requires.2 lacks (place_out a.header.now a.held c.requires.0 a.at c.if-held-at.true) _ p a.count a.many
+    let a = c.args in λ t lacks p. skipped (node_at a.header.now) t a.row (in_array a.header.now a.held c.requires.0) a.at c.requires.2 lacks (place_out a.header.now a.held c.requires.0 a.at c.if-held-at.true) _ p
 
 pub returns-then-count-ge-HELD : goal.returns-then-count-ge-HELD
 returns-then-count-ge-HELD c =
-    let a = c.args in λ t lacks p. ninth_kept (node_at a.header.now) t a.row (in_array a.header.now a.held c.requires.0) a.at c.requires.2 lacks (place_in a.header.now a.held c.requires.0 a.at c.if-held-at.false) _ _ p p a.count a.many c.if-count-ge-HELD.true
+    let a = c.args in λ t lacks p. ninth_kept (node_at a.header.now) t a.row (in_array a.header.now a.held c.requires.0) a.at c.requires.2 lacks (place_in a.header.now a.held c.requires.0 a.at c.if-held-at.false) a.count c.if-count-ge-HELD.true
 
 pub refresh_row-requires : goal.refresh_row-requires
 refresh_row-requires c =

@@ -1,23 +1,36 @@
 use native.Mathlib.Omega.{arith}
-use mathlib.Core.Path.{refl, ◌∙◌}
-use borrow.Author.Tests.{eq-eqb, ne_eqb}
-use Rattle.spec_laws.proofs.Lists.{not_both}
+use mathlib.Core.Path.{sym, ◌∙◌}
+use borrow.Author.Tests.{ne_eqb}
+use Rattle.std.proofs.lemmas.Result.{err_from_is_err_and}
+use Rattle.image_header_row.specs.Rows.{held_row_at}
+use Rattle.calls_show_row.specs.Row.{Needs}
+use Rattle.calls_show_walk.proofs.Told.{told-some, told_none}
 use Rattle.calls_show_walk.proofs.row.show_put.Goals as goal
 
-pub returns-then-more-eq33 : goal.returns-then-more-eq33
-returns-then-more-eq33 c =
-    record { held = refl; over = λ f st. c.workers_of-more.ensures.full st c.args.metric ∙ eq-eqb _ 33 c.if-more-eq33.true; fits = λ f. not_both _ refl f }
+pub returns-in_err-more : goal.returns-in_err-more
+returns-in_err-more c =
+    let a = c.args in
+    let p = err_from_is_err_and c.from_residual.result c.from_residual.ensures.1 in
+    let n = told_none (Needs (held_row_at a.rows.now a.to) a.me a.row) _ _ _ c.workers_of.ensures (sym c.ok_or.ensures.value ∙ c.in_err-more.was) in
+    rw p.1 (λ st. n.full st a.metric)
 
 pub put_workers-requires : goal.put_workers-requires
 put_workers-requires c =
-    let n = c.workers_of-more.ensures in let no' = c.if-more-eq33.false in let most = n.most in let m = c.requires.1 in let l = c.requires.2 in
-    (c.requires.0, record { few = λ st m. n.full st m ∙ ne_eqb _ 33 no' }, record { low = omega arith; room = λ st. let e = n.start (omega (arith, no')) st c.args.metric in omega (arith, no') })
+    let a = c.args in
+    let t = told-some (Needs (held_row_at a.rows.now a.to) a.me a.row) _ _ _ c.workers_of.ensures (sym c.ok_or.ensures.value ∙ c.in_ok-more.was) in
+    let le = t.0 in let n = t.1 in let m = c.requires.1 in let l = c.requires.2 in
+    (c.requires.0, record { few = λ st m. n.full st m ∙ ne_eqb _ 33 (λ z. omega arith) }, record { low = omega arith; room = λ st. let e = n.start le st c.args.metric in omega arith })
 
 pub show_row-requires : goal.show_row-requires
 show_row-requires c =
-    let n = c.workers_of-more.ensures in (c.requires.0, record { few = λ st m. n.full st m ∙ ne_eqb _ 33 c.if-more-eq33.false })
+    let a = c.args in
+    let t = told-some (Needs (held_row_at a.rows.now a.to) a.me a.row) _ _ _ c.workers_of.ensures (sym c.ok_or.ensures.value ∙ c.in_ok-more.was) in
+    let le = t.0 in
+    (c.requires.0, record { few = λ st m. t.1.full st m ∙ ne_eqb _ 33 (λ z. omega arith) })
 
 pub returns : goal.returns
 returns c =
-    let n = c.workers_of-more.ensures in let no' = c.if-more-eq33.false in let most = n.most in
-    record { held = refl; over = λ f. not_both _ f refl; fits = λ f. record { few = record { few = λ st m. n.full st m ∙ ne_eqb _ 33 no' }; shows = c.show_row.ensures; stored = c.put_workers.ensures.stored; next = λ st. let e = n.start (omega (arith, no')) st c.args.metric in omega arith; most = c.put_workers.ensures.few } }
+    let a = c.args in
+    let t = told-some (Needs (held_row_at a.rows.now a.to) a.me a.row) _ _ _ c.workers_of.ensures (sym c.ok_or.ensures.value ∙ c.in_ok-more.was) in
+    let le = t.0 in let n = t.1 in
+    record { few = record { few = λ st m. n.full st m ∙ ne_eqb _ 33 (λ z. omega arith) }; shows = c.show_row.ensures; stored = c.put_workers.ensures.stored; next = λ st. let e = n.start le st c.args.metric in omega arith; most = c.put_workers.ensures.few }

@@ -7,24 +7,6 @@ use Rattle.image_header_form.proofs.FrontLaws.{stored_same}
 use Rattle.calls_wait.proofs.BackLaws.{put-waited, count_behind}
 use Rattle.calls_wait.proofs.back.put_waited.Goals as goal
 
-pub get8-id-requires : goal.get8-id-requires
-get8-id-requires c = let p = c.requires.0.0 in omega arith
-
-pub get8-incarnation-requires : goal.get8-incarnation-requires
-get8-incarnation-requires c = let p = c.requires.0.0 in omega arith
-
-pub get8-version-requires : goal.get8-version-requires
-get8-version-requires c = let p = c.requires.0.0 in omega arith
-
-pub get4-requires : goal.get4-requires
-get4-requires c = let p = c.requires.0.0 in omega arith
-
-pub get8-requires : goal.get8-requires
-get8-requires c = let p = c.requires.0.0 in omega arith
-
-pub put_head-requires : goal.put_head-requires
-put_head-requires c = c.requires.0.0
-
 pub rows_waited-requires : goal.rows_waited-requires
 rows_waited-requires c =
     let the-pre = c.requires in

@@ -2,14 +2,6 @@ use native.Mathlib.Omega.{arith}
 use Rattle.calls_wait.proofs.BackLaws.{row-waited}
 use Rattle.calls_wait.proofs.back.row_waited.Goals as goal
 
-pub peers_waited-requires : goal.peers_waited-requires
-peers_waited-requires c =
-    let the-pre = c.requires in
-    let p = the-pre.0 in
-    let q = the-pre.1 in
-    let k = c.front_tidied.auto.out in
-    let e = c.get8-n.ensures in (omega arith, omega arith)
-
 pub returns : goal.returns
 returns c =
     let a = c.args in

@@ -9,8 +9,4 @@ use Rattle.calls_wait.proofs.back.rows_waited.Given as goal
 
 abbrev pub invariant-loop-i : goal.invariant-loop-i
 invariant-loop-i l =
-    Done l.initial.out (rows_set l.initial.out l.count l.at (waited_held_row (held_row_at l.initial.out (48 + 1280 * l.at)) l.clock l.timeout)) l.out l.i × (l.i ≤ l.count) × (l.count ≤ 8) × (10288 ≤ length l.initial.out) × (l.at < l.count) × (number_at 8 l.initial.out (48 + 1280 * l.at + 88) ≤ 32)
-
-abbrev pub decreases-loop-i : goal.decreases-loop-i
-decreases-loop-i l =
-    l.count - l.i
+    Done l.initial.out (rows_set l.initial.out l.count l.at (waited_held_row (held_row_at l.initial.out (48 + 1280 * l.at)) l.clock l.timeout)) l.out l.i

@@ -9,7 +9,3 @@ use Rattle.calls_wait.proofs.ends.put_ids.Given as goal
 abbrev pub invariant-loop-i : goal.invariant-loop-i
 invariant-loop-i l =
     (l.i ≤ l.n) × (l.n ≤ 32) × (8 * l.n ≤ length l.initial.out) × (length l.out ≡ length l.initial.out) × (sets l.out (8 * l.i) (concat_map id_bytes (drop l.i (take l.count l.ids))) ≡ sets l.initial.out 0 (concat_map id_bytes (take l.count l.ids)))
-
-abbrev pub decreases-loop-i : goal.decreases-loop-i
-decreases-loop-i l =
-    l.n - l.i

@@ -35,14 +35,6 @@ returns-then-not-put_number c =
     let g : 8 * length (take a.shrink.count a.shrink.items) ≤ length a.peers.now = omega arith in
     no_answer id_bytes 8 a.said a.header.now a.peers.now a.answer.now (take a.shrink.count a.shrink.items) n g _ _ p.ensures.1 (sym p.ensures.0 ∙ c.if-not-put_number.true)
 
-pub put_ids-requires : goal.put_ids-requires
-put_ids-requires c =
-    let u = c.in_use-n.ensures.0 in
-    let f = c.if-peers-n.false in omega arith
-
-pub put_waited-requires : goal.put_waited-requires
-put_waited-requires c = c.requires
-
 pub returns : goal.returns
 returns c =
     let a = c.args in

@@ -1,4 +1,4 @@
-use Prim.Native.Nat.{◌-◌, ◌≤◌}
+use Prim.Native.Nat.{◌≤◌}
 use lib.Ieee.{binary32, mul}
 use Rattle.float_distance.specs.Lanes.{stored}
 use Rattle.float_distance.proofs.Lanes.{Lane, FourLanes}
@@ -12,7 +12,3 @@ invariant-loop-i l =
     × Lane (mul binary32) (stored l.floats l.q l.n) (stored l.floats l.q l.n) l.i l.f
     × Lane (mul binary32) (stored l.floats l.r l.n) (stored l.floats l.r l.n) l.i l.g
     × Lane (mul binary32) (stored l.floats l.s l.n) (stored l.floats l.s l.n) l.i l.h
-
-abbrev pub decreases-loop-i : goal.decreases-loop-i
-decreases-loop-i l =
-    l.n - l.i

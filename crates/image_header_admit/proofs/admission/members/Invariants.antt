@@ -1,5 +1,5 @@
 use mathlib.Core.Path.{◌≡◌}
-use Prim.Native.Nat.{◌-◌, ◌≤◌}
+use Prim.Native.Nat.{◌≤◌}
 use lib.ListN.{length, take}
 use Rattle.spec.specs.Lists.{filter}
 use Rattle.spec.specs.Node.Client.{is_member}
@@ -9,7 +9,3 @@ use Rattle.image_header_admit.proofs.admission.members.Given as goal
 abbrev pub invariant-loop-i : goal.invariant-loop-i
 invariant-loop-i l =
     (l.i ≤ l.count) × (l.n ≤ l.i) × (l.n ≡ length (filter is_member (take l.i (peers_at l.s l.at))))
-
-abbrev pub decreases-loop-i : goal.decreases-loop-i
-decreases-loop-i l =
-    l.count - l.i

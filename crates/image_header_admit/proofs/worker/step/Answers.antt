@@ -16,13 +16,13 @@ pub returns-then-not-is_holder : goal.returns-then-not-is_holder
 returns-then-not-is_holder c =
     let a = c.args in stop_gone a.header.now a.row a.epoch a.peer c.requires.1 c.role_at-role.result c.role_at-role.ensures c.leads.result c.leads.ensures (c.if-not-leads.false) _ c.replicas_at-replicas.ensures c.get8-holders.result c.get8-holders.ensures c.is_holder.result c.is_holder.ensures (c.if-not-is_holder.true)
 
-pub peer_place-at-requires : goal.peer_place-at-requires
-peer_place-at-requires c =
+pub place_of-at-requires : goal.place_of-at-requires
+place_of-at-requires c =
     let a = c.args in let p = c.requires.0 in (omega arith, count-few a.header.now a.row a.epoch a.peer c.requires.1 c.get8-count.result c.get8-count.ensures)
 
 pub returns-then-count-at : goal.returns-then-count-at
 returns-then-count-at c =
-    let a = c.args in align_new a.header.now a.row a.epoch a.peer c.requires.1 c.role_at-role.result c.role_at-role.ensures c.leads.result c.leads.ensures (c.if-not-leads.false) _ c.replicas_at-replicas.ensures c.get8-holders.result c.get8-holders.ensures c.is_holder.result c.is_holder.ensures (c.if-not-is_holder.false) c.get8-count.result c.get8-count.ensures c.peer_place-at.result c.peer_place-at.ensures c.if-count-at.true
+    let a = c.args in align_new a.header.now a.row a.epoch a.peer c.requires.1 c.role_at-role.result c.role_at-role.ensures c.leads.result c.leads.ensures (c.if-not-leads.false) _ c.replicas_at-replicas.ensures c.get8-holders.result c.get8-holders.ensures c.is_holder.result c.is_holder.ensures (c.if-not-is_holder.false) c.get8-count.result c.get8-count.ensures c.place_of-at.result c.place_of-at.ensures c.if-count-at.true
 
 pub overflow_mul-at : goal.overflow_mul-at
 overflow_mul-at c =
@@ -38,15 +38,15 @@ peer_at-p-requires c =
 
 pub returns-then-not-p : goal.returns-then-not-p
 returns-then-not-p c =
-    let a = c.args in align_old a.header.now a.row a.epoch a.peer c.requires.1 c.role_at-role.result c.role_at-role.ensures c.leads.result c.leads.ensures (c.if-not-leads.false) _ c.replicas_at-replicas.ensures c.get8-holders.result c.get8-holders.ensures c.is_holder.result c.is_holder.ensures (c.if-not-is_holder.false) c.get8-count.result c.get8-count.ensures c.peer_place-at.result c.peer_place-at.ensures c.if-count-at.false c.peer_at-p.result c.peer_at-p.ensures (not-true _ c.if-not-p.true)
+    let a = c.args in align_old a.header.now a.row a.epoch a.peer c.requires.1 c.role_at-role.result c.role_at-role.ensures c.leads.result c.leads.ensures (c.if-not-leads.false) _ c.replicas_at-replicas.ensures c.get8-holders.result c.get8-holders.ensures c.is_holder.result c.is_holder.ensures (c.if-not-is_holder.false) c.get8-count.result c.get8-count.ensures c.place_of-at.result c.place_of-at.ensures c.if-count-at.false c.peer_at-p.result c.peer_at-p.ensures (not-true _ c.if-not-p.true)
 
 pub get8-requires : goal.get8-requires
 get8-requires c = let p = c.requires.0 in omega arith
 
 pub sends-requires : goal.sends-requires
 sends-requires c =
-    let a = c.args in ack_fits_lem a.header.now a.row a.epoch a.peer c.requires.1 c.role_at-role.result c.role_at-role.ensures c.leads.result c.leads.ensures (c.if-not-leads.false) _ c.replicas_at-replicas.ensures c.get8-holders.result c.get8-holders.ensures c.is_holder.result c.is_holder.ensures (c.if-not-is_holder.false) c.get8-count.result c.get8-count.ensures c.peer_place-at.result c.peer_place-at.ensures c.if-count-at.false c.peer_at-p.result c.peer_at-p.ensures
+    let a = c.args in ack_fits_lem a.header.now a.row a.epoch a.peer c.requires.1 c.role_at-role.result c.role_at-role.ensures c.leads.result c.leads.ensures (c.if-not-leads.false) _ c.replicas_at-replicas.ensures c.get8-holders.result c.get8-holders.ensures c.is_holder.result c.is_holder.ensures (c.if-not-is_holder.false) c.get8-count.result c.get8-count.ensures c.place_of-at.result c.place_of-at.ensures c.if-count-at.false c.peer_at-p.result c.peer_at-p.ensures
 
 pub returns : goal.returns
 returns c =
-    let a = c.args in sends-on a.header.now a.row a.epoch a.peer c.requires.1 c.role_at-role.result c.role_at-role.ensures c.leads.result c.leads.ensures (c.if-not-leads.false) _ c.replicas_at-replicas.ensures c.get8-holders.result c.get8-holders.ensures c.is_holder.result c.is_holder.ensures (c.if-not-is_holder.false) c.get8-count.result c.get8-count.ensures c.peer_place-at.result c.peer_place-at.ensures c.if-count-at.false c.peer_at-p.result c.peer_at-p.ensures (not-false _ c.if-not-p.false) c.get8.result c.get8.ensures c.sends.result c.sends.ensures
+    let a = c.args in sends-on a.header.now a.row a.epoch a.peer c.requires.1 c.role_at-role.result c.role_at-role.ensures c.leads.result c.leads.ensures (c.if-not-leads.false) _ c.replicas_at-replicas.ensures c.get8-holders.result c.get8-holders.ensures c.is_holder.result c.is_holder.ensures (c.if-not-is_holder.false) c.get8-count.result c.get8-count.ensures c.place_of-at.result c.place_of-at.ensures c.if-count-at.false c.peer_at-p.result c.peer_at-p.ensures (not-false _ c.if-not-p.false) c.get8.result c.get8.ensures c.sends.result c.sends.ensures

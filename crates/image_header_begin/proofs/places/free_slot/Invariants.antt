@@ -10,7 +10,3 @@ use Rattle.image_header_begin.proofs.places.free_slot.Given as goal
 abbrev pub invariant-loop-slot : goal.invariant-loop-slot
 invariant-loop-slot l =
     (l.slot ≤ 8) × (lowest_free (take l.count (node_at l.s).held) ≡ free_from (8 - l.slot) l.slot (map (λ (x : HeldRow). x.slot) (take l.count (node_at l.s).held)))
-
-abbrev pub decreases-loop-slot : goal.decreases-loop-slot
-decreases-loop-slot l =
-    8 - l.slot

@@ -30,5 +30,5 @@ loop-i-preserved c =
 
 pub returns : goal.returns
 returns c =
-    let a = c.args in let s = a.s.now in let k = c.requires.1 in let g = held_long s in
-    lead-end (below_key (view_key a.key)) (node_at s).held a.count c.loop-i.i (omega arith) c.loop-i.invariant.1 (search rules)
+    let a = c.args in let s = a.s.now in let k = c.requires.1 in let g = held_long s in let e : a.count ≡ c.loop-i.i = omega arith in
+    e ∙ lead-end (below_key (view_key a.key)) (node_at s).held a.count c.loop-i.i (omega arith) c.loop-i.invariant.1 (search rules)

@@ -9,7 +9,3 @@ use Rattle.image_header_check.proofs.formed.acks_fit.Given as goal
 abbrev pub invariant-loop-i : goal.invariant-loop-i
 invariant-loop-i l =
     (l.i ≤ l.count) × (every ack_fits (take l.count (peers_at l.s l.at)) ≡ every ack_fits (drop l.i (take l.count (peers_at l.s l.at))))
-
-abbrev pub decreases-loop-i : goal.decreases-loop-i
-decreases-loop-i l =
-    l.count - l.i

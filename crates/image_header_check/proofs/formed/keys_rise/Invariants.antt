@@ -9,7 +9,3 @@ use Rattle.image_header_check.proofs.formed.keys_rise.Given as goal
 abbrev pub invariant-loop-i : goal.invariant-loop-i
 invariant-loop-i l =
     (1 ≤ l.i) × (l.i ≤ l.count) × (rising held_row_below (take l.count (node_at l.s).held) ≡ rising held_row_below (drop (l.i - 1) (take l.count (node_at l.s).held)))
-
-abbrev pub decreases-loop-i : goal.decreases-loop-i
-decreases-loop-i l =
-    l.count - l.i

@@ -9,7 +9,3 @@ use Rattle.image_header_check.proofs.formed.rows_rise.Given as goal
 abbrev pub invariant-loop-i : goal.invariant-loop-i
 invariant-loop-i l =
     (1 ≤ l.i) × (l.i ≤ l.count) × (rising row_below (take l.count (peers_at l.s l.at)) ≡ rising row_below (drop (l.i - 1) (take l.count (peers_at l.s l.at))))
-
-abbrev pub decreases-loop-i : goal.decreases-loop-i
-decreases-loop-i l =
-    l.count - l.i

@@ -9,7 +9,3 @@ use Rattle.image_header_check.proofs.formed.slot_after.Given as goal
 abbrev pub invariant-loop-i : goal.invariant-loop-i
 invariant-loop-i l =
     (l.i ≤ l.count) × (any (on_slot l.slot) (drop l.from (take l.count (node_at l.s).held)) ≡ any (on_slot l.slot) (drop l.i (take l.count (node_at l.s).held)))
-
-abbrev pub decreases-loop-i : goal.decreases-loop-i
-decreases-loop-i l =
-    l.count - l.i

@@ -8,7 +8,3 @@ use Rattle.image_header_check.proofs.formed.slots_fit.Given as goal
 abbrev pub invariant-loop-i : goal.invariant-loop-i
 invariant-loop-i l =
     (l.i ≤ l.count) × (slots_fit (take l.count (node_at l.s).held) ≡ slots_fit (drop l.i (take l.count (node_at l.s).held)))
-
-abbrev pub decreases-loop-i : goal.decreases-loop-i
-decreases-loop-i l =
-    l.count - l.i

@@ -48,4 +48,5 @@ returns c =
     let s = a.s.now in
     let k = c.requires.1 in
     let g = held_long s in
-    lead-end (other_key (view_key a.key)) (node_at s).held a.count c.loop-i.i (omega arith) c.loop-i.invariant.1 (search rules)
+    let e : c.args.count ≡ c.loop-i.i = omega arith in
+    e ∙ lead-end (other_key (view_key a.key)) (node_at s).held a.count c.loop-i.i (omega arith) c.loop-i.invariant.1 (search rules)

@@ -10,7 +10,3 @@ use Rattle.image_header_check.proofs.place.place_at.Given as goal
 abbrev pub invariant-loop-i : goal.invariant-loop-i
 invariant-loop-i l =
     (l.i ≤ l.count) × (lead (other_key (view_key l.key)) (take l.count (node_at l.s).held) ≡ l.i + lead (other_key (view_key l.key)) (drop l.i (take l.count (node_at l.s).held)))
-
-abbrev pub decreases-loop-i : goal.decreases-loop-i
-decreases-loop-i l =
-    l.count - l.i

@@ -9,7 +9,3 @@ use Rattle.image_header_form.proofs.peers.all_acked.Given as goal
 abbrev pub invariant-loop-i : goal.invariant-loop-i
 invariant-loop-i l =
     (l.i ≤ l.count) × (every (has_acked l.offset) (take l.count (peers_at l.s l.at)) ≡ every (has_acked l.offset) (drop l.i (take l.count (peers_at l.s l.at))))
-
-abbrev pub decreases-loop-i : goal.decreases-loop-i
-decreases-loop-i l =
-    l.count - l.i

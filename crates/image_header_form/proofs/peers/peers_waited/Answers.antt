@@ -7,7 +7,7 @@ use mathlib.Core.List.{map}
 use Rattle.spec.specs.Node.Client.{wait_row}
 use Rattle.image_header_row.specs.Rows.{no_peer, peers_at}
 use Rattle.image_parts.specs.Canon.{padded}
-use Rattle.image_header_form.proofs.PeerLaws.{done-start, still, done-step, done_end, clear, clear_step, waited_long, waited-row, waited_tail}
+use Rattle.image_header_form.proofs.PeerLaws.{Done, done-start, still, done-step, done_end, clear, clear_step, waited_long, waited-row, waited_tail}
 use Rattle.image_header_form.proofs.peers.peers_waited.Goals as goal
 
 pub loop-i-init : goal.loop-i-init
@@ -90,5 +90,5 @@ returns c =
     let z = c.loop-i-test.false in
     let lt = c.loop-i-2-test.false in
     let m = c.loop-i-2.invariant.0 in
-    let e : a.count ≡ l.i = omega arith in
-    done_end s at (padded 32 no_peer (map (wait_row a.last a.clock a.timeout) (take a.count (peers_at a.out.now a.at)))) l.out c.loop-i-2.out l.i c.loop-i-2.i (omega arith) c.loop-i-2.invariant.1 (waited_long s at n few (wait_row a.last a.clock a.timeout)) l.invariant.0 (subst (λ (j : ℕ). drop j (padded 32 no_peer (map (wait_row a.last a.clock a.timeout) (take a.count (peers_at a.out.now a.at)))) ≡ drop j clear) e (waited_tail s at n few (wait_row a.last a.clock a.timeout))) c.loop-i-2.invariant.4
+    let e : l.i ≡ a.count = omega arith in
+    done_end s at (padded 32 no_peer (map (wait_row a.last a.clock a.timeout) (take a.count (peers_at a.out.now a.at)))) l.out c.loop-i-2.out n c.loop-i-2.i (omega arith) c.loop-i-2.invariant.1 (waited_long s at n few (wait_row a.last a.clock a.timeout)) (subst (λ (j : ℕ). Done s at (padded 32 no_peer (map (wait_row a.last a.clock a.timeout) (take a.count (peers_at a.out.now a.at)))) l.out j) e l.invariant.0) (waited_tail s at n few (wait_row a.last a.clock a.timeout)) c.loop-i-2.invariant.4

@@ -14,14 +14,6 @@ abbrev pub invariant-loop-i : goal.invariant-loop-i
 invariant-loop-i l =
     Done l.initial.out l.at (padded 32 no_peer (map (wait_row l.last l.clock l.timeout) (take l.count (peers_at l.initial.out l.at)))) l.out l.i × (l.i ≤ l.count) × (l.count ≤ 32) × (l.at + 1024 ≤ length l.initial.out)
 
-abbrev pub decreases-loop-i : goal.decreases-loop-i
-decreases-loop-i l =
-    l.count - l.i
-
 abbrev pub invariant-loop-i-2 : goal.invariant-loop-i-2
 invariant-loop-i-2 l =
-    (l.i ≤ 32) × (l.initial.i ≤ l.i) × (l.at + 1024 ≤ length l.initial.out) × (length l.out ≡ length l.initial.out) × (sets l.out (l.at + 32 * l.i) (concat_map peer_bytes (drop l.i clear)) ≡ sets l.initial.out (l.at + 32 * l.initial.i) (concat_map peer_bytes (drop l.initial.i clear)))
-
-abbrev pub decreases-loop-i-2 : goal.decreases-loop-i-2
-decreases-loop-i-2 l =
-    32 - l.i
+    (l.i ≤ 32) × (l.count ≤ l.i) × (l.at + 1024 ≤ length l.initial.out) × (length l.out ≡ length l.initial.out) × (sets l.out (l.at + 32 * l.i) (concat_map peer_bytes (drop l.i clear)) ≡ sets l.initial.out (l.at + 32 * l.count) (concat_map peer_bytes (drop l.count clear)))

@@ -9,7 +9,3 @@ use Rattle.image_header_form.proofs.peers.shrinks_of.Given as goal
 abbrev pub invariant-loop-i : goal.invariant-loop-i
 invariant-loop-i l =
     (l.i ≤ l.count) × (l.n ≤ l.i) × (length l.items ≡ 32) × (take l.n l.items ≡ collect (to_shrink l.last l.clock l.timeout) node_of (take l.i (peers_at l.s l.at)))
-
-abbrev pub decreases-loop-i : goal.decreases-loop-i
-decreases-loop-i l =
-    l.count - l.i

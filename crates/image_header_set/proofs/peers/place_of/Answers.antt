@@ -1,5 +1,5 @@
 use native.Mathlib.Omega.{arith}
-use mathlib.Core.Path.{sym, ◌∙◌, ap}
+use mathlib.Core.Path.{◌≡◌, sym, ◌∙◌, ap}
 use Prim.Native.Nat.{◌+◌, ◌*◌}
 use borrow.Author.Tests.{eq-eqb, ne_eqb}
 use mathlib.Core.Bool.{not}
@@ -22,5 +22,5 @@ loop-i-preserved c =
 
 pub returns : goal.returns
 returns c =
-    let a = c.args in let s = a.s.now in let at = a.at in let k = c.requires.1 in let g = peers_long s at in
-    lead-end (others a.node) (peers_at s at) a.count c.loop-i.i (omega arith) c.loop-i.invariant.1 (omega arith)
+    let a = c.args in let s = a.s.now in let at = a.at in let k = c.requires.1 in let g = peers_long s at in let e : a.count ≡ c.loop-i.i = omega arith in
+    e ∙ lead-end (others a.node) (peers_at s at) a.count c.loop-i.i (omega arith) c.loop-i.invariant.1 (omega arith)

@@ -9,7 +9,3 @@ use Rattle.image_header_set.proofs.peers.place_of.Given as goal
 abbrev pub invariant-loop-i : goal.invariant-loop-i
 invariant-loop-i l =
     (l.i ≤ l.count) × (lead (others l.node) (take l.count (peers_at l.s l.at)) ≡ l.i + lead (others l.node) (drop l.i (take l.count (peers_at l.s l.at))))
-
-abbrev pub decreases-loop-i : goal.decreases-loop-i
-decreases-loop-i l =
-    l.count - l.i

@@ -1,5 +1,4 @@
 use mathlib.Core.Path.{sym, ◌∙◌}
-use mathlib.Core.Bool.{true, false}
 use Rattle.image_map_check.proofs.FormedLaws.{formed-none, formed-second, formed-third, formed-last}
 use Rattle.image_map_check.proofs.formed.is_formed.Goals as goal
 

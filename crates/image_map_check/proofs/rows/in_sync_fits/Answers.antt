@@ -1,6 +1,5 @@
 use native.Mathlib.Omega.{arith}
 use mathlib.Core.Path.{refl}
-use mathlib.Core.Bool.{true, false}
 use Rattle.image_map_check.proofs.Sync.{synced_start, synced_stop, synced_on, synced_end}
 use Rattle.image_map_check.proofs.rows.in_sync_fits.Goals as goal
 

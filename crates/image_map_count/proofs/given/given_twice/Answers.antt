@@ -2,7 +2,6 @@ use borrow.Author.Rules.{rules}
 use native.Mathlib.Omega.{arith}
 use mathlib.Core.Path.{◌≡◌, refl, sym, ◌∙◌}
 use lib.ListN.{length}
-use mathlib.Core.Bool.{true, false}
 use Rattle.image_map_count.proofs.Ids.{twice_goes, twice_stops, twice_ends}
 use Rattle.image_map_count.proofs.given.given_twice.Goals as goal
 

@@ -1,5 +1,5 @@
 use mathlib.Core.Path.{◌≡◌}
-use Prim.Native.Nat.{◌-◌, ◌≤◌}
+use Prim.Native.Nat.{◌≤◌}
 use lib.ListN.{take, drop}
 use Rattle.spec_count.specs.Counts.{repeats}
 use Rattle.image_map_count.proofs.given.given_twice.Given as goal
@@ -7,7 +7,3 @@ use Rattle.image_map_count.proofs.given.given_twice.Given as goal
 abbrev pub invariant-loop-i : goal.invariant-loop-i
 invariant-loop-i l =
     (l.i ≤ l.ids.count) × (repeats (take l.ids.count l.ids.items) ≡ repeats (drop l.i (take l.ids.count l.ids.items)))
-
-abbrev pub decreases-loop-i : goal.decreases-loop-i
-decreases-loop-i l =
-    l.ids.count - l.i

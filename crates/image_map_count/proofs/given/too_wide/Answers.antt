@@ -3,7 +3,6 @@ use native.Mathlib.Omega.{arith}
 use mathlib.Core.Path.{◌≡◌, sym, ◌∙◌}
 use Prim.Native.Nat.{◌≤◌}
 use lib.ListN.{length}
-use mathlib.Core.Bool.{true}
 use Rattle.image_map_count.specs.Read.{view_ids}
 use lib.Seq.{length-take-le}
 use Rattle.image_map_count.proofs.Ids.{wide_lists, wide-nodes, wide-twice, lent-count, lent-few}

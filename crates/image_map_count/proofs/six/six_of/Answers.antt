@@ -1,7 +1,6 @@
 use native.Mathlib.Omega.{arith}
 use mathlib.Core.Path.{sym, ◌∙◌}
 use Rattle.image_map.specs.Image.{map_at}
-use mathlib.Core.Bool.{true, false}
 use Rattle.map_tables.specs.Names.{view_name}
 use Rattle.map_tables.specs.View.{view_map, view_spec}
 use Rattle.image_map_count.specs.Read.{view_ids}

@@ -2,7 +2,6 @@ use borrow.Author.Rules.{rules}
 use native.Mathlib.Omega.{arith}
 use mathlib.Core.Path.{◌≡◌, refl, sym, ◌∙◌, ap}
 use Prim.Native.Nat.{ℕ, ◌+◌, ◌*◌, ◌^◌}
-use mathlib.Core.Bool.{true, false}
 use native.Mathlib.Nat.{pow-zero}
 use borrow.Author.Tests.{leb-true}
 use Rattle.spec.specs.Limits.{max_u64}

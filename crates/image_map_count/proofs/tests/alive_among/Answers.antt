@@ -28,17 +28,17 @@ is_alive-requires c =
 pub overflow_add-n : goal.overflow_add-n
 overflow_add-n c = omega (arith, c.loop-i.invariant.1, c.loop-i.invariant.0, c.requires.1)
 
-pub loop-i-preserved-then-is_alive : goal.loop-i-preserved-then-is_alive
-unfolding alive_among map_at
-loop-i-preserved-then-is_alive c =
-    let h = four (goal.at.loop-i-preserved-then-is_alive c).Start in
-    (search rules, search rules, many_adds c.args.ids.items c.args.ids.count (omega (arith, c.requires.1)) c.loop-i.i (search rules) (λ (k : ℕ). is_alive (node_at (view_map (map_at c.args.map.now)).nodes k)) c.loop-i.n _ c.loop-i.invariant.2 (sym c.is_alive.ensures ∙ c.if-is_alive.true))
-
 pub loop-i-preserved : goal.loop-i-preserved
 unfolding alive_among map_at
 loop-i-preserved c =
     let h = four (goal.at.loop-i-preserved c).Start in
-    (search rules, omega (arith, c.loop-i.invariant.1), many_goes c.args.ids.items c.args.ids.count (omega (arith, c.requires.1)) c.loop-i.i (search rules) (λ (k : ℕ). is_alive (node_at (view_map (map_at c.args.map.now)).nodes k)) c.loop-i.n _ c.loop-i.invariant.2 (sym c.is_alive.ensures ∙ c.if-is_alive.false))
+    (search rules, search rules, many_adds c.args.ids.items c.args.ids.count (omega (arith, c.requires.1)) c.loop-i.i (search rules) (λ (k : ℕ). is_alive (node_at (view_map (map_at c.args.map.now)).nodes k)) c.loop-i.n _ c.loop-i.invariant.2 (sym c.is_alive.ensures ∙ c.if-not-is_alive.false))
+
+pub loop-i-preserved-then-not-is_alive : goal.loop-i-preserved-then-not-is_alive
+unfolding alive_among map_at
+loop-i-preserved-then-not-is_alive c =
+    let h = four (goal.at.loop-i-preserved-then-not-is_alive c).Start in
+    (search rules, omega (arith, c.loop-i.invariant.1), many_goes c.args.ids.items c.args.ids.count (omega (arith, c.requires.1)) c.loop-i.i (search rules) (λ (k : ℕ). is_alive (node_at (view_map (map_at c.args.map.now)).nodes k)) c.loop-i.n _ c.loop-i.invariant.2 (sym c.is_alive.ensures ∙ c.if-not-is_alive.true))
 
 pub returns : goal.returns
 unfolding alive_among

@@ -1,5 +1,5 @@
 use mathlib.Core.Path.{◌≡◌}
-use Prim.Native.Nat.{◌+◌, ◌-◌, ◌≤◌}
+use Prim.Native.Nat.{◌+◌, ◌≤◌}
 use lib.ListN.{take, drop}
 use Rattle.spec_count.specs.Closed.{alive_among}
 use Rattle.map_tables.specs.View.{view_map}
@@ -9,7 +9,3 @@ use Rattle.image_map_count.proofs.tests.alive_among.Given as goal
 abbrev pub invariant-loop-i : goal.invariant-loop-i
 invariant-loop-i l =
     (l.i ≤ l.ids.count) × (l.n ≤ l.i) × (l.n + alive_among (view_map (map_at l.map)).nodes (drop l.i (take l.ids.count l.ids.items)) ≡ alive_among (view_map (map_at l.map)).nodes (take l.ids.count l.ids.items))
-
-abbrev pub decreases-loop-i : goal.decreases-loop-i
-decreases-loop-i l =
-    l.ids.count - l.i

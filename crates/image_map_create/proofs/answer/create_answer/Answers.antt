@@ -44,9 +44,9 @@ returns-then-not-lists_match c =
 pub walk-walked-requires : goal.walk-walked-requires
 walk-walked-requires c = (c.requires.0, c.requires.2)
 
-pub returns-in-NotAlive : goal.returns-in-NotAlive
-returns-in-NotAlive c =
-    c.rejected-in-NotAlive.ensures ∙ sym (dead-answer (read_as c.args.map.now) (view_name c.args.name) (view_spec c.args.spec) (view_placement c.args.p) (has_not c.args.map.now c.requires.0 (view_name c.args.name) _ _ c.get8-count.ensures c.collection_place.ensures c.if-collection_place-count.false) (sym c.zero_in.ensures ∙ c.if-zero_in.false) (all_match (view_spec c.args.spec) (view_placement c.args.p) (size (goal.at.returns-in-NotAlive c).Start ∙ c.if-lists-shards.false) (sym c.lists_match.ensures ∙ c.if-not-lists_match.false)) _ (walked_some _ _ (sym c.walk-walked.ensures ∙ c.in-NotAlive.is)))
+pub returns-in-Some : goal.returns-in-Some
+returns-in-Some c =
+    c.rejected-in-Some.ensures ∙ sym (dead-answer (read_as c.args.map.now) (view_name c.args.name) (view_spec c.args.spec) (view_placement c.args.p) (has_not c.args.map.now c.requires.0 (view_name c.args.name) _ _ c.get8-count.ensures c.collection_place.ensures c.if-collection_place-count.false) (sym c.zero_in.ensures ∙ c.if-zero_in.false) (all_match (view_spec c.args.spec) (view_placement c.args.p) (size (goal.at.returns-in-Some c).Start ∙ c.if-lists-shards.false) (sym c.lists_match.ensures ∙ c.if-not-lists_match.false)) _ (walked_some _ _ (sym c.walk-walked.ensures ∙ c.in-Some.is)))
 
 pub has_room-requires : goal.has_room-requires
 has_room-requires c = (c.requires.0, c.requires.1, c.requires.2)

@@ -11,14 +11,6 @@ abbrev pub invariant-loop-j : goal.invariant-loop-j
 invariant-loop-j l =
     (l.j ≤ l.n) × (l.n ≤ 8) × (l.n ≡ length (view_list l.list)) × (find (ends l.map) (flatten (view_placement l.p)) ≡ find (ends l.map) (drop l.j (view_list l.list) ++ flatten (drop (l.i + 1) (view_placement l.p))))
 
-abbrev pub decreases-loop-j : goal.decreases-loop-j
-decreases-loop-j l =
-    l.n - l.j
-
-abbrev pub invariant-lists : goal.invariant-lists
-invariant-lists l =
+abbrev pub invariant-loop-i : goal.invariant-loop-i
+invariant-loop-i l =
     (l.i ≤ l.p.count) × (find (ends l.map) (flatten (view_placement l.p)) ≡ find (ends l.map) (flatten (drop l.i (view_placement l.p))))
-
-abbrev pub decreases-lists : goal.decreases-lists
-decreases-lists l =
-    l.p.count - l.i

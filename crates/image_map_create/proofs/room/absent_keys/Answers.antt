@@ -22,19 +22,13 @@ shard_place-requires c =
 pub overflow_add-free : goal.overflow_add-free
 overflow_add-free c = let h = c.requires.1 in let t = c.loop-i-test.true in let f = c.loop-i.invariant.1 in omega arith
 
-pub overflow_add-i : goal.overflow_add-i
-overflow_add-i c = let h = c.requires.1 in let t = c.loop-i-test.true in omega arith
-
-pub loop-i-preserved-then-used-shard_place : goal.loop-i-preserved-then-used-shard_place
-loop-i-preserved-then-used-shard_place c =
-    let t = c.loop-i-test.true in let f = c.loop-i.invariant.1 in (omega arith, omega arith, c.loop-i.invariant.2, absent-free (view_name c.args.name) (read_as c.args.map.now).shards c.args.n c.loop-i.i c.loop-i.free t c.loop-i.invariant.3 (key-absent c.args.map.now c.requires.0 (record { collection = c.args.name; shard = c.loop-i.i }) _ _ c.loop-i.invariant.2 c.shard_place.ensures c.if-used-shard_place.true))
-
-pub overflow_add-i-else-used-shard_place : goal.overflow_add-i-else-used-shard_place
-overflow_add-i-else-used-shard_place c = let h = c.requires.1 in let t = c.loop-i-test.true in omega arith
-
 pub loop-i-preserved : goal.loop-i-preserved
 loop-i-preserved c =
-    let t = c.loop-i-test.true in let f = c.loop-i.invariant.1 in (omega arith, omega arith, c.loop-i.invariant.2, absent-there (view_name c.args.name) (read_as c.args.map.now).shards c.args.n c.loop-i.i c.loop-i.free t c.loop-i.invariant.3 (key-there c.args.map.now c.requires.0 (record { collection = c.args.name; shard = c.loop-i.i }) _ _ c.loop-i.invariant.2 c.shard_place.ensures c.if-used-shard_place.false))
+    let t = c.loop-i-test.true in let f = c.loop-i.invariant.1 in (omega arith, omega arith, c.loop-i.invariant.2, absent-free (view_name c.args.name) (read_as c.args.map.now).shards c.args.n c.loop-i.i c.loop-i.free t c.loop-i.invariant.3 (key-absent c.args.map.now c.requires.0 (record { collection = c.args.name; shard = c.loop-i.i }) _ _ c.loop-i.invariant.2 c.shard_place.ensures c.if-shard_place-used.false))
+
+pub loop-i-preserved-then-shard_place-used : goal.loop-i-preserved-then-shard_place-used
+loop-i-preserved-then-shard_place-used c =
+    let t = c.loop-i-test.true in let f = c.loop-i.invariant.1 in (omega arith, omega arith, c.loop-i.invariant.2, absent-there (view_name c.args.name) (read_as c.args.map.now).shards c.args.n c.loop-i.i c.loop-i.free t c.loop-i.invariant.3 (key-there c.args.map.now c.requires.0 (record { collection = c.args.name; shard = c.loop-i.i }) _ _ c.loop-i.invariant.2 c.shard_place.ensures c.if-shard_place-used.true))
 
 pub returns : goal.returns
 returns c =

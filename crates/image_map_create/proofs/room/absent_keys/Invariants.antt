@@ -9,7 +9,3 @@ use Rattle.image_map_create.proofs.room.absent_keys.Given as goal
 abbrev pub invariant-loop-i : goal.invariant-loop-i
 invariant-loop-i l =
     (l.i ≤ l.n) × (l.free ≤ l.i) × (l.used ≡ number_at 8 l.map 24) × (l.free + absent (read_as l.map).shards (view_name l.name) l.i (l.n - l.i) ≡ absent (read_as l.map).shards (view_name l.name) 0 l.n)
-
-abbrev pub decreases-loop-i : goal.decreases-loop-i
-decreases-loop-i l =
-    l.n - l.i

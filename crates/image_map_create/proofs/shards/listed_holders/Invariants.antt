@@ -10,7 +10,3 @@ use Rattle.image_map_create.proofs.shards.listed_holders.Given as goal
 abbrev pub invariant-loop-j : goal.invariant-loop-j
 invariant-loop-j l =
     (l.j ≤ l.n) × (l.n ≤ 8) × (l.n ≡ length (view_list l.list)) × (l.out.count ≡ l.j) × (view_holders l.out ≡ map (replica_of (read_as l.map).nodes) (take l.j (view_list l.list)))
-
-abbrev pub decreases-loop-j : goal.decreases-loop-j
-decreases-loop-j l =
-    l.n - l.j

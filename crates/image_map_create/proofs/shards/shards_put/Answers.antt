@@ -32,9 +32,6 @@ overflow_cast-i c = let h = c.requires.1 in let t = c.loop-i-test.true in omega 
 pub new_shard-row-requires : goal.new_shard-row-requires
 new_shard-row-requires c = c.loop-i.invariant.1.few
 
-pub overflow_add-i : goal.overflow_add-i
-overflow_add-i c = let h = c.requires.1 in let t = c.loop-i-test.true in omega arith
-
 pub loop-i-preserved : goal.loop-i-preserved
 loop-i-preserved c =
     let t = c.loop-i-test.true in (omega arith, grown-step c.args.out.now (view_name c.args.name) (view_placement c.args.p) c.loop-i.out c.loop-i.i c.loop-i.invariant.1 (omega (arith, size c.before.before.before.before.before.before.before.before.before.before, t)) _ _ (row c.before.before.before.before.before.before.before.before.before.before c.loop-i.i t) c.new_shard-row.ensures.0 c.requires.2 _ c.shard_put.ensures)

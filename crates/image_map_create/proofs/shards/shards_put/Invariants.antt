@@ -7,7 +7,3 @@ use Rattle.image_map_create.proofs.shards.shards_put.Given as goal
 abbrev pub invariant-loop-i : goal.invariant-loop-i
 invariant-loop-i l =
     (l.i ≤ l.p.count) × Grown l.initial.out (view_name l.name) (view_placement l.p) l.out l.i
-
-abbrev pub decreases-loop-i : goal.decreases-loop-i
-decreases-loop-i l =
-    l.p.count - l.i

@@ -44,8 +44,8 @@ loop-i-preserved-then-same_name c =
     let wide = l.invariant.2.0 in
     (row-skip (8 * a.words) a.base a.name a.out.now a.count l.out l.i l.kept l.invariant.0 lt (omega arith) _ c.name_at-own.ensures _ c.same_name.ensures c.if-same_name.true, omega arith, l.invariant.2)
 
-pub overflow_mul-row-else-same_name : goal.overflow_mul-row-else-same_name
-overflow_mul-row-else-same_name c =
+pub overflow_mul-row-in-loop-i : goal.overflow_mul-row-in-loop-i
+overflow_mul-row-in-loop-i c =
     let a = c.args in
     let l = c.loop-i in
     let r = row_room (8 * a.words) a.base l.i l.kept a.count 26536 l.invariant.0.few c.loop-i-test.true l.invariant.2.2 in

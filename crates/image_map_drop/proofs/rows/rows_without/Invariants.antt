@@ -11,7 +11,3 @@ Table s base words count = (5 ≤ words) × (words ≤ 34) × (base + 8 * words 
 abbrev pub invariant-loop-i : goal.invariant-loop-i
 invariant-loop-i l =
     Kept (8 * l.words) l.base l.name l.initial.out l.count l.out l.i l.kept × (l.i ≤ l.count) × Table l.initial.out l.base l.words l.count
-
-abbrev pub decreases-loop-i : goal.decreases-loop-i
-decreases-loop-i l =
-    l.count - l.i

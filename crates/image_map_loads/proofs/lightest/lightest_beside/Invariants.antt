@@ -1,4 +1,4 @@
-use Prim.Native.Nat.{◌-◌, ◌≤◌}
+use Prim.Native.Nat.{◌≤◌}
 use lib.ListN.{take}
 use Rattle.image_parts.specs.Parts.{replicas_at}
 use Rattle.map_place.specs.Read.{best_of}
@@ -8,7 +8,3 @@ use Rattle.image_map_loads.proofs.lightest.lightest_beside.Given as goal
 abbrev pub invariant-loop-i : goal.invariant-loop-i
 invariant-loop-i l =
     (l.i ≤ l.nodes) × Held l.s (take l.held (replicas_at l.s l.at)) (best_of l.best) l.i
-
-abbrev pub decreases-loop-i : goal.decreases-loop-i
-decreases-loop-i l =
-    l.nodes - l.i

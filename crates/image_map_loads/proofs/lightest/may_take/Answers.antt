@@ -1,7 +1,6 @@
 use mathlib.Core.Path.{sym, ◌∙◌, ap}
 use Prim.Native.Nat.{ℕ}
 use lib.ListN.{take}
-use mathlib.Core.Bool.{true, false}
 use lib.Dec.{eqb}
 use Rattle.spec.specs.Lists.{◌and◌}
 use Rattle.spec.specs.Map.Place.{on_node}

@@ -9,7 +9,3 @@ use Rattle.image_map_losses.proofs.apart.same_nodes.Given as goal
 abbrev pub invariant-loop-i : goal.invariant-loop-i
 invariant-loop-i l =
     (l.i ≤ l.n) × (same_all eqb (view_list l.a) (view_list l.b) ≡ same_all eqb (drop l.i (view_list l.a)) (drop l.i (view_list l.b)))
-
-abbrev pub decreases-loop-i : goal.decreases-loop-i
-decreases-loop-i l =
-    l.n - l.i

@@ -11,7 +11,3 @@ use Rattle.image_map_sheet.proofs.holders.unknown_on.Given as goal
 abbrev pub invariant-loop-i : goal.invariant-loop-i
 invariant-loop-i l =
     (l.i ≤ l.held) × (l.n ≤ l.i) × (length (filter (is_unknown (view_nodes (nodes_at l.s))) (take l.held (replicas_at l.s l.at))) ≡ l.n + length (filter (is_unknown (view_nodes (nodes_at l.s))) (drop l.i (take l.held (replicas_at l.s l.at)))))
-
-abbrev pub decreases-loop-i : goal.decreases-loop-i
-decreases-loop-i l =
-    l.held - l.i

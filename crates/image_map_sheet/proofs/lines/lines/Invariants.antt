@@ -11,7 +11,3 @@ use Rattle.image_map_sheet.proofs.lines.lines.Given as goal
 abbrev pub invariant-loop-i : goal.invariant-loop-i
 invariant-loop-i l =
     (l.i ≤ l.nodes) × (length l.items ≡ 32) × (map view_load (take l.i l.items) ≡ map (loaded_of (view_shards (shards_at l.s))) (take l.i (view_nodes (nodes_at l.s))))
-
-abbrev pub decreases-loop-i : goal.decreases-loop-i
-decreases-loop-i l =
-    l.nodes - l.i

@@ -9,7 +9,3 @@ use Rattle.image_map_sheet.proofs.shards.records_in.Given as goal
 abbrev pub invariant-loop-i : goal.invariant-loop-i
 invariant-loop-i l =
     (l.i ≤ l.shards) × (l.n ≤ 8 * l.i) × (records_in (view_shards (shards_at l.s)) ≡ l.n + records_in (drop l.i (view_shards (shards_at l.s))))
-
-abbrev pub decreases-loop-i : goal.decreases-loop-i
-decreases-loop-i l =
-    l.shards - l.i

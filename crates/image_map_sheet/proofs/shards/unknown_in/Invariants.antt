@@ -9,7 +9,3 @@ use Rattle.image_map_sheet.proofs.shards.unknown_in.Given as goal
 abbrev pub invariant-loop-i : goal.invariant-loop-i
 invariant-loop-i l =
     (l.i ≤ l.shards) × (l.n ≤ 8 * l.i) × (unknown_in (view_nodes (nodes_at l.s)) (view_shards (shards_at l.s)) ≡ l.n + unknown_in (view_nodes (nodes_at l.s)) (drop l.i (view_shards (shards_at l.s))))
-
-abbrev pub decreases-loop-i : goal.decreases-loop-i
-decreases-loop-i l =
-    l.shards - l.i

@@ -1,7 +1,6 @@
 use borrow.Author.Rules.{rules}
 use native.Mathlib.Omega.{arith}
 use mathlib.Core.Path.{◌∙◌, ap}
-use mathlib.Core.Bool.{true}
 use Rattle.spec.specs.Lists.{every}
 use Rattle.spec.specs.Node.Wire.{entry_in_domain}
 use Rattle.log_domain.proofs.InMessage.{entries_start, entries_all, entries_first, entry-op, entries_rest, domain_first, domain_rest}
@@ -30,12 +29,6 @@ append_next-t-requires c =
       domain_first a.s.now a.p.len l.at l.i t l.invariant.1 _ c.entry_at-e.ensures l.invariant.2,
       free_in_lem a.out.now a.slot a.count a.stored a.s.now _ a.p.len l.at l.i l.out l.c l.k g t l.invariant.1 _ c.entry_at-e.ensures c.requires.5,
     )
-
-pub overflow_add-i : goal.overflow_add-i
-overflow_add-i c = let p = c.requires.3.0 in let t = c.loop-i-test.true in omega arith
-
-pub loop-i-smaller : goal.loop-i-smaller
-loop-i-smaller c = let t = c.loop-i-test.true in omega arith
 
 pub loop-i-preserved : goal.loop-i-preserved
 loop-i-preserved c =

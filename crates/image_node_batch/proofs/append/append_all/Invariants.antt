@@ -13,7 +13,3 @@ use Rattle.image_node_batch.proofs.append.append_all.Given as goal
 abbrev pub invariant-loop-i : goal.invariant-loop-i
 invariant-loop-i l =
     (l.i ≤ l.n) × EntriesThere l.s (part l.at (l.n - l.i)) × (every entry_in_domain (entries_in l.s (part l.at (l.n - l.i))) ≡ true) × Bytes l.out × Going l.initial.out l.slot l.count l.stored (map stored_entry (entries_in l.s (part l.initial.at l.n))) l.out l.c l.k (map stored_entry (entries_in l.s (part l.at (l.n - l.i))))
-
-abbrev pub decreases-loop-i : goal.decreases-loop-i
-decreases-loop-i l =
-    l.n - l.i

@@ -3,4 +3,4 @@ use Rattle.image_parts.proofs.keys.address_at.Goals as goal
 
 pub returns : goal.returns
 unfolding address_at
-returns c = rw (c.bytes64-bytes.ensures, c.get8-len.ensures)
+returns c = rw (c.bytes_at-bytes.ensures, c.get8-len.ensures)

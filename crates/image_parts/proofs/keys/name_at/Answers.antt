@@ -3,4 +3,4 @@ use Rattle.image_parts.proofs.keys.name_at.Goals as goal
 
 pub returns : goal.returns
 unfolding name_at
-returns c = rw (c.bytes32-bytes.ensures, c.get8-len.ensures)
+returns c = rw (c.bytes_at-bytes.ensures, c.get8-len.ensures)

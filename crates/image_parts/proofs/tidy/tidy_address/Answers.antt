@@ -8,4 +8,4 @@ pub returns : goal.returns
 returns c =
     let a = c.args.a in
     let k : length a.bytes ≡ 64 = search rules in
-    rw (c.first64-bytes.ensures, c.in_use-len.ensures.0 ∙ sym (length-used 64 a.len a.bytes k))
+    rw (c.padded-bytes.ensures, c.in_use-len.ensures.0 ∙ sym (length-used 64 a.len a.bytes k))

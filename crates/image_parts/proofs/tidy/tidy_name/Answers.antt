@@ -8,4 +8,4 @@ pub returns : goal.returns
 returns c =
     let n = c.args.n in
     let k : length n.bytes ≡ 32 = search rules in
-    rw (c.first32-bytes.ensures, c.in_use-len.ensures.0 ∙ sym (length-used 32 n.len n.bytes k))
+    rw (c.padded-bytes.ensures, c.in_use-len.ensures.0 ∙ sym (length-used 32 n.len n.bytes k))

@@ -7,7 +7,3 @@ use Rattle.image_send_entries.proofs.entries.entries_size.Given as goal
 abbrev pub invariant-loop-i : goal.invariant-loop-i
 invariant-loop-i l =
     (l.i ≤ l.end) × (l.total ≤ 1046 * l.i) × (l.total + rows_size (codes_in l.s l.base) (lengths_in l.s l.base) (l.end - l.i) l.i ≡ rows_size (codes_in l.s l.base) (lengths_in l.s l.base) (l.end - l.from) l.from)
-
-abbrev pub decreases-loop-i : goal.decreases-loop-i
-decreases-loop-i l =
-    l.end - l.i

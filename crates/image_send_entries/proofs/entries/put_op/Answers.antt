@@ -32,8 +32,8 @@ bounds-s-base-then-s-base-eq1 c =
 pub overflow_mul-i-then-s-base-eq1 : goal.overflow_mul-i-then-s-base-eq1
 overflow_mul-i-then-s-base-eq1 c = let a = c.args in let w = few a.s.now a.base a.count c.requires.0 a.i c.requires.1 in omega arith
 
-pub overflow_add-base-then-s-base-eq1-4 : goal.overflow_add-base-then-s-base-eq1-4
-overflow_add-base-then-s-base-eq1-4 c =
+pub overflow_add-base-then-s-base-eq1-2 : goal.overflow_add-base-then-s-base-eq1-2
+overflow_add-base-then-s-base-eq1-2 c =
     let a = c.args in let r = c.requires.0.stands in let f = c.ranges in let w = few a.s.now a.base a.count c.requires.0 a.i c.requires.1 in search rules
 
 pub put_upsert-requires : goal.put_upsert-requires
@@ -41,7 +41,6 @@ put_upsert-requires c =
     let a = c.args in let r = c.requires.0.stands in let w = few a.s.now a.base a.count c.requires.0 a.i c.requires.1 in let p = c.requires.2 in
     let k = upsert_room (get_or a.s.now (a.base + 24576 + a.i) 0) (get_or a.s.now (a.base + 25600 + a.i) 0) c.if-s-base-eq1.true in
     let m = short a.s.now a.base a.count c.requires.0 a.i c.requires.1 c.if-s-base-eq1.true in
-    let e = c.wide-n.ensures.0 in
     (omega arith, omega arith, omega arith, c.requires.0.bytes)
 
 pub put_delete-requires : goal.put_delete-requires
@@ -53,9 +52,8 @@ shape_of-out-then-s-base-eq1 c = c.put_upsert.auto.out
 
 pub returns-then-s-base-eq1 : goal.returns-then-s-base-eq1
 returns-then-s-base-eq1 c =
-    let a = c.args in let e = c.wide-n.ensures.0 in
+    let a = c.args in
     c.put_upsert.ensures
-    ∙ ap (λ (n : ℕ). sets a.out.now a.at (op_bytes true c.get8-id.result (words 4 n a.s.now (a.base + 26624 + a.i * 128)))) e
     ∙ ap (λ (n : ℕ). sets a.out.now a.at (op_bytes true n (words 4 (get_or a.s.now (a.base + 25600 + a.i) 0) a.s.now (a.base + 26624 + a.i * 128)))) c.get8-id.ensures
     ∙ ap (sets a.out.now a.at) (op_set_sent a.s.now a.base a.count c.requires.0 a.i c.requires.1 c.if-s-base-eq1.true)
 

@@ -8,6 +8,7 @@ use Rattle.image_send_entries.specs.Store.{pairs_bytes}
 use Rattle.spec.specs.Log.{End}
 use Rattle.image_send_entries.proofs.Runs.{pairs-none, pairs-same, pairs_next, pair-at}
 use Rattle.image_send_entries.proofs.table.put_pairs.Goals as goal
+use Rattle.image_send_entries.proofs.table.put_pairs.Goals.{then-ends_run, else-ends_run}
 
 pub loop-i-init : goal.loop-i-init
 loop-i-init c = (omega arith, refl, refl, refl)
@@ -51,30 +52,20 @@ pub overflow_add-p-then-ends_run : goal.overflow_add-p-then-ends_run
 overflow_add-p-then-ends_run c =
     let a = c.args in let l = c.loop-i in let t = c.loop-i-test.true in let n = l.invariant.1 in let w = l.invariant.2 in let q = c.requires.2 in let f = c.ranges in let g = c.well_formed in let z = ap length (pairs_next a.s.now a.base a.n l.i t c.ends_run.result c.ends_run.ensures c.if-ends_run.true) in search rules
 
-pub overflow_add-i : goal.overflow_add-i
-overflow_add-i c = let t = c.loop-i-test.true in let p = c.requires.0 in omega arith
-
-pub loop-i-smaller-then-ends_run : goal.loop-i-smaller-then-ends_run
-loop-i-smaller-then-ends_run c = let t = c.loop-i-test.true in omega arith
-
-pub loop-i-preserved-then-ends_run : goal.loop-i-preserved-then-ends_run
-loop-i-preserved-then-ends_run c =
-    let a = c.args in let l = c.loop-i in let t = c.loop-i-test.true in let w = l.invariant.2 in
-    let e = pairs_next a.s.now a.base a.n l.i t c.ends_run.result c.ends_run.ensures c.if-ends_run.true in let z = ap length e in (
-      omega arith,
-      c.put8-then-ends_run.auto.out ∙ c.put8.auto.out ∙ l.invariant.1,
-      omega arith,
-      (rw (c.put8-then-ends_run.ensures, c.put8.ensures, c.get8-epoch.ensures, c.get8-offset.ensures) (pair-at a.s.now a.base a.n l.i l.out l.p)) ∙ ap (λ (u : List End). sets l.out l.p (pairs_bytes u)) (sym e) ∙ l.invariant.3,
-    )
-
-pub overflow_add-i-else-ends_run : goal.overflow_add-i-else-ends_run
-overflow_add-i-else-ends_run c = let t = c.loop-i-test.true in let p = c.requires.0 in omega arith
-
 pub loop-i-preserved : goal.loop-i-preserved
 loop-i-preserved c =
-    let a = c.args in let l = c.loop-i in let t = c.loop-i-test.true in let w = l.invariant.2 in
-    let e = pairs-same a.s.now a.base a.n l.i t c.ends_run.result c.ends_run.ensures c.if-ends_run.false in let z = ap length e in
-    (omega arith, l.invariant.1, omega arith, ap (λ (u : List End). sets l.out l.p (pairs_bytes u)) (sym e) ∙ l.invariant.3)
+    let a = c.args in let l = c.loop-i in let t = c.loop-i-test.true in let w = l.invariant.2 in elim c.if-ends_run.branch [
+      | then-ends_run u ↦
+          let e = pairs_next a.s.now a.base a.n l.i t c.ends_run.result c.ends_run.ensures u.if-ends_run.true in let z = ap length e in rw (u.out-is, u.p-is) (
+            omega arith,
+            u.put8-then-ends_run.auto.out ∙ u.put8.auto.out ∙ l.invariant.1,
+            omega arith,
+            (rw (u.put8-then-ends_run.ensures, u.put8.ensures, u.get8-epoch.ensures, u.get8-offset.ensures) (pair-at a.s.now a.base a.n l.i l.out l.p)) ∙ ap (λ (u : List End). sets l.out l.p (pairs_bytes u)) (sym e) ∙ l.invariant.3,
+          )
+      | else-ends_run u ↦
+          let e = pairs-same a.s.now a.base a.n l.i t c.ends_run.result c.ends_run.ensures u.if-ends_run.false in let z = ap length e in
+          rw (u.out-is, u.p-is) (omega arith, l.invariant.1, omega arith, ap (λ (u : List End). sets l.out l.p (pairs_bytes u)) (sym e) ∙ l.invariant.3)
+    ]
 
 pub shape_of-out : goal.shape_of-out
 shape_of-out c = c.loop-i.invariant.1

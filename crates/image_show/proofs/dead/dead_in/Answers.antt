@@ -12,9 +12,6 @@ loop-i-init c = (omega arith, refl)
 pub overflow_mul-i : goal.overflow_mul-i
 overflow_mul-i c = let q = c.requires.1 in let lt = c.loop-i-test.true in omega arith
 
-pub overflow_add-i : goal.overflow_add-i
-overflow_add-i c = let q = c.requires.1 in let lt = c.loop-i-test.true in omega arith
-
 pub node_at-x-requires : goal.node_at-x-requires
 node_at-x-requires c = let p = c.requires.0 in let q = c.requires.1 in let lt = c.loop-i-test.true in omega arith
 

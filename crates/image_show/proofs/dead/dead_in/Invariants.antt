@@ -9,7 +9,3 @@ use Rattle.image_show.proofs.dead.dead_in.Given as goal
 abbrev pub invariant-loop-i : goal.invariant-loop-i
 invariant-loop-i l =
     (l.i ≤ l.count) × (any (dead_at l.id l.incarnation) (take (nodes_at l.map).count (nodes_at l.map).items) ≡ any (dead_at l.id l.incarnation) (drop l.i (take (nodes_at l.map).count (nodes_at l.map).items)))
-
-abbrev pub decreases-loop-i : goal.decreases-loop-i
-decreases-loop-i l =
-    l.count - l.i

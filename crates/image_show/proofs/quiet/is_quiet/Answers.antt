@@ -8,6 +8,7 @@ use Rattle.image_show.proofs.MapRows.{shards-many}
 use Rattle.image_header_set.proofs.Place.{few-there}
 use Rattle.image_show.proofs.QuietLaws.{quiet_start, quiet_sized, turn_past, turn_on, turn_end}
 use Rattle.image_show.proofs.quiet.is_quiet.Goals as goal
+use Rattle.image_show.proofs.quiet.is_quiet.Goals.{then-is_listed+else-count-j+else-place_at-j+else-not-row_quiet, else-is_listed}
 
 pub get8-total-requires : goal.get8-total-requires
 get8-total-requires c = let p = c.requires.2 in omega arith
@@ -62,27 +63,13 @@ returns-then-not-row_quiet c = λ e. not_both false e refl
 pub overflow_add-j-then-is_listed : goal.overflow_add-j-then-is_listed
 overflow_add-j-then-is_listed c = let f = c.requires.0.1 in let lt = c.if-count-j.false in omega arith
 
-pub overflow_add-i-then-is_listed : goal.overflow_add-i-then-is_listed
-overflow_add-i-then-is_listed c =
-    let q = c.requires.3.shards.count in let m = shards-many c.args.map.now in let g = c.get8-total.ensures in let lt = c.loop-i-test.true in omega arith
-
-pub loop-i-smaller-then-is_listed : goal.loop-i-smaller-then-is_listed
-loop-i-smaller-then-is_listed c = let lt = c.loop-i-test.true in omega arith
-
-pub loop-i-preserved-then-is_listed : goal.loop-i-preserved-then-is_listed
-loop-i-preserved-then-is_listed c =
-    let lt = c.if-count-j.false in let m = shards-many c.args.map.now in let g = c.get8-total.ensures in let go = c.loop-i-test.true in (omega arith, omega arith, turn_on c.args.header.now c.args.map.now c.args.count c.requires.0 c.requires.3 c.loop-i.j c.loop-i.i c.loop-i.invariant.2 (omega arith) c.shard_at-row.result c.shard_at-row.ensures c.get8-me.result c.get8-own.result c.get8-me.ensures c.get8-own.ensures (sym c.is_listed.ensures ∙ c.if-is_listed.true) lt c.place_at.result c.place_at.ensures c.if-place_at-j.false (c.row_quiet.ensures (c.if-not-row_quiet.false)))
-
-pub overflow_add-i-else-is_listed : goal.overflow_add-i-else-is_listed
-overflow_add-i-else-is_listed c =
-    let q = c.requires.3.shards.count in let m = shards-many c.args.map.now in let g = c.get8-total.ensures in let lt = c.loop-i-test.true in omega arith
-
-pub loop-i-smaller : goal.loop-i-smaller
-loop-i-smaller c = let lt = c.loop-i-test.true in omega arith
-
 pub loop-i-preserved : goal.loop-i-preserved
 loop-i-preserved c =
-    let m = shards-many c.args.map.now in let g = c.get8-total.ensures in let go = c.loop-i-test.true in (omega arith, c.loop-i.invariant.1, turn_past c.args.header.now c.args.map.now c.args.count c.requires.0 c.requires.3 c.loop-i.j c.loop-i.i c.loop-i.invariant.2 (omega arith) c.shard_at-row.result c.shard_at-row.ensures c.get8-me.result c.get8-own.result c.get8-me.ensures c.get8-own.ensures (sym c.is_listed.ensures ∙ c.if-is_listed.false))
+    let m = shards-many c.args.map.now in let g = c.get8-total.ensures in let go = c.loop-i-test.true in
+    elim c.if-is_listed.branch [
+      | then-is_listed+else-count-j+else-place_at-j+else-not-row_quiet w ↦ let lt = w.if-count-j.false in rw w.j-is (omega arith, omega arith, turn_on c.args.header.now c.args.map.now c.args.count c.requires.0 c.requires.3 c.loop-i.j c.loop-i.i c.loop-i.invariant.2 (omega arith) c.shard_at-row.result c.shard_at-row.ensures c.get8-me.result c.get8-own.result c.get8-me.ensures c.get8-own.ensures (sym c.is_listed.ensures ∙ w.if-is_listed.true) lt w.place_at.result w.place_at.ensures w.if-place_at-j.false (w.row_quiet.ensures (w.if-not-row_quiet.false)))
+      | else-is_listed w ↦ rw w.j-is (omega arith, c.loop-i.invariant.1, turn_past c.args.header.now c.args.map.now c.args.count c.requires.0 c.requires.3 c.loop-i.j c.loop-i.i c.loop-i.invariant.2 (omega arith) c.shard_at-row.result c.shard_at-row.ensures c.get8-me.result c.get8-own.result c.get8-me.ensures c.get8-own.ensures (sym c.is_listed.ensures ∙ w.if-is_listed.false))
+    ]
 
 pub returns : goal.returns
 returns c =

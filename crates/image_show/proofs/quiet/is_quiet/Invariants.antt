@@ -6,7 +6,3 @@ use Rattle.image_show.proofs.quiet.is_quiet.Given as goal
 abbrev pub invariant-loop-i : goal.invariant-loop-i
 invariant-loop-i l =
     (l.i ≤ l.total) × (l.j ≤ l.count) × (Quieting (node_at l.header) l.map l.j l.i)
-
-abbrev pub decreases-loop-i : goal.decreases-loop-i
-decreases-loop-i l =
-    l.total - l.i

@@ -9,7 +9,3 @@ use Rattle.image_show.proofs.row.any_lost.Given as goal
 abbrev pub invariant-loop-i : goal.invariant-loop-i
 invariant-loop-i l =
     (l.i ≤ l.count) × (any (lost (take l.holders l.replicas)) (take l.count (peers_at l.s l.at)) ≡ any (lost (take l.holders l.replicas)) (drop l.i (take l.count (peers_at l.s l.at))))
-
-abbrev pub decreases-loop-i : goal.decreases-loop-i
-decreases-loop-i l =
-    l.count - l.i

@@ -9,7 +9,3 @@ use Rattle.image_show.proofs.row.any_missing.Given as goal
 abbrev pub invariant-loop-i : goal.invariant-loop-i
 invariant-loop-i l =
     (l.i ≤ l.holders) × (with_rows l.me [] (drop l.i (take l.holders l.replicas)) (take l.count (peers_at l.s l.at)) ≡ with_rows l.me [] (take l.holders l.replicas) (take l.count (peers_at l.s l.at)))
-
-abbrev pub decreases-loop-i : goal.decreases-loop-i
-decreases-loop-i l =
-    l.holders - l.i

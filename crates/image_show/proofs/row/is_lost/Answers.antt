@@ -1,8 +1,11 @@
-use mathlib.Core.Path.{◌≡◌, refl}
+use mathlib.Core.Path.{refl}
 use Rattle.spec.specs.Lists.{◌and◌}
-use mathlib.Core.Bool.{not}
 use Rattle.image_show.proofs.row.is_lost.Goals as goal
 
-pub returns : goal.returns
-returns c =
-    let e : c.both.result ≡ (c.args.p.member and not c.is_holder-listed.result) = c.both.ensures in rw (e, c.is_holder-listed.ensures) refl
+pub returns-then-p : goal.returns-then-p
+unfolding ◌and◌
+returns-then-p c = rw (c.if-p.true, c.is_holder-listed.ensures) refl
+
+pub returns-else-p : goal.returns-else-p
+unfolding ◌and◌
+returns-else-p c = rw c.if-p.false refl

@@ -14,14 +14,10 @@ use Rattle.image_show.proofs.row.same_replicas.Goals as goal
 pub loop-i-init : goal.loop-i-init
 loop-i-init c = (omega arith, refl)
 
-pub returns-then-not-both : goal.returns-then-not-both
-returns-then-not-both c = λ e. not_both false e refl
-
 pub loop-i-preserved : goal.loop-i-preserved
 loop-i-preserved c =
-    let a = c.args.a in let b = c.args.b in let i = c.loop-i.i in let k = c.requires in let lt = c.loop-i-test.true in
-    let e : eqb (get_or a i no_copy).node.0 (get_or b i no_copy).node.0 and eqb (get_or a i no_copy).incarnation (get_or b i no_copy).incarnation ≡ true = sym c.both.ensures ∙ c.if-not-both.false in
-    (omega arith, copies-on a b i no_copy (search rules) (search rules) c.loop-i.invariant.1 (eqb-true _ _ (and_left (eqb (get_or a i no_copy).node.0 (get_or b i no_copy).node.0) _ e)) (eqb-true _ _ (and_right (eqb (get_or a i no_copy).node.0 (get_or b i no_copy).node.0) _ e)))
+    let k = c.requires in let lt = c.loop-i-test.true in
+    (omega arith, copies-on c.args.a c.args.b c.loop-i.i no_copy (search rules) (search rules) c.loop-i.invariant.1 c.if-x-y.false c.if-x-y-2.false)
 
 pub returns : goal.returns
 returns c =

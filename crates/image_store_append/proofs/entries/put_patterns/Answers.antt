@@ -1,4 +1,3 @@
-use borrow.Author.Rules.{rules}
 use native.Mathlib.Omega.{arith}
 use mathlib.Core.Path.{refl, sym, ◌∙◌, ap}
 use mathlib.Core.List.{List}
@@ -19,12 +18,6 @@ get4-x-requires c = let p = c.requires.1 in let t = c.loop-i-test.true in omega 
 
 pub put4-requires : goal.put4-requires
 put4-requires c = let p = c.requires.0 in let t = c.loop-i-test.true in let l = c.loop-i.invariant.1 in omega arith
-
-pub overflow_add-i : goal.overflow_add-i
-overflow_add-i c = let t = c.loop-i-test.true in let g = c.well_formed in search rules
-
-pub loop-i-smaller : goal.loop-i-smaller
-loop-i-smaller c = let t = c.loop-i-test.true in omega arith
 
 pub loop-i-preserved : goal.loop-i-preserved
 loop-i-preserved c =

@@ -7,7 +7,3 @@ use Rattle.image_store_append.proofs.words.insert_word.Given as goal
 abbrev pub invariant-loop-k : goal.invariant-loop-k
 invariant-loop-k l =
     (l.i ≤ l.k) × (l.k ≤ l.n) × (length l.out ≡ length l.initial.out) × Up l.initial.out l.at l.n l.out l.k
-
-abbrev pub decreases-loop-k : goal.decreases-loop-k
-decreases-loop-k l =
-    l.k

@@ -12,9 +12,6 @@ get8-x-requires c = let p = c.requires.1 in let t = c.loop-k-test.true in let l 
 pub put8-requires : goal.put8-requires
 put8-requires c = let p = c.requires.1 in let t = c.loop-k-test.true in let l = c.loop-k.invariant.2 in omega arith
 
-pub loop-k-smaller : goal.loop-k-smaller
-loop-k-smaller c = let t = c.loop-k-test.true in omega arith
-
 pub loop-k-preserved : goal.loop-k-preserved
 loop-k-preserved c =
     let a = c.args in let l = c.loop-k in let t = c.loop-k-test.true in let w = l.invariant.0 in

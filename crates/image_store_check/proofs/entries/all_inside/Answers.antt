@@ -3,8 +3,6 @@ use mathlib.Core.Path.{◌≡◌, refl, sym, ◌∙◌, ap}
 use Prim.Native.Nat.{◌+◌, ◌<◌}
 use lib.ListN.{length, get_or, drop}
 use mathlib.Core.Bool.{Bool}
-use mathlib.Core.Logic.{⊎_elim}
-use borrow.Author.Tests.{not-true, not-false}
 use Rattle.spec.specs.Lists.{◌and◌, every}
 use Rattle.spec.specs.Nearest.Order.{bits_in_domain}
 use Rattle.log_check.proofs.Domain.{pass_on, pass_out, pass_end}

@@ -1,22 +1,14 @@
-use native.Mathlib.Omega.{arith}
-use mathlib.Core.Path.{sym, ◌∙◌}
-use mathlib.Core.Bool.{true}
-use Rattle.log_check.proofs.Fitting.{entries_on, entries_stop, entries_end}
+use Rattle.std.proofs.Common.{rules, ◌≡◌, ◌<◌, ℕ, Bool, true, false, refl, sym}
+use Rattle.std.proofs.iter.runs.Sources.{ranges}
+use Rattle.log_store.specs.Store.{every_below}
+use Rattle.log_check.proofs.Fitting.{entries_stop, entries_end}
 use Rattle.image_store_check.specs.Test.{entry_fits}
 use Rattle.image_store_check.proofs.entries.each_fits.Goals as goal
 
-pub loop-i-init : goal.loop-i-init
-loop-i-init c = (omega arith, λ j h. absurd (omega arith))
-
-pub entry_fits-requires : goal.entry_fits-requires
-entry_fits-requires c = let p = c.requires.0 in let t = c.loop-i-test.true in (omega arith, c.requires.1)
-
-pub returns-then-not-entry_fits : goal.returns-then-not-entry_fits
-returns-then-not-entry_fits c = entries_stop _ _ c.loop-i.i c.loop-i-test.true (sym c.entry_fits.ensures ∙ c.if-not-entry_fits.true)
-
-pub loop-i-preserved : goal.loop-i-preserved
-loop-i-preserved c =
-    (omega arith, entries_on (entry_fits c.args.s.now c.args.base) c.loop-i.i c.loop-i.invariant.1 (sym c.entry_fits.ensures ∙ c.if-not-entry_fits.false))
+each_below : (p : ℕ → Bool) (n : ℕ) (r : Bool) → (r ≡ true → (k : ℕ) → k < n → true ≡ p k) → (r ≡ false → (k : ℕ) × (k < n) × (false ≡ p k)) → r ≡ every_below p n
+each_below p n true f g = entries_end p n n refl (λ k h. sym (f refl k h))
+each_below p n false f g = let w = g refl in entries_stop p n w.0 w.1 (sym w.2)
 
 pub returns : goal.returns
-returns c = entries_end _ c.loop-i.i _ (omega arith) c.loop-i.invariant.1
+unfolding entry_fits
+returns c = each_below (entry_fits c.args.s.now c.args.base) c.args.count _ (search (rules, ranges)) (search (rules, ranges))

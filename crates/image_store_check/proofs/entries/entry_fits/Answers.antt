@@ -1,4 +1,5 @@
 use native.Mathlib.Omega.{arith}
+use mathlib.Core.Path.{refl}
 use Rattle.image_store_check.proofs.EntryLaws.{no_offset, no_shape, a_delete, short, by-patterns}
 use Rattle.image_store_check.proofs.entries.entry_fits.Goals as goal
 
@@ -16,8 +17,8 @@ returns-then-code-ne1 c =
 
 pub all_inside-requires : goal.all_inside-requires
 all_inside-requires c =
-    let p = c.requires.0 in let q = c.requires.1 in let w = c.wide-n.ensures.0 in let k = short c.args.s.now c.args.base c.args.i p c.get8.result c.get8.ensures c.if-get8-i.false c.is_listed.result c.is_listed.ensures (c.if-not-is_listed.false) c.if-code-ne1.false in omega arith
+    let p = c.requires.0 in let q = c.requires.1 in let k = short c.args.s.now c.args.base c.args.i p c.get8.result c.get8.ensures c.if-get8-i.false c.is_listed.result c.is_listed.ensures (c.if-not-is_listed.false) c.if-code-ne1.false in omega arith
 
 pub returns : goal.returns
 returns c =
-    by-patterns c.args.s.now c.args.base c.args.i c.requires.0 c.get8.result c.get8.ensures c.if-get8-i.false c.is_listed.result c.is_listed.ensures (c.if-not-is_listed.false) c.if-code-ne1.false c.wide-n.result c.wide-n.ensures.0 c.all_inside.result c.all_inside.ensures
+    by-patterns c.args.s.now c.args.base c.args.i c.requires.0 c.get8.result c.get8.ensures c.if-get8-i.false c.is_listed.result c.is_listed.ensures (c.if-not-is_listed.false) c.if-code-ne1.false _ refl c.all_inside.result c.all_inside.ensures

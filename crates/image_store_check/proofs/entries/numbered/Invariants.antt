@@ -1,5 +1,5 @@
 use mathlib.Core.Path.{◌≡◌}
-use Prim.Native.Nat.{◌-◌, ◌≤◌}
+use Prim.Native.Nat.{◌≤◌}
 use Rattle.log_store.specs.Store.{every_below}
 use Rattle.log_check.specs.Entries.{number_fits}
 use Rattle.image_store_check.specs.Test.{offsets_in}
@@ -8,7 +8,3 @@ use Rattle.image_store_check.proofs.entries.numbered.Given as goal
 abbrev pub invariant-loop-i : goal.invariant-loop-i
 invariant-loop-i l =
     (l.i ≤ l.count) × (l.ok ≡ every_below (number_fits (offsets_in l.s l.base)) l.i)
-
-abbrev pub decreases-loop-i : goal.decreases-loop-i
-decreases-loop-i l =
-    l.count - l.i

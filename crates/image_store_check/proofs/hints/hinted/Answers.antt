@@ -14,7 +14,7 @@ get8-requires c = let p = c.requires.1 in let q = c.requires.2 in let t = c.if-c
 
 pub returns-then-get8-id : goal.returns-then-get8-id
 returns-then-get8-id c =
-    let p = c.requires.0 in let m = c.requires.1 in let g = c.if-count-k.false in λ e. (c.loop-steps.k, c.if-k-i.false, c.if-count-k.false, ids-same c.args.s.now c.args.base c.args.i c.loop-steps.k (omega arith) (omega arith) c.get8-id.result c.get8.result c.get8-id.ensures c.get8.ensures c.if-get8-id.true)
+    let p = c.requires.0 in let m = c.requires.1 in let g = c.if-count-k.false in λ e. (c.loop.k, c.if-k-i.false, c.if-count-k.false, ids-same c.args.s.now c.args.base c.args.i c.loop.k (omega arith) (omega arith) c.get8-id.result c.get8.result c.get8-id.ensures c.get8.ensures c.if-get8-id.true)
 
 pub returns : goal.returns
 returns c = no_hint

@@ -1,5 +1,5 @@
 use mathlib.Core.Path.{◌≡◌}
-use Prim.Native.Nat.{◌-◌, ◌≤◌}
+use Prim.Native.Nat.{◌≤◌}
 use lib.ListN.{length}
 use Rattle.log_check.specs.Conditions.{Marked}
 use Rattle.image_store.specs.Image.{places_in}
@@ -9,7 +9,3 @@ use Rattle.image_store_check.proofs.rows.mark_rows.Given as goal
 abbrev pub invariant-loop-j : goal.invariant-loop-j
 invariant-loop-j l =
     (l.j ≤ l.stored) × (length l.marks ≡ 1024) × Marked (places_in l.s l.base) l.marks l.j × RowsFitIn l.s l.base l.count l.j
-
-abbrev pub decreases-loop-j : goal.decreases-loop-j
-decreases-loop-j l =
-    l.stored - l.j

@@ -2,7 +2,7 @@ use native.Mathlib.Omega.{arith}
 use mathlib.Core.Path.{◌≡◌, sym, ◌∙◌}
 use Prim.Native.Nat.{◌+◌, ◌-◌, ◌/◌}
 use lib.ListN.{get_or}
-use Rattle.log_check.proofs.Walking.{seek_up, seek_down}
+use Rattle.image_store_check.proofs.Seeking.{seek_up, seek_down}
 use Rattle.image_store.specs.Image.{keys_in}
 use Rattle.image_store_check.proofs.EntryLaws.{word_in}
 use Rattle.image_store_check.proofs.rows.seek.Goals as goal

@@ -26,9 +26,6 @@ pub remember-requires : goal.remember-requires
 remember-requires c =
     let k = c.requires.0.count in let w = c.loop-i.invariant.0 in let t = c.loop-i-test.true in (omega arith, c.loop-i.invariant.1, c.loop-i.invariant.2)
 
-pub loop-i-smaller : goal.loop-i-smaller
-loop-i-smaller c = let t = c.loop-i-test.true in omega arith
-
 pub loop-i-preserved : goal.loop-i-preserved
 loop-i-preserved c =
     let a = c.args in let s = a.s.now in let l = c.loop-i in (

@@ -10,7 +10,3 @@ use Rattle.image_store_check.proofs.settled.all_settled.Given as goal
 abbrev pub invariant-loop-i : goal.invariant-loop-i
 invariant-loop-i l =
     (l.i ≤ l.count) × (length l.heads ≡ 2039) × (length l.nexts ≡ 1024) × From (ids_in l.s l.base) (codes_in l.s l.base) (keys_in l.s l.base) (places_in l.s l.base) l.count l.stored l.i
-
-abbrev pub decreases-loop-i : goal.decreases-loop-i
-decreases-loop-i l =
-    l.i

@@ -1,6 +1,5 @@
 use mathlib.Core.Path.{refl, sym, ap, ◌∙◌}
 use native.Mathlib.Omega.{arith}
-use mathlib.Core.Bool.{true}
 use Rattle.spec.specs.Lists.{every}
 use Rattle.spec.specs.Node.Wire.{entry_in_domain}
 use Rattle.log_domain.proofs.InMessage.{entries_start, entries_all, entries_first, entry-op, entries_rest, domain_first, domain_rest}
@@ -22,9 +21,6 @@ store_under-t-requires c =
     let n = c.args.p.len in
     let t = c.loop-i-test.true in
     (l.invariant.4.sized, l.invariant.4.well, entry-op b n l.at l.i t l.invariant.1 _ c.entry_at-e.ensures, domain_first b n l.at l.i t l.invariant.1 _ c.entry_at-e.ensures l.invariant.2)
-
-pub overflow_add-i : goal.overflow_add-i
-overflow_add-i c = let p = c.requires.2 in omega (arith, p.0, c.loop-i-test.true)
 
 pub loop-i-preserved : goal.loop-i-preserved
 loop-i-preserved c =

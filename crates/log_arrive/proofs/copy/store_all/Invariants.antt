@@ -18,7 +18,3 @@ invariant-loop-i l =
     × OnWay l.own.0 (map stored_entry (entries_in l.s (part l.initial.at l.n)))
     (lent (columns l.initial.epochs l.initial.offsets l.initial.ids l.initial.codes l.initial.lengths l.initial.floats) l.initial.keys l.initial.places l.count l.stored)
     (lent (columns l.epochs l.offsets l.ids l.codes l.lengths l.floats) l.keys l.places l.c l.k) (map stored_entry (entries_in l.s (part l.at (l.n - l.i))))
-
-abbrev pub decreases-loop-i : goal.decreases-loop-i
-decreases-loop-i l =
-    l.n - l.i

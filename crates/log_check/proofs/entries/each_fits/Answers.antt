@@ -1,6 +1,5 @@
 use native.Mathlib.Omega.{arith}
 use mathlib.Core.Path.{sym, ◌∙◌}
-use mathlib.Core.Bool.{true}
 use Rattle.log_check.proofs.Fitting.{entries_on, entries_stop, entries_end}
 use Rattle.log_check.specs.Entries.{entry_fits}
 use Rattle.log_check.proofs.entries.each_fits.Goals as goal

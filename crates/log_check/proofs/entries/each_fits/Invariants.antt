@@ -1,6 +1,6 @@
 use mathlib.Core.Path.{◌≡◌}
 use mathlib.Core.List.{List}
-use Prim.Native.Nat.{ℕ, ◌-◌, ◌≤◌, ◌<◌}
+use Prim.Native.Nat.{ℕ, ◌≤◌, ◌<◌}
 use mathlib.Core.Bool.{true}
 use Rattle.log_check.specs.Entries.{entry_fits}
 use Rattle.log_store.specs.View.{columns}
@@ -9,7 +9,3 @@ use Rattle.log_check.proofs.entries.each_fits.Given as goal
 abbrev pub invariant-loop-i : goal.invariant-loop-i
 invariant-loop-i l =
     (l.i ≤ l.count) × ((es is : List ℕ) (j : ℕ) → j < l.i → entry_fits (columns es l.offsets is l.codes l.lengths l.floats) j ≡ true)
-
-abbrev pub decreases-loop-i : goal.decreases-loop-i
-decreases-loop-i l =
-    l.count - l.i

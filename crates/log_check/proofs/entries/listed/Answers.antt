@@ -1,7 +1,5 @@
 use native.Mathlib.Omega.{arith}
 use mathlib.Core.Path.{◌≡◌, refl, sym, ◌∙◌, ap}
-use mathlib.Core.Logic.{⊎_elim}
-use borrow.Author.Tests.{not-true, not-false}
 use Rattle.log_store.specs.Store.{every_below}
 use Rattle.log_check.specs.Entries.{shape_at}
 use Rattle.log_check.proofs.Domain.{column_on, column_out}

@@ -8,7 +8,7 @@ pub returns-then-count-k : goal.returns-then-count-k
 returns-then-count-k c = no_hint
 
 pub returns-then-ids-k : goal.returns-then-ids-k
-returns-then-ids-k c = λ e. (c.loop-steps.k, c.if-k-i.false, c.if-count-k.false, c.if-ids-k.true)
+returns-then-ids-k c = λ e. (c.loop.k, c.if-k-i.false, c.if-count-k.false, c.if-ids-k.true)
 
 pub returns : goal.returns
 returns c = no_hint

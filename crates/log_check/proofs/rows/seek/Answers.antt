@@ -1,19 +1,13 @@
-use native.Mathlib.Omega.{arith}
-use Prim.Native.Nat.{◌+◌, ◌-◌, ◌/◌}
-use Rattle.log_check.proofs.Walking.{seek_up, seek_down}
+use Prim.Native.Nat.{ℕ}
+use lib.Dec.{ltb}
+use Rattle.std.proofs.Common.{rules}
+use Rattle.std.proofs.lemmas.List.Sorted.{IsPartitionPoint-from_clause}
+use Rattle.log_check.proofs.Walking.{seek-parted, seek-done}
 use Rattle.log_check.proofs.rows.seek.Goals as goal
-
-pub loop-low-init : goal.loop-low-init
-loop-low-init c = (omega arith, omega arith, λ j h. absurd (omega arith), λ j h g. absurd (omega arith))
-
-pub loop-low-preserved-then-keys-mid : goal.loop-low-preserved-then-keys-mid
-loop-low-preserved-then-keys-mid c =
-    (omega arith, omega arith, seek_up c.args.keys.now c.args.n c.args.id c.requires.1 (c.loop-low.low + (c.loop-low.high - c.loop-low.low) / 2) (omega arith) c.if-keys-mid.true, c.loop-low.invariant.3)
-
-pub loop-low-preserved : goal.loop-low-preserved
-loop-low-preserved c =
-    (omega arith, omega arith, c.loop-low.invariant.2, seek_down c.args.keys.now c.args.n c.args.id c.requires.1 (c.loop-low.low + (c.loop-low.high - c.loop-low.low) / 2) c.if-keys-mid.false)
 
 pub returns : goal.returns
 returns c =
-    record { most = omega arith; below = c.loop-low.invariant.2; above = λ j h g. c.loop-low.invariant.3 j (omega arith) g }
+    let a = c.args in
+    let p = c.partition_point in
+    let point = IsPartitionPoint-from_clause (λ (k : ℕ). ltb k a.id) _ _ p.ensures.partitioned (seek-parted a.keys.now a.n a.id c.requires.1 c.requires.0) (λ x r q k. search rules) in
+    seek-done a.keys.now a.n a.id c.requires.1 c.requires.0 p.result p.ensures.bound point

@@ -9,7 +9,3 @@ use Rattle.log_domain.proofs.domain.entries_in_domain.Given as goal
 abbrev pub invariant-loop-i : goal.invariant-loop-i
 invariant-loop-i l =
     (l.i ≤ l.n) × EntriesThere l.s (part l.at (l.n - l.i)) × (every entry_in_domain (entries_in l.s (part l.at (l.n - l.i))) ≡ every entry_in_domain (entries_in l.s (part l.initial.at l.n)))
-
-abbrev pub decreases-loop-i : goal.decreases-loop-i
-decreases-loop-i l =
-    l.n - l.i

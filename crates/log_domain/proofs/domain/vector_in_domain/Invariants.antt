@@ -1,5 +1,4 @@
 use mathlib.Core.Path.{◌≡◌}
-use Prim.Native.Nat.{◌-◌, ◌≤◌}
 use lib.ListN.{drop}
 use Rattle.spec.specs.Lists.{◌and◌, every}
 use Rattle.spec.specs.Nearest.Order.{bits_in_domain}
@@ -8,8 +7,4 @@ use Rattle.log_domain.proofs.domain.vector_in_domain.Given as goal
 
 abbrev pub invariant-loop-i : goal.invariant-loop-i
 invariant-loop-i l =
-    (l.n ≡ l.v.len) × (l.i ≤ l.n) × (l.ok and every bits_in_domain (drop l.i (bits_in l.s l.v)) ≡ every bits_in_domain (bits_in l.s l.v))
-
-abbrev pub decreases-loop-i : goal.decreases-loop-i
-decreases-loop-i l =
-    l.n - l.i
+    (l.n ≡ l.v.len) × (l.ok and every bits_in_domain (drop l.i (bits_in l.s l.v)) ≡ every bits_in_domain (bits_in l.s l.v))

@@ -8,7 +8,3 @@ use Rattle.log_domain.proofs.growth.grows_to.Given as goal
 abbrev pub invariant-loop-i : goal.invariant-loop-i
 invariant-loop-i l =
     (l.i ≤ l.n) × EntriesThere l.s (part l.at (l.n - l.i)) × (l.last ≤ l.count + l.i) × (grown l.last (entries_in l.s (part l.at (l.n - l.i))) ≡ grown l.count (entries_in l.s (part l.initial.at l.n)))
-
-abbrev pub decreases-loop-i : goal.decreases-loop-i
-decreases-loop-i l =
-    l.n - l.i

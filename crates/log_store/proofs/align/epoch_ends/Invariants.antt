@@ -1,13 +1,9 @@
 use mathlib.Core.Path.{◌≡◌}
-use Prim.Native.Nat.{◌-◌, ◌≤◌}
+use Prim.Native.Nat.{◌≤◌}
 use lib.ListN.{length}
 use Rattle.log_store.specs.Align.{table_of, EndsOf}
 use Rattle.log_store.proofs.align.epoch_ends.Given as goal
 
 abbrev pub invariant-loop-i : goal.invariant-loop-i
 invariant-loop-i l =
-    (l.i ≤ l.count) × (l.n ≤ l.i) × (length l.froms ≡ length l.initial.froms) × (length l.ends ≡ length l.initial.ends) × EndsOf l.epochs l.offsets l.i (table_of l.froms l.ends l.n)
-
-abbrev pub decreases-loop-i : goal.decreases-loop-i
-decreases-loop-i l =
-    l.count - l.i
+    (l.n ≤ l.i) × (length l.froms ≡ length l.initial.froms) × (length l.ends ≡ length l.initial.ends) × EndsOf l.epochs l.offsets l.i (table_of l.froms l.ends l.n)

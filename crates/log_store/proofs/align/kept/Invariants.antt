@@ -1,4 +1,4 @@
-use Prim.Native.Nat.{◌-◌, ◌≤◌}
+use Prim.Native.Nat.{◌≤◌}
 use Rattle.log_store.proofs.Aligning.{KeptFrom}
 use Rattle.log_store.specs.Align.{table_of}
 use Rattle.log_store.proofs.align.kept.Given as goal
@@ -6,7 +6,3 @@ use Rattle.log_store.proofs.align.kept.Given as goal
 abbrev pub invariant-loop-i : goal.invariant-loop-i
 invariant-loop-i l =
     (l.i ≤ l.count) × KeptFrom l.epochs l.offsets l.count l.end.0 (table_of l.froms l.ends l.pairs) l.i
-
-abbrev pub decreases-loop-i : goal.decreases-loop-i
-decreases-loop-i l =
-    l.count - l.i

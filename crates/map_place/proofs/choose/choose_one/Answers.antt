@@ -19,4 +19,4 @@ listed-requires c = c.requires.1
 
 pub returns : goal.returns
 returns c =
-    record { round = chosen_some (round_in c.args.ids.now c.args.counts.now c.args.count c.args.list) _ _ (sym c.lightest_of-best.ensures ∙ ap best_of c.in-At.is) c.raise.ensures.loads c.listed.ensures.0; size = omega (arith, c.listed.ensures.1); long = c.raise.ensures.long }
+    record { round = chosen_some (round_in c.args.ids.now c.args.counts.now c.args.count c.args.list) _ _ (sym c.lightest_of-best.ensures ∙ ap best_of c.in-Some.is) c.raise.ensures.loads c.listed.ensures.0; size = omega (arith, c.listed.ensures.1); long = c.raise.ensures.long }

@@ -7,7 +7,3 @@ use Rattle.map_place.proofs.placed.choose_list.Given as goal
 abbrev pub invariant-loop-i : goal.invariant-loop-i
 invariant-loop-i l =
     (Columns l.ids l.counts l.count) × (l.i ≤ l.replication) × (l.list.count ≤ l.i) × Light (2048 + l.i) (loads_in l.ids l.counts l.count) × (choose_nodes (l.replication - l.i) (round_in l.ids l.counts l.count l.list) ≡ choose_nodes l.replication (round_in l.ids l.initial.counts l.count l.initial.list))
-
-abbrev pub decreases-loop-i : goal.decreases-loop-i
-decreases-loop-i l =
-    l.replication - l.i

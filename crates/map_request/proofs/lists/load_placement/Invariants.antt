@@ -16,7 +16,3 @@ invariant-loop-i l =
     (l.i ≤ l.n) × (l.n ≤ 16) × Left l.s l.n l.i l.at × (length l.lists ≡ 16)
     × (map view_list (take l.i l.lists) ++ value_n (value list_f l.s) (next list_f l.s) (l.n - l.i) l.at ≡ value_n (value list_f l.s) (next list_f l.s) l.n l.initial.at)
     × (every (λ l. leb l.count 8) (take l.i l.lists) ≡ true)
-
-abbrev pub decreases-loop-i : goal.decreases-loop-i
-decreases-loop-i l =
-    l.n - l.i

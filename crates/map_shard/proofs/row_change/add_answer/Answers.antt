@@ -5,7 +5,6 @@ use Prim.Native.Nat.{◌≤◌}
 use lib.ListN.{length, take}
 use Rattle.spec.specs.Map.Change.{decide_change}
 use borrow.Author.Tests.{le-leb, lt-leb}
-use mathlib.Core.Bool.{true, false}
 use lib.Seq.{length-take-le}
 use Rattle.map_tables.proofs.Tables.{of_field}
 use Rattle.map_shard.proofs.row_change.add_answer.Goals as goal

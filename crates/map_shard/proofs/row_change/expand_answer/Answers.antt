@@ -1,6 +1,5 @@
 use mathlib.Core.Path.{sym, ◌∙◌}
 use Rattle.spec.specs.Map.Change.{decide_change}
-use mathlib.Core.Bool.{true, false}
 use Rattle.map_shard.proofs.row_change.expand_answer.Goals as goal
 
 pub returns-then-has_synced : goal.returns-then-has_synced

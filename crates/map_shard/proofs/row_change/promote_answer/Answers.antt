@@ -1,7 +1,6 @@
 use mathlib.Core.Path.{sym, ◌∙◌}
 use Rattle.spec.specs.Map.Change.{decide_change}
 use borrow.Author.Tests.{eq-eqb, ne_eqb}
-use mathlib.Core.Bool.{true, false}
 use Rattle.map_shard.proofs.row_change.promote_answer.Goals as goal
 
 pub returns-then-epoch : goal.returns-then-epoch

@@ -1,28 +1,14 @@
-use borrow.Author.Rules.{rules}
-use native.Mathlib.Omega.{arith}
-use mathlib.Core.Path.{◌≡◌, sym}
-use Prim.Native.Nat.{◌≤◌}
-use lib.ListN.{length}
-use mathlib.Core.Bool.{true, false}
-use borrow.Author.Tests.{eq-eqb, ne_eqb}
+use Rattle.std.proofs.Common.{rules, tests}
+use mathlib.Core.Path.{◌∙◌}
+use Rattle.std.proofs.lemmas.Iterator.{YieldsList-from_slice}
+use Rattle.std.proofs.lemmas.Iterator.Search.{any_from_yields_List}
 use Rattle.spec.specs.Map.Change.{holds, is_on}
-use Rattle.map_tables.proofs.Tables.{any-on, any_stop, any-end, of_field}
+use Rattle.map_tables.specs.View.{view_holders}
+use Rattle.map_tables.proofs.Tables.{any-list}
 use Rattle.map_tables.proofs.holders_of.has_holder.Goals as goal
-use Rattle.map_tables.proofs.holders_of.has_holder.Goals.{Start}
-
-fits : (c : Start) → c.args.h.count ≤ length c.args.h.items
-fits c = let h : length c.args.h.items ≡ 8 = search (rules, of_field) in omega (arith, c.requires)
-
-pub returns-then-row-node : goal.returns-then-row-node
-unfolding holds
-returns-then-row-node c =
-    sym (any_stop (is_on c.args.node.0) c.args.h.items c.args.h.count (fits (goal.at.returns-then-row-node c).Start) c.loop-i.i c.loop-i.invariant.1 _ (search rules) (eq-eqb _ _ c.if-row-node.true))
-
-pub loop-i-preserved : goal.loop-i-preserved
-loop-i-preserved c =
-    (search rules, any-on (is_on c.args.node.0) c.args.h.items c.args.h.count (fits (goal.at.loop-i-preserved c).Start) c.loop-i.i c.loop-i.invariant.1 _ (search rules) (ne_eqb _ _ c.if-row-node.false))
 
 pub returns : goal.returns
 unfolding holds
 returns c =
-    sym (any-end (is_on c.args.node.0) c.args.h.items c.args.h.count (fits (goal.at.returns c).Start) c.loop-i.i c.loop-i.invariant.1 (search rules))
+    let xs = view_holders c.args.h in
+    any_from_yields_List (is_on c.args.node.0) _ _ _ c.any.ensures.ran (YieldsList-from_slice xs cc) (λ x b q k. search (rules, tests)) ∙ any-list (is_on c.args.node.0) xs

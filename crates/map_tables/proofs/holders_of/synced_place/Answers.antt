@@ -1,9 +1,8 @@
 use borrow.Author.Rules.{rules}
 use native.Mathlib.Omega.{arith}
-use mathlib.Core.Path.{◌≡◌}
+use mathlib.Core.Path.{◌≡◌, sym, ◌∙◌}
 use Prim.Native.Nat.{◌≤◌}
 use lib.ListN.{length}
-use mathlib.Core.Bool.{true, false}
 use borrow.Author.Tests.{lt-ltb, le-ltb}
 use Rattle.spec.specs.Map.Change.{id_below}
 use Rattle.map_tables.proofs.Tables.{row_on, row_stop, row-end, of_field}
@@ -23,4 +22,5 @@ loop-i-preserved c =
 
 pub returns : goal.returns
 returns c =
-    row-end c.args.s.items c.args.s.count (fits (goal.at.returns c).Start) (λ y. id_below y c.args.node) c.loop-i.i c.loop-i.invariant.1 (search rules)
+    let e : c.loop-i.i ≡ c.args.s.count = search rules in
+    sym e ∙ row-end c.args.s.items c.args.s.count (fits (goal.at.returns c).Start) (λ y. id_below y c.args.node) c.loop-i.i c.loop-i.invariant.1 (search rules)

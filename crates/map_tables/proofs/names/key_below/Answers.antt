@@ -1,16 +1,16 @@
 use mathlib.Core.Path.{sym, ◌∙◌}
-use Rattle.map_tables.specs.Names.{view_key}
-use Rattle.map_tables.proofs.NameLaws.{below-name, above_shard, below-shard}
+use Rattle.spec.specs.Keys.{key_below}
+use Rattle.spec.specs.Lists.{◌and◌, ◌or◌}
 use Rattle.map_tables.proofs.names.key_below.Goals as goal
 
 pub returns-then-name_below : goal.returns-then-name_below
-returns-then-name_below c =
-    sym (below-name (view_key c.args.a) (view_key c.args.b) (sym c.name_below.ensures ∙ c.if-name_below.true))
+unfolding key_below ◌or◌
+returns-then-name_below c = c.if-name_below.true ∙ rw (sym c.name_below.ensures ∙ c.if-name_below.true)
 
-pub returns-then-b-a : goal.returns-then-b-a
-returns-then-b-a c =
-    sym (above_shard (view_key c.args.a) (view_key c.args.b) (sym c.name_below.ensures ∙ c.if-name_below.false) c.if-b-a.true)
+pub returns-then-same_name : goal.returns-then-same_name
+unfolding key_below ◌or◌ ◌and◌
+returns-then-same_name c = rw (sym c.name_below.ensures ∙ c.if-name_below.false, sym c.same_name.ensures ∙ c.if-same_name.true)
 
-pub returns : goal.returns
-returns c =
-    c.same_name.ensures ∙ sym (below-shard (view_key c.args.a) (view_key c.args.b) (sym c.name_below.ensures ∙ c.if-name_below.false) c.if-b-a.false)
+pub returns-else-same_name : goal.returns-else-same_name
+unfolding key_below ◌or◌ ◌and◌
+returns-else-same_name c = c.if-same_name.false ∙ rw (sym c.name_below.ensures ∙ c.if-name_below.false, sym c.same_name.ensures ∙ c.if-same_name.false)

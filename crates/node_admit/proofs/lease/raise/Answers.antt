@@ -1,17 +1,12 @@
 use mathlib.Core.Option.{some}
 use Rattle.spec.specs.Node.Lease.{raised}
-use native.Mathlib.Omega.{arith}
 use mathlib.Core.Path.{ap}
 use Rattle.node_admit.proofs.lease.raise.Goals as goal
 
-pub returns-in-Never : goal.returns-in-Never
+pub returns-in-None : goal.returns-in-None
 unfolding raised
-returns-in-Never c = rw c.in-Never.is
+returns-in-None c = rw c.in-None.is
 
-pub returns-then-t-end : goal.returns-then-t-end
+pub returns-in-Some : goal.returns-in-Some
 unfolding raised
-returns-then-t-end c = rw c.in-At.is (ap some (omega arith))
-
-pub returns-else-t-end : goal.returns-else-t-end
-unfolding raised
-returns-else-t-end c = rw c.in-At.is (ap some (omega arith))
+returns-in-Some c = rw c.in-Some.is (ap some c.max.ensures)

@@ -18,12 +18,6 @@ bounds-lengths-i c = omega arith
 pub overflow_add-total : goal.overflow_add-total
 overflow_add-total c = omega (arith, c.entry_size-total.ensures.1)
 
-pub overflow_add-i : goal.overflow_add-i
-overflow_add-i c = omega arith
-
-pub loop-i-smaller : goal.loop-i-smaller
-loop-i-smaller c = omega arith
-
 pub loop-i-preserved : goal.loop-i-preserved
 loop-i-preserved c =
     let a = c.args in

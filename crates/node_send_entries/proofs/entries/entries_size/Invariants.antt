@@ -6,7 +6,3 @@ use Rattle.node_send_entries.proofs.entries.entries_size.Given as goal
 abbrev pub invariant-loop-i : goal.invariant-loop-i
 invariant-loop-i l =
     (l.i ≤ l.end) × (l.total ≤ 1046 * l.i) × (l.total + rows_size l.codes l.lengths (l.end - l.i) l.i ≡ rows_size l.codes l.lengths (l.end - l.from) l.from)
-
-abbrev pub decreases-loop-i : goal.decreases-loop-i
-decreases-loop-i l =
-    l.end - l.i

@@ -35,12 +35,6 @@ overflow_add-p c =
     let z = size_step c.args.codes.now c.args.lengths.now c.args.end l.i h in
     omega (arith, c.entry_size-p.ensures.0)
 
-pub overflow_add-i : goal.overflow_add-i
-overflow_add-i c = omega arith
-
-pub loop-i-smaller : goal.loop-i-smaller
-loop-i-smaller c = omega arith
-
 pub loop-i-preserved : goal.loop-i-preserved
 loop-i-preserved c =
     let a = c.args in

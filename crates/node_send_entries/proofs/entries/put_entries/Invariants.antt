@@ -13,7 +13,3 @@ invariant-loop-i l =
     × (l.p + rows_size l.codes l.lengths (l.end - l.i) l.i ≡ l.at + rows_size l.codes l.lengths (l.end - l.from) l.from)
     × (sets l.out l.p (entries_sent (columns l.epochs l.offsets l.ids l.codes l.lengths l.floats) (l.end - l.i) l.i)
     ≡ sets l.initial.out l.at (entries_sent (columns l.epochs l.offsets l.ids l.codes l.lengths l.floats) (l.end - l.from) l.from))
-
-abbrev pub decreases-loop-i : goal.decreases-loop-i
-decreases-loop-i l =
-    l.end - l.i

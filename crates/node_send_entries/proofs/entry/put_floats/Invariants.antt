@@ -11,7 +11,3 @@ abbrev pub invariant-loop-i : goal.invariant-loop-i
 invariant-loop-i l =
     (l.i ≤ length l.v) × (length l.out ≡ length l.initial.out)
     × (sets l.out (l.at + 4 * l.i) (concat_map (bytes_of 4) (drop l.i (map bits_of l.v))) ≡ sets l.initial.out l.at (concat_map (bytes_of 4) (map bits_of l.v)))
-
-abbrev pub decreases-loop-i : goal.decreases-loop-i
-decreases-loop-i l =
-    length l.v - l.i

@@ -7,7 +7,3 @@ use Rattle.test_decode.proofs.items.entries.Given as goal
 abbrev pub invariant-loop-i : goal.invariant-loop-i
 invariant-loop-i l =
     (l.n ≤ 256) × (l.i ≤ l.n) × Row entry_f l.s (part l.at (l.n - l.i))
-
-abbrev pub decreases-loop-i : goal.decreases-loop-i
-decreases-loop-i l =
-    l.n - l.i

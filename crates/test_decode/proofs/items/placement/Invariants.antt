@@ -8,7 +8,3 @@ use Rattle.test_decode.proofs.items.placement.Given as goal
 abbrev pub invariant-loop-i : goal.invariant-loop-i
 invariant-loop-i l =
     (l.n ≤ 16) × (l.i ≤ l.n) × Row (many 1 0 8 u64) l.s (part l.at (l.n - l.i))
-
-abbrev pub decreases-loop-i : goal.decreases-loop-i
-decreases-loop-i l =
-    l.n - l.i

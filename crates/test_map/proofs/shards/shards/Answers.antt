@@ -8,10 +8,6 @@ pub overflow_mul-i : goal.overflow_mul-i
 overflow_mul-i c =
     let f = c.requires.shards in let e = c.get8-count.ensures in let h = c.loop-i-test.true in omega arith
 
-pub overflow_add-i : goal.overflow_add-i
-overflow_add-i c =
-    let f = c.requires.shards in let e = c.get8-count.ensures in let h = c.loop-i-test.true in omega arith
-
 pub shard_at-row-requires : goal.shard_at-row-requires
 shard_at-row-requires c =
     let l = c.requires.long in let f = c.requires.shards in let e = c.get8-count.ensures in let h = c.loop-i-test.true in omega arith

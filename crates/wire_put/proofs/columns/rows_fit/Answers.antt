@@ -2,7 +2,6 @@ use Prim.Native.Nat.{◌<◌}
 use mathlib.Core.Path.{sym, ◌∙◌}
 use native.Mathlib.Omega.{arith}
 use Rattle.spec_laws.proofs.Wire.Tests.{and_true, and_false}
-use borrow.Author.Tests.{not-true, not-false}
 use Rattle.wire_put.proofs.Rows.{fit-step}
 use Rattle.wire_put.proofs.columns.rows_fit.Goals as goal
 

@@ -6,7 +6,3 @@ use Rattle.wire_put.proofs.columns.rows_fit.Given as goal
 abbrev pub invariant-loop-i : goal.invariant-loop-i
 invariant-loop-i l =
     (l.i ≤ l.n) × (rows_fit l.codes l.lens l.n 0 ≡ rows_fit l.codes l.lens (l.n - l.i) l.i)
-
-abbrev pub decreases-loop-i : goal.decreases-loop-i
-decreases-loop-i l =
-    l.n - l.i

@@ -20,36 +20,36 @@ returns-then-c-v c = rw (lt-leb _ _ c.if-c-v.true)
 pub returns-then-b-lt32 : goal.returns-then-b-lt32
 unfolding text_fits
 returns-then-b-lt32 c =
-    let l = c.loop-i in
+    let l = c.loop-x in
     let a = c.args in
-    let h : l.i < length a.v.now = omega arith in
-    let low : leb 0x20 (get_or a.v.now l.i 0) ≡ false = lt-leb _ _ c.if-b-lt32.true in
-    sym (rw (le-leb _ _ l.invariant.1) (and_true _ ∙ l.invariant.2 ∙ range_step a.v.now l.i h ∙ (rw low (and_false _))))
+    let h : l.x-index < length a.v.now = omega arith in
+    let low : leb 0x20 (get_or a.v.now l.x-index 0) ≡ false = lt-leb _ _ c.if-b-lt32.true in
+    sym (rw (le-leb _ _ l.invariant.0) (and_true _ ∙ l.invariant.1 ∙ range_step a.v.now l.x-index h ∙ (rw low (and_false _))))
 
 pub returns-then-b-gt126 : goal.returns-then-b-gt126
 unfolding text_fits
 returns-then-b-gt126 c =
-    let l = c.loop-i in
+    let l = c.loop-x in
     let a = c.args in
-    let h : l.i < length a.v.now = omega arith in
-    let from : leb 0x20 (get_or a.v.now l.i 0) ≡ true = le-leb _ _ c.if-b-lt32.false in
-    let high : leb (get_or a.v.now l.i 0) 0x7E ≡ false = lt-leb _ _ c.if-b-gt126.true in
-    sym (rw (le-leb _ _ l.invariant.1) (and_true _ ∙ l.invariant.2 ∙ range_step a.v.now l.i h ∙ (rw (from, high) (and_true _ ∙ and_false _))))
+    let h : l.x-index < length a.v.now = omega arith in
+    let from : leb 0x20 (get_or a.v.now l.x-index 0) ≡ true = le-leb _ _ c.if-b-lt32.false in
+    let high : leb (get_or a.v.now l.x-index 0) 0x7E ≡ false = lt-leb _ _ c.if-b-gt126.true in
+    sym (rw (le-leb _ _ l.invariant.0) (and_true _ ∙ l.invariant.1 ∙ range_step a.v.now l.x-index h ∙ (rw (from, high) (and_true _ ∙ and_false _))))
 
-pub loop-i-preserved : goal.loop-i-preserved
-loop-i-preserved c =
-    let l = c.loop-i in
+pub loop-x-preserved : goal.loop-x-preserved
+loop-x-preserved c =
+    let l = c.loop-x in
     let a = c.args in
-    let h : l.i < length a.v.now = omega arith in
-    let from : leb 0x20 (get_or a.v.now l.i 0) ≡ true = le-leb _ _ c.if-b-lt32.false in
-    let upto : leb (get_or a.v.now l.i 0) 0x7E ≡ true = le-leb _ _ c.if-b-gt126.false in
-    (omega arith, l.invariant.1, l.invariant.2 ∙ range_step a.v.now l.i h ∙ (rw (from, upto) (and_true _ ∙ and_true _)))
+    let h : l.x-index < length a.v.now = omega arith in
+    let from : leb 0x20 (get_or a.v.now l.x-index 0) ≡ true = le-leb _ _ c.if-b-lt32.false in
+    let upto : leb (get_or a.v.now l.x-index 0) 0x7E ≡ true = le-leb _ _ c.if-b-gt126.false in
+    (l.invariant.0, l.invariant.1 ∙ range_step a.v.now l.x-index h ∙ (rw (from, upto) (and_true _ ∙ and_true _)))
 
 pub returns : goal.returns
 unfolding text_fits
 returns c =
-    let l = c.loop-i in
+    let l = c.loop-x in
     let a = c.args in
-    let z : l.i ≡ length a.v.now = omega arith in
-    let e : in_range 0x20 0x7E (drop l.i a.v.now) ≡ true = ap (λ (i : ℕ). in_range 0x20 0x7E (drop i a.v.now)) z ∙ (rw drop-length) in
-    sym (rw (le-leb _ _ l.invariant.1) (and_true _ ∙ l.invariant.2 ∙ e))
+    let z : l.x-index ≡ length a.v.now = omega arith in
+    let e : in_range 0x20 0x7E (drop l.x-index a.v.now) ≡ true = ap (λ (i : ℕ). in_range 0x20 0x7E (drop i a.v.now)) z ∙ (rw drop-length) in
+    sym (rw (le-leb _ _ l.invariant.0) (and_true _ ∙ l.invariant.1 ∙ e))

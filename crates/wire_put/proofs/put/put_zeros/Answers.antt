@@ -1,13 +1,15 @@
-use Prim.Native.Nat.{◌<◌}
-use mathlib.Core.Path.{◌∙◌}
+use Prim.Native.Nat.{ℕ, ◌+◌, ◌-◌}
+use mathlib.Core.Path.{◌≡◌, ap, ◌∙◌}
 use native.Mathlib.Omega.{arith}
-use lib.ListN.{length-set}
-use Rattle.wire_put.proofs.Writes.{zeros-step}
+use lib.ListN.{length, replicate, length-replicate}
+use borrow.Rule.Slice.PartMut.{mid_len}
+use Rattle.wire_put.proofs.Writes.{put-stored}
 use Rattle.wire_put.proofs.put.put_zeros.Goals as goal
 
-pub loop-i-preserved : goal.loop-i-preserved
-loop-i-preserved c =
-    let l = c.loop-i in
+pub returns : goal.returns
+returns c =
     let a = c.args in
-    let h : l.i < a.n = omega arith in
-    (omega arith, simp length-set l.invariant.1, zeros-step l.out a.at l.i a.n h ∙ l.invariant.2)
+    let n : length (replicate {A = ℕ} a.n 0) ≡ a.n = length-replicate a.n 0 in
+    let k : a.at + a.n - a.at ≡ a.n = omega arith in
+    put-stored a.out.now (replicate a.n 0) _ a.at _
+    (c.fill.ensures.after (λ y h. h) ∙ ap (λ (m : ℕ). replicate m 0) (mid_len a.at (a.at + a.n) a.out.now c.requires ∙ k)) (omega arith) (omega arith)

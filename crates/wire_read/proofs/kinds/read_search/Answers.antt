@@ -5,39 +5,39 @@ use Rattle.spec_laws.proofs.Wire.Tests.{and_left, and_right}
 use Rattle.wire_read.proofs.Messages.{head_bad, rest_bad, rest-left, rest_all, key-there, epoch-there, rest-there, same_search, search_not, search_is}
 use Rattle.wire_read.proofs.kinds.read_search.Goals as goal
 
-pub returns-in_default : goal.returns-in_default
-returns-in_default c =
-    search_not c.args.s.now (head_bad 0x24 (key_f ▸ (u64 ▸ (u32 ▸ vector_f))) (text 32 ▸ word 16) (vector_f) same_search c.args.s.now (omega arith) c.requires (sym c.skip_text.ensures ∙ c.in_default.is))
+pub returns-in_err-skip_text : goal.returns-in_err-skip_text
+returns-in_err-skip_text c =
+    c.from_residual.ensures ∙ search_not c.args.s.now (head_bad 0x24 (key_f ▸ (u64 ▸ (u32 ▸ vector_f))) (text 32 ▸ word 16) (vector_f) same_search c.args.s.now (omega arith) c.requires (sym c.skip_text.ensures ∙ c.in_err-skip_text.was))
 
-pub returns-in_default-skip_run : goal.returns-in_default-skip_run
-returns-in_default-skip_run c =
-    search_not c.args.s.now (rest_bad 0x24 (key_f ▸ (u64 ▸ (u32 ▸ vector_f))) (text 32 ▸ word 16) (vector_f) same_search c.args.s.now (omega arith) c.requires _ (sym c.skip_text.ensures ∙ c.in-Next.is) (sym c.skip_run.ensures ∙ c.in_default-skip_run.is))
+pub returns-in_err-end : goal.returns-in_err-end
+returns-in_err-end c =
+    c.from_residual-in_err-end.ensures ∙ search_not c.args.s.now (rest_bad 0x24 (key_f ▸ (u64 ▸ (u32 ▸ vector_f))) (text 32 ▸ word 16) (vector_f) same_search c.args.s.now (omega arith) c.requires _ (sym c.skip_text.ensures ∙ c.in_ok-skip_text.was) (sym c.skip_run.ensures ∙ c.in_err-end.was))
 
 pub returns-then-end-s : goal.returns-then-end-s
 returns-then-end-s c =
-    search_not c.args.s.now (rest-left 0x24 (key_f ▸ (u64 ▸ (u32 ▸ vector_f))) (text 32 ▸ word 16) (vector_f) same_search c.args.s.now (omega arith) c.requires _ (sym c.skip_text.ensures ∙ c.in-Next.is) _ (sym c.skip_run.ensures ∙ c.in-Next-skip_run.is) c.if-end-s.true)
+    search_not c.args.s.now (rest-left 0x24 (key_f ▸ (u64 ▸ (u32 ▸ vector_f))) (text 32 ▸ word 16) (vector_f) same_search c.args.s.now (omega arith) c.requires _ (sym c.skip_text.ensures ∙ c.in_ok-skip_text.was) _ (sym c.skip_run.ensures ∙ c.in_ok-end.was) c.if-end-s.true)
 
 pub key_at-key-requires : goal.key_at-key-requires
 key_at-key-requires c =
-    let w = rest_all 0x24 (key_f ▸ (u64 ▸ (u32 ▸ vector_f))) (text 32 ▸ word 16) (vector_f) same_search c.args.s.now (omega arith) c.requires _ (sym c.skip_text.ensures ∙ c.in-Next.is) _ (sym c.skip_run.ensures ∙ c.in-Next-skip_run.is) c.if-end-s.false in
+    let w = rest_all 0x24 (key_f ▸ (u64 ▸ (u32 ▸ vector_f))) (text 32 ▸ word 16) (vector_f) same_search c.args.s.now (omega arith) c.requires _ (sym c.skip_text.ensures ∙ c.in_ok-skip_text.was) _ (sym c.skip_run.ensures ∙ c.in_ok-end.was) c.if-end-s.false in
     key-there 0x24 (u32 ▸ vector_f) c.args.s.now w
 
 pub get8-requires : goal.get8-requires
 get8-requires c =
-    let w = rest_all 0x24 (key_f ▸ (u64 ▸ (u32 ▸ vector_f))) (text 32 ▸ word 16) (vector_f) same_search c.args.s.now (omega arith) c.requires _ (sym c.skip_text.ensures ∙ c.in-Next.is) _ (sym c.skip_run.ensures ∙ c.in-Next-skip_run.is) c.if-end-s.false in
+    let w = rest_all 0x24 (key_f ▸ (u64 ▸ (u32 ▸ vector_f))) (text 32 ▸ word 16) (vector_f) same_search c.args.s.now (omega arith) c.requires _ (sym c.skip_text.ensures ∙ c.in_ok-skip_text.was) _ (sym c.skip_run.ensures ∙ c.in_ok-end.was) c.if-end-s.false in
     let h = epoch-there 0x24 (u32 ▸ vector_f) c.args.s.now w in omega arith
 
 pub get4-k-requires : goal.get4-k-requires
 get4-k-requires c =
-    let w = rest_all 0x24 (key_f ▸ (u64 ▸ (u32 ▸ vector_f))) (text 32 ▸ word 16) (vector_f) same_search c.args.s.now (omega arith) c.requires _ (sym c.skip_text.ensures ∙ c.in-Next.is) _ (sym c.skip_run.ensures ∙ c.in-Next-skip_run.is) c.if-end-s.false in
+    let w = rest_all 0x24 (key_f ▸ (u64 ▸ (u32 ▸ vector_f))) (text 32 ▸ word 16) (vector_f) same_search c.args.s.now (omega arith) c.requires _ (sym c.skip_text.ensures ∙ c.in_ok-skip_text.was) _ (sym c.skip_run.ensures ∙ c.in_ok-end.was) c.if-end-s.false in
     let h = leb-true 50 (length c.args.s.now) (and_left _ _ (rest-there 0x24 (u32 ▸ vector_f) c.args.s.now w)) in omega arith
 
 pub text_at-vector-requires : goal.text_at-vector-requires
 text_at-vector-requires c =
-    let w = rest_all 0x24 (key_f ▸ (u64 ▸ (u32 ▸ vector_f))) (text 32 ▸ word 16) (vector_f) same_search c.args.s.now (omega arith) c.requires _ (sym c.skip_text.ensures ∙ c.in-Next.is) _ (sym c.skip_run.ensures ∙ c.in-Next-skip_run.is) c.if-end-s.false in
+    let w = rest_all 0x24 (key_f ▸ (u64 ▸ (u32 ▸ vector_f))) (text 32 ▸ word 16) (vector_f) same_search c.args.s.now (omega arith) c.requires _ (sym c.skip_text.ensures ∙ c.in_ok-skip_text.was) _ (sym c.skip_run.ensures ∙ c.in_ok-end.was) c.if-end-s.false in
     let h = leb-true 51 (length c.args.s.now) (and_left _ _ (and_right _ _ (rest-there 0x24 (u32 ▸ vector_f) c.args.s.now w))) in omega arith
 
 pub returns : goal.returns
 returns c =
-    let w = rest_all 0x24 (key_f ▸ (u64 ▸ (u32 ▸ vector_f))) (text 32 ▸ word 16) (vector_f) same_search c.args.s.now (omega arith) c.requires _ (sym c.skip_text.ensures ∙ c.in-Next.is) _ (sym c.skip_run.ensures ∙ c.in-Next-skip_run.is) c.if-end-s.false in
+    let w = rest_all 0x24 (key_f ▸ (u64 ▸ (u32 ▸ vector_f))) (text 32 ▸ word 16) (vector_f) same_search c.args.s.now (omega arith) c.requires _ (sym c.skip_text.ensures ∙ c.in_ok-skip_text.was) _ (sym c.skip_run.ensures ∙ c.in_ok-end.was) c.if-end-s.false in
     (rw (c.key_at-key.ensures, c.get8.ensures, c.get4-k.ensures, c.text_at-vector.ensures) (search_is c.args.s.now w))

@@ -1,14 +1,14 @@
-use Rattle.std.proofs.Common.{sym, ap, ◌∙◌}
-use Rattle.wire_read.proofs.Messages.{request-whole, request-part}
-use Rattle.wire_read.specs.declared.RequestRead.{RequestRead}
+use Rattle.std.proofs.Common.{sym, ◌∙◌}
+use Rattle.wire_read.proofs.Messages.{request-whole, request-part, request-none}
 use Rattle.wire_read.proofs.kinds.read_whole_request.Goals as goal
+
+pub returns-in_err-request : goal.returns-in_err-request
+returns-in_err-request c = c.from_residual.ensures ∙ request-none c.args.s.now (sym c.read_request.ensures ∙ c.in_err-request.was)
 
 pub returns-then-end-s : goal.returns-then-end-s
 returns-then-end-s c =
-    let e = c.read_request-r.ensures in
-    ap (λ (r : RequestRead). r.message) e ∙ request-whole c.args.s.now (ap (λ (r : RequestRead). r.next) (sym e) ∙ c.if-end-s.true)
+    request-whole c.args.s.now _ _ (sym c.read_request.ensures ∙ c.in_ok-request.was) c.if-end-s.true
 
 pub returns : goal.returns
 returns c =
-    let e = c.read_request-r.ensures in
-    request-part c.args.s.now (λ h. c.if-end-s.false (ap (λ (r : RequestRead). r.next) e ∙ h))
+    request-part c.args.s.now _ _ (sym c.read_request.ensures ∙ c.in_ok-request.was) c.if-end-s.false

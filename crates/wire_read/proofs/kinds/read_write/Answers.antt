@@ -4,34 +4,34 @@ use Rattle.spec.specs.Layout.Parts.{u64, key_f, op_f}
 use Rattle.wire_read.proofs.Messages.{head_bad, rest_bad, rest-left, rest_all, key-there, epoch-there, rest-there, same_write, write_not, write-is}
 use Rattle.wire_read.proofs.kinds.read_write.Goals as goal
 
-pub returns-in_default : goal.returns-in_default
-returns-in_default c =
-    write_not c.args.s.now (head_bad 0x23 (key_f ▸ (u64 ▸ op_f)) (text 32 ▸ word 12) (op_f) same_write c.args.s.now (omega arith) c.requires (sym c.skip_text.ensures ∙ c.in_default.is))
+pub returns-in_err-skip_text : goal.returns-in_err-skip_text
+returns-in_err-skip_text c =
+    c.from_residual.ensures ∙ write_not c.args.s.now (head_bad 0x23 (key_f ▸ (u64 ▸ op_f)) (text 32 ▸ word 12) (op_f) same_write c.args.s.now (omega arith) c.requires (sym c.skip_text.ensures ∙ c.in_err-skip_text.was))
 
-pub returns-in_default-skip_op : goal.returns-in_default-skip_op
-returns-in_default-skip_op c =
-    write_not c.args.s.now (rest_bad 0x23 (key_f ▸ (u64 ▸ op_f)) (text 32 ▸ word 12) (op_f) same_write c.args.s.now (omega arith) c.requires _ (sym c.skip_text.ensures ∙ c.in-Next.is) (sym c.skip_op.ensures ∙ c.in_default-skip_op.is))
+pub returns-in_err-end : goal.returns-in_err-end
+returns-in_err-end c =
+    c.from_residual-in_err-end.ensures ∙ write_not c.args.s.now (rest_bad 0x23 (key_f ▸ (u64 ▸ op_f)) (text 32 ▸ word 12) (op_f) same_write c.args.s.now (omega arith) c.requires _ (sym c.skip_text.ensures ∙ c.in_ok-skip_text.was) (sym c.skip_op.ensures ∙ c.in_err-end.was))
 
 pub returns-then-end-s : goal.returns-then-end-s
 returns-then-end-s c =
-    write_not c.args.s.now (rest-left 0x23 (key_f ▸ (u64 ▸ op_f)) (text 32 ▸ word 12) (op_f) same_write c.args.s.now (omega arith) c.requires _ (sym c.skip_text.ensures ∙ c.in-Next.is) _ (sym c.skip_op.ensures ∙ c.in-Next-skip_op.is) c.if-end-s.true)
+    write_not c.args.s.now (rest-left 0x23 (key_f ▸ (u64 ▸ op_f)) (text 32 ▸ word 12) (op_f) same_write c.args.s.now (omega arith) c.requires _ (sym c.skip_text.ensures ∙ c.in_ok-skip_text.was) _ (sym c.skip_op.ensures ∙ c.in_ok-end.was) c.if-end-s.true)
 
 pub key_at-key-requires : goal.key_at-key-requires
 key_at-key-requires c =
-    let w = rest_all 0x23 (key_f ▸ (u64 ▸ op_f)) (text 32 ▸ word 12) (op_f) same_write c.args.s.now (omega arith) c.requires _ (sym c.skip_text.ensures ∙ c.in-Next.is) _ (sym c.skip_op.ensures ∙ c.in-Next-skip_op.is) c.if-end-s.false in
+    let w = rest_all 0x23 (key_f ▸ (u64 ▸ op_f)) (text 32 ▸ word 12) (op_f) same_write c.args.s.now (omega arith) c.requires _ (sym c.skip_text.ensures ∙ c.in_ok-skip_text.was) _ (sym c.skip_op.ensures ∙ c.in_ok-end.was) c.if-end-s.false in
     key-there 0x23 (op_f) c.args.s.now w
 
 pub get8-requires : goal.get8-requires
 get8-requires c =
-    let w = rest_all 0x23 (key_f ▸ (u64 ▸ op_f)) (text 32 ▸ word 12) (op_f) same_write c.args.s.now (omega arith) c.requires _ (sym c.skip_text.ensures ∙ c.in-Next.is) _ (sym c.skip_op.ensures ∙ c.in-Next-skip_op.is) c.if-end-s.false in
+    let w = rest_all 0x23 (key_f ▸ (u64 ▸ op_f)) (text 32 ▸ word 12) (op_f) same_write c.args.s.now (omega arith) c.requires _ (sym c.skip_text.ensures ∙ c.in_ok-skip_text.was) _ (sym c.skip_op.ensures ∙ c.in_ok-end.was) c.if-end-s.false in
     let h = epoch-there 0x23 (op_f) c.args.s.now w in omega arith
 
 pub op_at-op-requires : goal.op_at-op-requires
 op_at-op-requires c =
-    let w = rest_all 0x23 (key_f ▸ (u64 ▸ op_f)) (text 32 ▸ word 12) (op_f) same_write c.args.s.now (omega arith) c.requires _ (sym c.skip_text.ensures ∙ c.in-Next.is) _ (sym c.skip_op.ensures ∙ c.in-Next-skip_op.is) c.if-end-s.false in
+    let w = rest_all 0x23 (key_f ▸ (u64 ▸ op_f)) (text 32 ▸ word 12) (op_f) same_write c.args.s.now (omega arith) c.requires _ (sym c.skip_text.ensures ∙ c.in_ok-skip_text.was) _ (sym c.skip_op.ensures ∙ c.in_ok-end.was) c.if-end-s.false in
     rest-there 0x23 (op_f) c.args.s.now w
 
 pub returns : goal.returns
 returns c =
-    let w = rest_all 0x23 (key_f ▸ (u64 ▸ op_f)) (text 32 ▸ word 12) (op_f) same_write c.args.s.now (omega arith) c.requires _ (sym c.skip_text.ensures ∙ c.in-Next.is) _ (sym c.skip_op.ensures ∙ c.in-Next-skip_op.is) c.if-end-s.false in
+    let w = rest_all 0x23 (key_f ▸ (u64 ▸ op_f)) (text 32 ▸ word 12) (op_f) same_write c.args.s.now (omega arith) c.requires _ (sym c.skip_text.ensures ∙ c.in_ok-skip_text.was) _ (sym c.skip_op.ensures ∙ c.in_ok-end.was) c.if-end-s.false in
     (rw (c.key_at-key.ensures, c.get8.ensures, c.op_at-op.ensures) (write-is c.args.s.now w))

@@ -1,7 +1,0 @@
-use Rattle.test_losses.proofs.answers.rows.Goals as goal
-
-pub loop-left-init : goal.loop-left-init
-loop-left-init c = tt
-
-pub loop-left-preserved : goal.loop-left-preserved
-loop-left-preserved c = tt

@@ -1,5 +1,0 @@
-use mathlib.Core.Path.{refl}
-use Rattle.test_search.proofs.input.floats_of.Goals as goal
-
-pub loop-i-init : goal.loop-i-init
-loop-i-init c = refl
