@@ -7,7 +7,9 @@ ghost use Rattle.image_header_row.specs.Rows.{held_row_at};
 ghost use Rattle.image_header_set.specs.Row.{RowBecomes};
 ghost use Rattle.calls_header.specs.Acks.{ack_number};
 ghost use Rattle.calls_ack.specs.Deeds.{deed_held, deed_answer};
+ghost use Rattle.calls_ack.specs.Numbers.{told_of};
 
+use crate::told::Told;
 use image_header_row::peers::peer_at;
 use image_header_set::set::{set_peer, step_down};
 use image_layout::header::PEERS;
@@ -70,23 +72,23 @@ fn unaligned(p: Peer) -> Peer
     q
 }
 
-// Internal: the deed done to the row, of whose peers the i-th replied; tells the answer's number.
-pub fn set_deed(out: &mut [u8], row: usize, i: usize, d: Deed) -> u32
+// Internal: the deed done to the row, of whose peers the i-th replied, and what is told of it.
+pub fn set_deed(out: &mut [u8], row: usize, i: usize, d: Deed) -> Told
     requires { (row + 1280 ≤ length out.old) × (i < 32) }
-    ensures { (result ≡ ack_number (deed_answer d i (held_row_at out.old row).held))
+    ensures { (told_of result ≡ ack_number (deed_answer d i (held_row_at out.old row).held))
         × RowBecomes out.old out.new row (kept_as (held_row_at out.old row) (deed_held d i (held_row_at out.old row).held)) }
 {
     let place = row + PEERS + 32 * i;
     match d {
-        Deed::Nothing => 0,
+        Deed::Nothing => Told::Noted,
         Deed::StepDown => {
             step_down(out, row);
-            0
+            Told::Noted
         }
         Deed::Unalign => {
             let p = peer_at(out, place);
             set_peer(out, row, i, unaligned(p));
-            0
+            Told::Noted
         }
         Deed::Record { through, aligned } => {
             let last = num::get8(out, row + 72);
@@ -94,9 +96,9 @@ pub fn set_deed(out: &mut [u8], row: usize, i: usize, d: Deed) -> u32
             let q = row_acked(p, last, through, aligned);
             set_peer(out, row, i, q);
             if joining(p, last, through, aligned) {
-                return 1;
+                return Told::Expand;
             }
-            0
+            Told::Noted
         }
     }
 }

@@ -4,3 +4,4 @@
 pub mod ack;
 mod deeds;
 mod heeds;
+pub mod told;

@@ -4,8 +4,8 @@ use mathlib.Core.Path.{◌≡◌, refl, sym, ap, ◌∙◌}
 use mathlib.Core.Bool.{Bool, true, false, not, beq}
 use mathlib.Core.List.{List, [], ◌∷◌, ◌++◌, append_assoc, append-nil}
 use native.Mathlib.Omega.{arith}
-use lib.Dec.{T, eqb}
-use lib.Ieee.{Float, nan, inf, fin, binary32, eq, level, up, down, is_nan, to_bits}
+use lib.Dec.{T}
+use lib.Ieee.{Float, nan, inf, fin, eq, level, up, down, is_nan, to_bits}
 use lib.ListN.{length, get_or, length-append}
 use lib.Seq.{sets}
 use Rattle.spec.specs.Layout.Format.{bytes_of, concat_map}

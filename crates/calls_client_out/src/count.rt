@@ -1,14 +1,16 @@
 // The count of refused client calls in its four bytes (paper 01, 'The node'). Internal.
 ghost use Rattle.std.specs.Prelude.{◌≡◌};
 ghost use Rattle.calls_client_out.specs.Count.{count_put};
+ghost use Rattle.calls_parts.specs.Refusals.{number_of};
 
+use calls_parts::refusal::Refusal;
 use node_refused::one_more;
 
 // One more, if the call was refused and its count is lent.
-pub fn count_call(refused: &mut [u8], number: u8)
-    ensures { refused.new ≡ count_put refused.old number }
+pub fn count_call(refused: &mut [u8], said: Result<(), Refusal>)
+    ensures { refused.new ≡ count_put refused.old (number_of said) }
 {
-    if number == 0 {
+    if said.is_ok() {
         return;
     }
     if refused.len() < 4 {

@@ -8,7 +8,6 @@ use native.Mathlib.Omega.{arith}
 use borrow.Author.Tests.{eqb-true, eqb-false, leb-true}
 use lib.Dec.{eqb, leb}
 use lib.ListN.{length}
-use Rattle.spec.specs.Lists.{◌and◌}
 use Rattle.spec.specs.Keys.{Key}
 use Rattle.spec.specs.Log.{Entry, Log, ShardReplica, last_offset, store_all}
 use Rattle.spec.specs.Layout.Format.{Bytes, All, number_at}

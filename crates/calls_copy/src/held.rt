@@ -1,13 +1,15 @@
-// A CopyShard at the shard that it names, past 21 and 22. Internal.
+// A CopyShard at the shard that it names, past Undecodable and OutsideDomain. Internal.
 ghost use Rattle.std.specs.Prelude.{◌≡◌};
 ghost use Rattle.map_tables.specs.Names.{view_key};
 ghost use Rattle.log_check.specs.Conditions.{Decides};
 ghost use Rattle.image_node_check.specs.Find.{FoundIn};
 ghost use Rattle.node_replicate.specs.Peers.{CopiesAt};
+ghost use Rattle.calls_parts.specs.Refusals.{number_of};
 ghost use Rattle.calls_peer.specs.PeerCalls.{AtShard, copies, buffers};
 ghost use Rattle.calls_copy.specs.Asked.{Asked};
 
 use crate::batch::grow_all;
+use calls_parts::refusal::Refusal;
 use calls_peer_out::put_reply;
 use image_layout::header::{EPOCH, LAST, ROW, ROWS};
 use image_node_batch::room::has_room;
@@ -34,7 +36,7 @@ fn is_stale(n: usize, epoch: u64, own: u64) -> bool
     true
 }
 
-// At its place in the header: StaleEpoch, 23 a log without room or no room for the reply, then the entries stored that were missing.
+// At its place in the header: StaleEpoch, NoRoom in the log or for the reply, then the entries stored that were missing.
 fn copy_at(
     header: &mut [u8],
     at: usize,
@@ -43,11 +45,11 @@ fn copy_at(
     message: &[u8],
     p: CopyPart,
     reply: &mut [u8],
-) -> u32
+) -> Result<(), Refusal>
     requires { FoundIn header.old stores.old (view_key key) at × Asked message.now p (view_key key) }
     ensures { AtShard CopiesAt copies (view_key key) message.now
         (buffers header.old stores.old reply.old)
-        (buffers header.new stores.new reply.new) result }
+        (buffers header.new stores.new reply.new) (number_of result) }
 {
     let row = ROWS + ROW * at;
     let own = num::get8(header, row + EPOCH);
@@ -58,16 +60,16 @@ fn copy_at(
         return put_reply(reply, Reply::StaleEpoch(Epoch(own)));
     }
     if !has_room(message, entries, last) {
-        return 23;
+        return Err(Refusal::NoRoom);
     }
     if reply.len() < REPLY {
-        return 23;
+        return Err(Refusal::NoRoom);
     }
     let through = grow_all(header, stores, at, message, entries);
     put_reply(reply, Reply::Stored(Offset(through)))
 }
 
-// 24; an unknown shard is StaleEpoch 0.
+// Malformed; an unknown shard is StaleEpoch 0.
 pub fn at_shard(
     header: &mut [u8],
     stores: &mut [u8],
@@ -75,15 +77,15 @@ pub fn at_shard(
     message: &[u8],
     p: CopyPart,
     reply: &mut [u8],
-) -> u32
+) -> Result<(), Refusal>
     requires { Asked message.now p (view_key key) }
     ensures { AtShard CopiesAt copies (view_key key) message.now
         (buffers header.old stores.old reply.old)
-        (buffers header.new stores.new reply.new) result }
+        (buffers header.new stores.new reply.new) (number_of result) }
 {
     let found = find(header, stores, key);
     match found {
-        Lent::Malformed => 24,
+        Lent::Malformed => Err(Refusal::Malformed),
         Lent::Absent => put_reply(reply, Reply::StaleEpoch(Epoch(0))),
         Lent::At(at) => copy_at(header, at, stores, key, message, p, reply),
     }

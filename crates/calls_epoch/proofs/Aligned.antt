@@ -12,8 +12,8 @@ use Rattle.spec.specs.Lists.{lead}
 use Rattle.spec.specs.Log.{End, Log, agrees}
 use Rattle.spec.specs.Layout.Format.{Bytes, All}
 use Rattle.log_store.specs.View.{log_of}
-use Rattle.log_store.specs.Table.{Row, Tabled, rows_of, play_rows, rows_played}
-use Rattle.log_store.specs.Store.{Store, lent, store_log, Sized, well_formed_store}
+use Rattle.log_store.specs.Table.{Row, Tabled, rows_of, rows_played}
+use Rattle.log_store.specs.Store.{Store, lent, store_log}
 use Rattle.log_store.specs.Align.{Aligned}
 use Rattle.log_store.specs.declared.replica.Adoption.TheVariants as D
 use Rattle.log_store.proofs.Columns.{log-length}

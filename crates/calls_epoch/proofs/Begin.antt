@@ -1,17 +1,16 @@
 -- A NewEpoch of a shard that is not held meets the contract of NewEpoch at a shard, one law for each way out. Assumes nothing.
-use Prim.Native.Nat.{ℕ, suc, ◌+◌, ◌≤◌, ◌<◌}
-use mathlib.Core.Path.{◌≡◌, refl, sym, ap, subst, ◌∙◌}
-use mathlib.Core.Bool.{Bool, true, cond}
-use mathlib.Core.List.{List, ◌∷◌, ◌++◌}
+use Prim.Native.Nat.{ℕ, ◌+◌, ◌≤◌, ◌<◌}
+use mathlib.Core.Path.{◌≡◌, refl, sym, ap, ◌∙◌}
+use mathlib.Core.Bool.{Bool, cond}
+use mathlib.Core.List.{List, ◌∷◌}
 use native.Mathlib.Omega.{arith}
 use borrow.Author.Tests.{le-ltb, leb-true}
 use lib.Dec.{leb}
 use lib.ListN.{length, take, drop, length-append, length-drop, length-replicate}
 use lib.Seq.{take_all, length-take-le}
-use Rattle.spec.specs.Lists.{◌and◌, lead}
+use Rattle.spec.specs.Lists.{lead}
 use Rattle.spec.specs.Limits.{max_held}
-use Rattle.spec.specs.Layout.Format.{Bytes, number_at}
-use Rattle.spec.specs.declared.Offset.{Offset}
+use Rattle.spec.specs.Layout.Format.{Bytes}
 use Rattle.spec_laws.proofs.Lists.{and_left, and_right}
 use Rattle.node_shard.specs.declared.Held.{Held}
 use Rattle.node_shard.specs.View.{insert_at}
@@ -32,7 +31,7 @@ use Rattle.image_header_check.proofs.Rows.{counted}
 use Rattle.image_header_begin.specs.Begun.{begun_held, Begun}
 use Rattle.node_lent.specs.Lend.{LentStore, place_of}
 use Rattle.node_lent.specs.declared.Lent.TheVariants as L
-use Rattle.image_node.specs.Lent.{no_lent_store, lent_store_at, lent_store_in, held_row_of, lends_state, readable, stores_size}
+use Rattle.image_node.specs.Lent.{no_lent_store, lent_store_at, lent_store_in, held_row_of, lends_state}
 use Rattle.image_node.proofs.Put.{puts-absent}
 use Rattle.node_replicate.specs.declared.PeerReply.TheVariants as P
 use Rattle.node_replicate.specs.declared.PeerAnswer.{PeerAnswer}

@@ -45,7 +45,6 @@ use Rattle.node_lent.proofs.Put.{put_same}
 use Rattle.image_node.specs.Lent.{no_lent_store, begin_of, lent_store_at, lent_store_in, lends_state, stores_put, StorePuts, Picks, Puts}
 use Rattle.image_node.specs.declared.Picked.{Picked}
 use Rattle.image_node.proofs.Put.{puts-kept}
-use Rattle.node_replicate.specs.declared.PeerReply.{PeerReply}
 use Rattle.node_replicate.specs.declared.PeerReply.TheVariants as P
 use Rattle.node_replicate.specs.declared.PeerAnswer.{PeerAnswer}
 use Rattle.node_replicate.specs.Peers.{word, turned_down}

@@ -1,4 +1,4 @@
-// A NewEpoch at the shard that it names, past 21. Internal.
+// A NewEpoch at the shard that it names, past Undecodable. Internal.
 ghost use Rattle.std.specs.Prelude.{◌≡◌, false, ◌*◌, ◌≤◌, ◌<◌, length};
 ghost use Rattle.map_tables.specs.Names.{view_key};
 ghost use Rattle.log_domain.specs.Parts.{TableThere};
@@ -11,9 +11,11 @@ ghost use Rattle.image_store_check.specs.Test.{Stands};
 ghost use Rattle.image_node_check.specs.Find.{AbsentIn, FoundIn};
 ghost use Rattle.image_node_grow.specs.Grow.{row_in};
 ghost use Rattle.node_epoch.specs.NewEpochs.{NewEpochsAt};
+ghost use Rattle.calls_parts.specs.Refusals.{number_of};
 ghost use Rattle.calls_peer.specs.PeerCalls.{AtShard, announces, buffers};
 ghost use Rattle.calls_epoch.specs.Asked.{Asked, stale_by, Keeps};
 
+use calls_parts::refusal::Refusal;
 use calls_peer_out::put_reply;
 use image_header_begin::begin;
 use image_header_row::held::role_at;
@@ -88,12 +90,12 @@ fn adopt_at(
     message: &[u8],
     p: NewEpochPart,
     reply: &mut [u8],
-) -> u32
+) -> Result<(), Refusal>
     requires { FoundIn header.old stores.old (view_key key) at × Asked message.now p (view_key key) × (9 ≤ length reply.old)
         × (stale_by (row_in header.old at).held.role (row_in header.old at).held.epoch.0 p.epoch.0 ≡ false) }
     ensures { AtShard NewEpochsAt announces (view_key key) message.now
         (buffers header.old stores.old reply.old)
-        (buffers header.new stores.new reply.new) result }
+        (buffers header.new stores.new reply.new) (number_of result) }
 {
     let row = ROWS + ROW * at;
     let own = num::get8(header, row + EPOCH);
@@ -112,7 +114,7 @@ fn adopt_at(
     put_reply(reply, Reply::Adopted(Offset(last as u64)))
 }
 
-// At its place in the header: StaleEpoch, 23 no room for the reply, then the log is aligned.
+// At its place in the header: StaleEpoch, NoRoom for the reply, then the log is aligned.
 fn new_epoch_at(
     header: &mut [u8],
     at: usize,
@@ -121,11 +123,11 @@ fn new_epoch_at(
     message: &[u8],
     p: NewEpochPart,
     reply: &mut [u8],
-) -> u32
+) -> Result<(), Refusal>
     requires { FoundIn header.old stores.old (view_key key) at × Asked message.now p (view_key key) }
     ensures { AtShard NewEpochsAt announces (view_key key) message.now
         (buffers header.old stores.old reply.old)
-        (buffers header.new stores.new reply.new) result }
+        (buffers header.new stores.new reply.new) (number_of result) }
 {
     let row = ROWS + ROW * at;
     let own = num::get8(header, row + EPOCH);
@@ -135,12 +137,12 @@ fn new_epoch_at(
         return put_reply(reply, Reply::StaleEpoch(Epoch(own)));
     }
     if reply.len() < REPLY {
-        return 23;
+        return Err(Refusal::NoRoom);
     }
     adopt_at(header, at, stores, key, message, p, reply)
 }
 
-// A shard that is not held: 23 a ninth or no room for the reply, then it begins with no entries. No store is touched.
+// A shard that is not held: NoRoom for a ninth or for the reply, then it begins with no entries. No store is touched.
 fn begin_at(
     header: &mut [u8],
     stores: &[u8],
@@ -148,17 +150,17 @@ fn begin_at(
     message: &[u8],
     p: NewEpochPart,
     reply: &mut [u8],
-) -> u32
+) -> Result<(), Refusal>
     requires { AbsentIn header.old stores.now (view_key key) × Asked message.now p (view_key key) }
     ensures { AtShard NewEpochsAt announces (view_key key) message.now
         (buffers header.old stores.now reply.old)
-        (buffers header.new stores.now reply.new) result }
+        (buffers header.new stores.now reply.new) (number_of result) }
 {
     if HELD <= num::get8(header, SHARDS) {
-        return 23;
+        return Err(Refusal::NoRoom);
     }
     if reply.len() < REPLY {
-        return 23;
+        return Err(Refusal::NoRoom);
     }
     let epoch = p.epoch;
     let metric = p.metric;
@@ -166,7 +168,7 @@ fn begin_at(
     put_reply(reply, Reply::Adopted(Offset(0)))
 }
 
-// 24; a shard that is not held begins.
+// Malformed; a shard that is not held begins.
 pub fn at_shard(
     header: &mut [u8],
     stores: &mut [u8],
@@ -174,15 +176,15 @@ pub fn at_shard(
     message: &[u8],
     p: NewEpochPart,
     reply: &mut [u8],
-) -> u32
+) -> Result<(), Refusal>
     requires { Asked message.now p (view_key key) }
     ensures { AtShard NewEpochsAt announces (view_key key) message.now
         (buffers header.old stores.old reply.old)
-        (buffers header.new stores.new reply.new) result }
+        (buffers header.new stores.new reply.new) (number_of result) }
 {
     let found = find(header, stores, key);
     match found {
-        Lent::Malformed => 24,
+        Lent::Malformed => Err(Refusal::Malformed),
         Lent::Absent => begin_at(header, stores, key, message, p, reply),
         Lent::At(at) => new_epoch_at(header, at, stores, key, message, p, reply),
     }

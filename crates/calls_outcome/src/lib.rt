@@ -2,5 +2,4 @@
 #![tactic(auto)]
 
 pub mod outcome;
-pub mod refusal;
 mod settle;

@@ -1,11 +1,11 @@
 // Outcome of a proposal: the call.
 ghost use Rattle.std.specs.Prelude.{◌≡◌};
 ghost use Rattle.calls_header.specs.Outcomes.{unread_outcome, proposal_at, Outcomes};
-ghost use Rattle.calls_outcome.specs.Refusals.{number_of};
+ghost use Rattle.calls_parts.specs.Refusals.{number_of};
 
-use crate::refusal::Refusal;
 use crate::settle::settle_row;
 use calls_parts::named::key_named;
+use calls_parts::refusal::Refusal;
 use image_header::is_lent;
 use image_header_check::formed::is_formed;
 use image_header_check::place::place_at;
@@ -54,7 +54,7 @@ pub fn outcome(
     ensures { Outcomes header.old header.new name.now shard epoch peer command applied (number_of result) }
 {
     if unread(name, command, applied) {
-        return Err(Refusal::Unread);
+        return Err(Refusal::Undecodable);
     }
     if !is_lent(header) {
         return Err(Refusal::Malformed);

@@ -2,8 +2,10 @@
 // Internal: what `calls_replicate`, `calls_copy` and `calls_epoch` share.
 #![tactic(auto)]
 
+ghost use Rattle.calls_parts.specs.Refusals.{number_of};
 ghost use Rattle.calls_peer_out.specs.Ends.{Replies};
 
+use calls_parts::refusal::Refusal;
 use wire_write::Reply;
 use wire_write::message::write_reply;
 
@@ -15,13 +17,13 @@ pub enum Outcome {
     Changed(Reply),
 }
 
-// Internal: the reply, or 23 without room for its nine bytes.
-pub fn put_reply(reply: &mut [u8], w: Reply) -> u32
-    ensures { Replies w reply.old reply.new result }
+// Internal: the reply, or NoRoom without room for its nine bytes.
+pub fn put_reply(reply: &mut [u8], w: Reply) -> Result<(), Refusal>
+    ensures { Replies w reply.old reply.new (number_of result) }
 {
     if reply.len() < 9 {
-        return 23;
+        return Err(Refusal::NoRoom);
     }
     let _wrote = write_reply(reply, w);
-    0
+    Ok(())
 }

@@ -8,7 +8,6 @@ use native.Mathlib.Omega.{arith}
 use borrow.Author.Tests.{leb-true, leb-false}
 use lib.Dec.{leb}
 use lib.ListN.{length}
-use Rattle.spec.specs.Lists.{◌and◌}
 use Rattle.spec.specs.Keys.{Key}
 use Rattle.spec.specs.Log.{Op, Entry}
 use Rattle.spec.specs.Layout.Format.{Bytes, number_at}

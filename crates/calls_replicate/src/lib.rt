@@ -2,27 +2,34 @@
 // changed where they stand. All that can turn it down, a reply without room included, is decided before a byte is written.
 #![tactic(auto)]
 
+ghost use Rattle.calls_parts.specs.Refusals.{number_of};
 ghost use Rattle.calls_peer.specs.PeerCalls.{ReplicatesImage, buffers};
 
 use crate::held::at_shard;
+use calls_parts::refusal::Refusal;
 use log_arrive::domain::op_in_domain;
 use map_names::key_of;
 use wire_read::{Message, decode};
 
 mod held;
 
-// 21, 22, 24, 23; otherwise 0, and the reply, 30 to 32, stands in its buffer.
-pub fn replicate(header: &mut [u8], stores: &mut [u8], message: &[u8], reply: &mut [u8]) -> u32
+// Undecodable, OutsideDomain, Malformed, NoRoom; otherwise the reply, 30 to 32, stands in its buffer.
+pub fn replicate(
+    header: &mut [u8],
+    stores: &mut [u8],
+    message: &[u8],
+    reply: &mut [u8],
+) -> Result<(), Refusal>
     ensures { ReplicatesImage message.now
         (buffers header.old stores.old reply.old)
-        (buffers header.new stores.new reply.new) result }
+        (buffers header.new stores.new reply.new) (number_of result) }
 {
     let Message::Replicate(p) = decode(message) else {
-        return 21;
+        return Err(Refusal::Undecodable);
     };
     let op = p.op;
     if !op_in_domain(message, op) {
-        return 22;
+        return Err(Refusal::OutsideDomain);
     }
     let part = p.key;
     let key = key_of(message, part);

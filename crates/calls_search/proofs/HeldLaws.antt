@@ -10,7 +10,6 @@ use lib.Ieee.{Float}
 use lib.ListN.{length, get_or, take, drop, replicate, length-replicate}
 use borrow.Author.Tests.{ltb-true, ltb-false, lt-ltb}
 use Rattle.spec.specs.Keys.{Key}
-use Rattle.spec.specs.Lists.{◌and◌}
 use Rattle.spec.specs.Log.{Log}
 use Rattle.spec.specs.Layout.Format.{number_at}
 use Rattle.spec.specs.Layout.Parts.{metric_of}
@@ -24,14 +23,12 @@ use Rattle.spec.specs.declared.Neighbor.{Neighbor}
 use Rattle.spec.specs.declared.Role.{Role}
 use Rattle.spec_laws.proofs.Lists.{and_left, and_right}
 use Rattle.log_store.specs.Table.{vectors_of}
-use Rattle.log_store.specs.Store.{Store, store_log, store_rows, well_formed_store}
+use Rattle.log_store.specs.Store.{store_log, store_rows, well_formed_store}
 use Rattle.log_select.specs.declared.select.Hits.{Hits}
-use Rattle.log_search.specs.declared.answer.Found as nearest
 use Rattle.log_search.specs.declared.answer.Found.TheVariants as N
 use Rattle.log_select.specs.Written.{id_of, distance_of}
 use Rattle.log_search.proofs.Answered.{least_both, answered-short, answered-found}
 use Rattle.image_store_search.specs.Nearest.{NearestIn}
-use Rattle.node_shard.specs.declared.Held.{Held}
 use Rattle.node_admit.specs.declared.Admit.TheVariants as A
 use Rattle.std.specs.Prelude.{Option}
 use Rattle.node_admit.specs.View.{view_expiry}
@@ -47,7 +44,7 @@ use Rattle.image_header_form.proofs.FrontLaws.{epoch-is, metric_is, role_is}
 use Rattle.node_lent.specs.Lend.{LentStore, store_of, place_of}
 use Rattle.node_lent.specs.declared.Lent.TheVariants as L
 use Rattle.image_store.specs.Image.{log_at, rows_at, well_formed_image}
-use Rattle.image_store.specs.Read.{columns_at, all_readable}
+use Rattle.image_store.specs.Read.{all_readable}
 use Rattle.image_store.proofs.Read.{image_log}
 use Rattle.image_store.proofs.Test.{image_test}
 use Rattle.image_node.specs.Lent.{no_lent_store, begin_of, lent_store_at, lent_store_in}
@@ -57,7 +54,6 @@ use Rattle.node_search.specs.declared.SearchAnswer.{SearchAnswer}
 use Rattle.node_search.specs.declared.SearchAnswer.TheVariants as S
 use Rattle.node_search.specs.Searches.{Output, output, room, SearchesHeld, SearchesNamed}
 use Rattle.node_search.proofs.Held.{held_not, held_unleased, held_found, named-held}
-use Rattle.calls_client_out.specs.Hits.{hits_bytes}
 use Rattle.calls_client_out.specs.Found.{SearchEnded, ended, found_in, hits_lent, fresh_hits}
 use Rattle.image_node_check.specs.Find.{held_row_in, FoundIn}
 use Rattle.calls_search.specs.Served.{NearestHeld, hits_ended, NamedServed}

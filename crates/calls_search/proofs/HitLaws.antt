@@ -1,12 +1,11 @@
 -- Neighbours written to the outputs, way by way. Assumes nothing.
 use Prim.Native.Nat.{ℕ, ◌+◌, ◌*◌, ◌≤◌, ◌<◌}
-use mathlib.Core.Path.{◌≡◌, refl, sym, ap, subst, ◌∙◌}
+use mathlib.Core.Path.{◌≡◌, sym, ap, subst, ◌∙◌}
 use mathlib.Core.Bool.{Bool, true, false, cond}
-use mathlib.Core.List.{List, [], ◌∷◌, ◌++◌, map}
+use mathlib.Core.List.{List, ◌++◌, map}
 use native.Mathlib.Omega.{arith}
-use lib.Dec.{ltb}
 use lib.Ieee.{Float, nan}
-use lib.ListN.{length, get_or, take, drop, get_or-map, get_or-append, length-map}
+use lib.ListN.{length, get_or, take, get_or-map, get_or-append, length-map}
 use lib.Seq.{sets, get_or-take, length-take-le}
 use borrow.Author.Tests.{lt-ltb, le-ltb}
 use Rattle.spec.specs.Layout.Format.{bytes_of, concat_map}
@@ -17,7 +16,7 @@ use Rattle.log_select.specs.Written.{id_of, distance_of}
 use Rattle.calls_parts.specs.Answer.{answer_lent, number_put}
 use Rattle.node_search.specs.Searches.{Output, output}
 use Rattle.calls_client_out.specs.Hits.{hit_at, hit_bytes, hits_bytes}
-use Rattle.calls_client_out.specs.Found.{SearchEnded, ended, found_in, hits_lent}
+use Rattle.calls_client_out.specs.Found.{ended, found_in, hits_lent}
 use Rattle.calls_client_out.proofs.HitLaws.{hits-put}
 use Rattle.calls_client_out.proofs.Found.{found-short, found-put}
 use Rattle.calls_search.specs.Served.{hits_ended}

@@ -1,7 +1,7 @@
 -- A Search at the shard of a key, and of a message. Assumes nothing.
 use Prim.Native.Nat.{ℕ, ◌≤◌}
-use mathlib.Core.Path.{◌≡◌, refl, sym, ap, subst, ◌∙◌}
-use mathlib.Core.Bool.{Bool, true, false}
+use mathlib.Core.Path.{◌≡◌, refl}
+use mathlib.Core.Bool.{Bool, true}
 use mathlib.Core.List.{List}
 use lib.Ieee.{Float}
 use lib.ListN.{take}
@@ -13,9 +13,8 @@ use Rattle.wire_read.specs.declared.SearchPart.{SearchPart}
 use Rattle.log_arrive.specs.Parts.{bits_in}
 use Rattle.map_names.specs.Texts.{key_in}
 use Rattle.image_header.specs.Image.{node_at}
-use Rattle.node_lent.specs.Lend.{LentStore}
 use Rattle.node_lent.specs.declared.Lent.TheVariants as L
-use Rattle.image_node.specs.Lent.{lent_store_in, lends_state}
+use Rattle.image_node.specs.Lent.{lent_store_in}
 use Rattle.node_search.specs.declared.SearchAnswer.TheVariants as S
 use Rattle.node_search.specs.Query.{ReadsQuery}
 use Rattle.node_search.specs.Searches.{turned_down, IsSearch}

@@ -6,10 +6,12 @@ ghost use Rattle.image_header.specs.Image.{node_at};
 ghost use Rattle.image_node.specs.Lent.{lent_store_in};
 ghost use Rattle.image_node_check.specs.Find.{held_row_in, FoundIn};
 ghost use Rattle.calls_client_out.specs.Found.{ended};
+ghost use Rattle.calls_parts.specs.Refusals.{number_of};
 ghost use Rattle.calls_search.specs.Served.{NamedServed, NearestHeld};
 
 use crate::hits::put_found;
 use calls_parts::answer::put_number;
+use calls_parts::refusal::Refusal;
 use image_header::expiry_of;
 use image_header_row::held::role_at;
 use image_layout::header::{EPOCH, LAST, LEASE, LEASE_TIME, METRIC, ROLE, ROW, ROWS, SLOT, STORED};
@@ -58,20 +60,20 @@ pub fn search_held(
     query: &[f32],
     hits: &mut [u8],
     answer: &mut [u8],
-) -> u8
+) -> Result<(), Refusal>
     requires { FoundIn header.now stores.now (view_key key) at × (well_formed_vector query.now ≡ true) }
     ensures { NamedServed (node_at header.now) (lent_store_in stores.now (node_at header.now) (view_key key)) (view_key key)
-        clock epoch.0 k query.now hits.old answer.old (ended result hits.new answer.new) }
+        clock epoch.0 k query.now hits.old answer.old (ended (number_of result) hits.new answer.new) }
 {
     let row = ROWS + ROW * at;
     let role = role_at(header, row + ROLE);
     if !leads(role, epoch.0) {
         put_number(answer, num::get8(header, row + EPOCH));
-        return 18;
+        return Err(Refusal::NotPrimary);
     }
     let lease = expiry_of(num::get4(header, LEASE), num::get8(header, LEASE_TIME));
     if !leased(lease, clock) {
-        return 19;
+        return Err(Refusal::NoLease);
     }
     let h = nearest_held(header, stores, key, at, query, k);
     put_found(hits, answer, &h)

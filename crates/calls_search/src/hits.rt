@@ -5,10 +5,12 @@ ghost use Rattle.spec.specs.Node.Wire.{bits_of};
 ghost use Rattle.log_select.specs.Written.{id_of, distance_of};
 ghost use Rattle.calls_client_out.specs.Hits.{hits_bytes};
 ghost use Rattle.calls_client_out.specs.Found.{ended};
+ghost use Rattle.calls_parts.specs.Refusals.{number_of};
 ghost use Rattle.calls_search.specs.Served.{hits_ended};
 
 use calls_client_out::hits::room_of;
 use calls_parts::answer::put_number;
+use calls_parts::refusal::Refusal;
 use log_select::select::Hits;
 
 // The bytes of a neighbour, and those of its id.
@@ -40,17 +42,17 @@ fn put_hits(hits: &mut [u8], h: &Hits)
 }
 
 // 23 without room for the neighbours or for their count.
-pub fn put_found(hits: &mut [u8], answer: &mut [u8], h: &Hits) -> u8
+pub fn put_found(hits: &mut [u8], answer: &mut [u8], h: &Hits) -> Result<(), Refusal>
     requires { (h.now.count ≤ 1024) × (length h.now.items ≡ 1025) }
-    ensures { ended result hits.new answer.new ≡ hits_ended hits.old answer.old h.now.items h.now.count }
+    ensures { ended (number_of result) hits.new answer.new ≡ hits_ended hits.old answer.old h.now.items h.now.count }
 {
     let n = h.count;
     if room_of(hits.len()) < n {
-        return 23;
+        return Err(Refusal::NoRoom);
     }
     if !put_number(answer, n as u64) {
-        return 23;
+        return Err(Refusal::NoRoom);
     }
     put_hits(hits, h);
-    0
+    Ok(())
 }

@@ -4,8 +4,10 @@
 
 ghost use Rattle.calls_client.specs.Searched.{SearchesImages, SearchesBytes};
 ghost use Rattle.calls_client_out.specs.Found.{ended};
+ghost use Rattle.calls_parts.specs.Refusals.{number_of};
 
 use calls_client_out::count::count_call;
+use calls_parts::refusal::Refusal;
 use map_names::key_of;
 use named::search_named;
 use node_search::query::read_query;
@@ -28,23 +30,23 @@ fn search_message(
     message: &[u8],
     hits: &mut [u8],
     answer: &mut [u8],
-) -> u8
+) -> Result<(), Refusal>
     ensures { SearchesBytes header.now stores.now refused.now clock message.now hits.old
-        answer.old (ended result hits.new answer.new) }
+        answer.old (ended (number_of result) hits.new answer.new) }
 {
     if LAST_TIME < clock {
-        return 21;
+        return Err(Refusal::Undecodable);
     }
     let Message::Search(p) = decode(message) else {
-        return 21;
+        return Err(Refusal::Undecodable);
     };
     let vector = p.vector;
     let mut query = [0.0f32; 32];
     if !read_query(message, vector, &mut query) {
-        return 22;
+        return Err(Refusal::OutsideDomain);
     }
     if refused.len() < COUNT {
-        return 24;
+        return Err(Refusal::Malformed);
     }
     let part = p.key;
     let key = key_of(message, part);
@@ -63,7 +65,7 @@ fn search_message(
     )
 }
 
-// 24: 0 with the neighbours in `hits`, 12 bytes each, nearest first, and how many they are in `answer`; 17, 18 with the own epoch in
+// 24: Ok with the neighbours in `hits`, 12 bytes each, nearest first, and how many they are in `answer`; 17, 18 with the own epoch in
 // `answer`, 19, 21, 22, 24, and 23 if the neighbours or their count have no room. Nothing of the node changes. `refused` counts each refusal.
 pub fn search(
     header: &[u8],
@@ -73,11 +75,11 @@ pub fn search(
     message: &[u8],
     hits: &mut [u8],
     answer: &mut [u8],
-) -> u32
+) -> Result<(), Refusal>
     ensures { SearchesImages header.now stores.now refused.old clock message.now hits.old
-        answer.old refused.new hits.new answer.new result }
+        answer.old refused.new hits.new answer.new (number_of result) }
 {
-    let number = search_message(header, stores, refused, clock, message, hits, answer);
-    count_call(refused, number);
-    number as u32
+    let said = search_message(header, stores, refused, clock, message, hits, answer);
+    count_call(refused, said);
+    said
 }

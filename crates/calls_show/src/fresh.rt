@@ -2,7 +2,9 @@
 ghost use Rattle.std.specs.Prelude.{◌≤◌, length};
 ghost use Rattle.image_header.specs.Becomes.{HeaderWrites};
 ghost use Rattle.calls_header.specs.Fresh.{fresh_node, Freshens};
+ghost use Rattle.calls_parts.specs.Refusals.{number_of};
 
+use calls_parts::refusal::Refusal;
 use image_header_put::put_head;
 use image_layout::header::IMAGE;
 
@@ -15,12 +17,12 @@ pub fn put_fresh(header: &mut [u8], id: u64, incarnation: u64)
 }
 
 // 24 a short buffer; then no shard, no lease and no map known. What the buffer held is not looked at.
-pub fn fresh_node(header: &mut [u8], id: u64, incarnation: u64) -> u32
-    ensures { Freshens header.old header.new id incarnation result }
+pub fn fresh_node(header: &mut [u8], id: u64, incarnation: u64) -> Result<(), Refusal>
+    ensures { Freshens header.old header.new id incarnation (number_of result) }
 {
     if header.len() < IMAGE {
-        return 24;
+        return Err(Refusal::Malformed);
     }
     put_fresh(header, id, incarnation);
-    0
+    Ok(())
 }

@@ -6,10 +6,13 @@ ghost use Rattle.image_parts.specs.Shape.{in_use};
 ghost use Rattle.image_header.specs.Image.{node_at};
 ghost use Rattle.calls_header.specs.Waits.{id_bytes, RowsPut};
 ghost use Rattle.image_header_check.specs.Rows.{Counts};
+ghost use Rattle.calls_wait.specs.Numbers.{number_of, said_of};
 ghost use Rattle.calls_wait.specs.Waited.{waited_node};
 
 use crate::back::put_waited;
+use crate::waited::Waited;
 use calls_parts::answer::put_number;
+use calls_parts::refusal::Refusal;
 use image_parts::bytes::in_use;
 use node_shard::Nodes;
 use spec::DataNodeId;
@@ -36,21 +39,21 @@ pub fn put_shrink(
     shrink: Nodes,
     peers: &mut [u8],
     answer: &mut [u8],
-    said: u32,
-) -> u32
+    said: Waited,
+) -> Result<Waited, Refusal>
     requires { Counts header.old count × (at < count) × (number_at 8 header.old (48 + 1280 * at + 88) ≤ 32) }
-    ensures { RowsPut id_bytes 8 said header.old header.new peers.old peers.new
-        answer.old answer.new (take shrink.count shrink.items) (waited_node (node_at header.old) at clock timeout) result }
+    ensures { RowsPut id_bytes 8 (said_of said) header.old header.new peers.old peers.new
+        answer.old answer.new (take shrink.count shrink.items) (waited_node (node_at header.old) at clock timeout) (number_of result) }
 {
     let n = in_use(32, shrink.count);
     if peers.len() < 8 * n {
-        return 23;
+        return Err(Refusal::NoRoom);
     }
     if !put_number(answer, n as u64) {
-        return 23;
+        return Err(Refusal::NoRoom);
     }
     let ids = shrink.items;
     put_ids(peers, ids, shrink.count);
     put_waited(header, count, at, clock, timeout);
-    said
+    Ok(said)
 }

@@ -3,12 +3,15 @@ ghost use Rattle.std.specs.Prelude.{◌≡◌, ◌+◌, ◌*◌, ◌≤◌, ◌<
 ghost use Rattle.spec.specs.Layout.Format.{number_at};
 ghost use Rattle.calls_header.specs.Waits.{unread_wait, Waits};
 ghost use Rattle.image_header_check.specs.Rows.{Counts};
+ghost use Rattle.calls_wait.specs.Numbers.{number_of};
 ghost use Rattle.calls_wait.specs.Waited.{WaitsAt};
 
 use crate::ends::put_shrink;
+use crate::waited::Waited;
 use calls_header::times::late;
 use calls_parts::answer::put_number;
 use calls_parts::named::key_named;
+use calls_parts::refusal::Refusal;
 use image_header::is_lent;
 use image_header_check::formed::is_formed;
 use image_header_check::place::place_at;
@@ -38,10 +41,10 @@ fn wait_at(
     timeout: u64,
     peers: &mut [u8],
     answer: &mut [u8],
-) -> u32
+) -> Result<Waited, Refusal>
     requires { Counts header.old count × (at < count) × (number_at 8 header.old (48 + 1280 * at + 88) ≤ 32) }
     ensures { WaitsAt header.old header.new peers.old peers.new
-        answer.old answer.new at epoch offset clock timeout result }
+        answer.old answer.new at epoch offset clock timeout (number_of result) }
 {
     let row = 48 + 1280 * at;
     let owns = row + 64;
@@ -53,15 +56,21 @@ fn wait_at(
     if !leads(role, epoch) {
         let own = num::get8(header, owns);
         put_number(answer, own);
-        return 18;
+        return Err(Refusal::NotPrimary);
     }
     let last = num::get8(header, lasts);
     let n = num::get8(header, counts) as usize;
     let shrink = shrinks_of(header, rows, n, last, clock, timeout);
     if all_acked(header, rows, n, offset) {
-        return put_shrink(header, count, at, clock, timeout, shrink, peers, answer, 0);
+        let done = Waited::Done;
+        return put_shrink(
+            header, count, at, clock, timeout, shrink, peers, answer, done,
+        );
     }
-    put_shrink(header, count, at, clock, timeout, shrink, peers, answer, 1)
+    let waiting = Waited::Waiting;
+    put_shrink(
+        header, count, at, clock, timeout, shrink, peers, answer, waiting,
+    )
 }
 
 // 21 the name or a time above 2^62, 24, 17, 18; then the wait.
@@ -75,24 +84,24 @@ pub fn wait(
     timeout: u64,
     peers: &mut [u8],
     answer: &mut [u8],
-) -> u32
+) -> Result<Waited, Refusal>
     ensures { Waits header.old header.new peers.old peers.new
-        answer.old answer.new name.now shard epoch offset clock timeout result }
+        answer.old answer.new name.now shard epoch offset clock timeout (number_of result) }
 {
     if unread(name, clock, timeout) {
-        return 21;
+        return Err(Refusal::Undecodable);
     }
     if !is_lent(header) {
-        return 24;
+        return Err(Refusal::Malformed);
     }
     if !is_formed(header) {
-        return 24;
+        return Err(Refusal::Malformed);
     }
     let count = num::get8(header, 24) as usize;
     let key = key_named(name, shard);
     let at = place_at(header, count, key);
     if count <= at {
-        return 17;
+        return Err(Refusal::UnknownShard);
     }
     wait_at(
         header, count, at, epoch, offset, clock, timeout, peers, answer,

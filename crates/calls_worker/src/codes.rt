@@ -1,9 +1,11 @@
-// The codes of a metric, and the numbers of the answers. Internal.
+// The codes of a metric, and what a request or a quiet step says of what comes next. Internal.
 ghost use Rattle.std.specs.Prelude.{◌≡◌, ◌<◌, ◌≤◌, MatchOption, get_or};
+ghost use Rattle.node_header.specs.declared.StepAnswer.TheVariants.{Stepped};
 ghost use Rattle.calls_worker.specs.Steps.{metric_of, sent_number, quiet_number};
+ghost use Rattle.calls_worker.specs.Numbers.{code_of};
 
+use crate::next::Next;
 use node_admit::Step;
-use node_header::StepAnswer;
 use spec::Metric;
 
 pub fn metric_of(code: u8) -> Option<Metric>
@@ -17,24 +19,22 @@ pub fn metric_of(code: u8) -> Option<Metric>
 }
 
 // By the code that the request begins with.
-pub fn sent_number(request: &[u8]) -> u32
-    ensures { result ≡ sent_number (get_or request.now 0 0) }
+pub fn sent(request: &[u8]) -> Next
+    ensures { code_of result ≡ sent_number (get_or request.now 0 0) }
 {
     match request.first() {
-        Some(0x21) => 2,
-        Some(0x20) => 3,
-        _ => 4,
+        Some(0x21) => Next::Align,
+        Some(0x20) => Next::Replicate,
+        _ => Next::Copy,
     }
 }
 
-pub fn quiet_number(s: StepAnswer) -> u32
-    ensures { result ≡ quiet_number s }
+// Of a step that sends nothing.
+pub fn quiet(step: Step) -> Next
+    ensures { code_of result ≡ quiet_number (Stepped step) }
 {
-    match s {
-        StepAnswer::Refused(x) => x as u32,
-        StepAnswer::Stepped(step) => match step {
-            Step::Stop => 1,
-            Step::Wait | Step::Align | Step::Send { .. } => 0,
-        },
+    match step {
+        Step::Stop => Next::Stop,
+        Step::Wait | Step::Align | Step::Send { .. } => Next::Wait,
     }
 }

@@ -8,47 +8,32 @@ ghost use Rattle.image_header.specs.Image.{node_at};
 ghost use Rattle.calls_parts.specs.Answer.{answer_lent, number_put};
 ghost use Rattle.image_node.specs.Lent.{lent_store_in};
 ghost use Rattle.image_node_check.specs.Find.{FoundIn};
-ghost use Rattle.calls_worker.specs.Steps.{step_number, answer_left, outputs, StepAsked};
+ghost use Rattle.calls_worker.specs.Steps.{outputs, StepAsked};
+ghost use Rattle.calls_worker.specs.Numbers.{number_of};
 ghost use Rattle.calls_worker.specs.Found.{request_at};
 
-use crate::codes::{quiet_number, sent_number};
+use crate::codes::{quiet, sent};
+use crate::next::Next;
 use calls_parts::answer::put_number;
+use calls_parts::refusal::Refusal;
 use image_header_row::held::role_at;
 use image_layout::header::{LAST, ROLE, ROW, ROWS, SLOT};
 use image_layout::stores::STORE;
 use image_send::{write_align, write_send};
 use node_admit::Step;
-use node_header::StepAnswer;
 use node_send::Request;
 use node_send::worker::end_of;
 use node_send_entries::entries::up_to;
 use spec::Metric;
 
-// The number of the answer, and the request's length beside it.
-fn told(s: StepAnswer, w: Request, request: &[u8], answer: &mut [u8]) -> u32
-    ensures { (result ≡ step_number s w request.now) × (answer.new ≡ answer_left w answer.old) }
-{
-    match w {
-        Request::Refused(x) => x as u32,
-        Request::Unsent => {
-            put_number(answer, 0);
-            quiet_number(s)
-        }
-        Request::Written(n) => {
-            put_number(answer, n as u64);
-            sent_number(request)
-        }
-    }
-}
-
-// Without the shard the worker stops; 23 if there is no room to say so.
-pub fn stops(answer: &mut [u8]) -> u32
-    ensures { (result ≡ cond (answer_lent answer.old) 1 23) × (answer.new ≡ number_put answer.old 0) }
+// Without the shard the worker stops; NoRoom if there is none to say so.
+pub fn stops(answer: &mut [u8]) -> Result<Next, Refusal>
+    ensures { (number_of result ≡ cond (answer_lent answer.old) 1 23) × (answer.new ≡ number_put answer.old 0) }
 {
     if put_number(answer, 0) {
-        return 1;
+        return Ok(Next::Stop);
     }
-    23
+    Err(Refusal::NoRoom)
 }
 
 // The request of the step for a peer, at the shard that stands at place `at`.
@@ -90,7 +75,7 @@ fn request_at(
     }
 }
 
-// 23 without room for the answer; then the step, and its request.
+// NoRoom for the answer; then the step, its request, and the length of the request beside the answer.
 pub fn step_at(
     header: &[u8],
     at: usize,
@@ -102,18 +87,29 @@ pub fn step_at(
     metric: Metric,
     request: &mut [u8],
     answer: &mut [u8],
-) -> u32
+) -> Result<Next, Refusal>
     requires { FoundIn header.now stores.now (key_given name.now shard) at × (length name.now ≤ 32) }
     ensures { StepAsked (node_at header.now) (lent_store_in stores.now (node_at header.now) (key_given name.now shard))
         (key_given name.now shard) epoch peer metric
-        (outputs request.old answer.old) (outputs request.new answer.new) result }
+        (outputs request.old answer.old) (outputs request.new answer.new) (number_of result) }
 {
     if answer.len() < 8 {
-        return 23;
+        return Err(Refusal::NoRoom);
     }
     let s = image_header_admit::worker::step(header, ROWS + ROW * at, epoch, peer);
     let w = request_at(
         request, header, at, stores, name, shard, s, epoch, peer, metric,
     );
-    told(StepAnswer::Stepped(s), w, request, answer)
+    match w {
+        // There is no room for the request.
+        Request::Refused(_) => Err(Refusal::NoRoom),
+        Request::Unsent => {
+            put_number(answer, 0);
+            Ok(quiet(s))
+        }
+        Request::Written(n) => {
+            put_number(answer, n as u64);
+            Ok(sent(request))
+        }
+    }
 }

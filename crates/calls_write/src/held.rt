@@ -1,11 +1,13 @@
 // A Write at the shard that its message names (paper 01, 'Who is turned down', Write), past 21 and 22. Internal.
 ghost use Rattle.map_tables.specs.Names.{view_key};
 ghost use Rattle.calls_client_out.specs.Ends.{ended};
+ghost use Rattle.calls_parts.specs.Refusals.{number_of};
 ghost use Rattle.calls_client.specs.Written.{buffers, WritesShard};
 ghost use Rattle.image_node_check.specs.Find.{FoundIn};
 ghost use Rattle.calls_write.specs.Asked.{Asked};
 
 use calls_parts::answer::put_number;
+use calls_parts::refusal::Refusal;
 use image_header_admit::admission::admit_write;
 use image_layout::header::{LAST, ROW, ROWS};
 use image_node_check::find;
@@ -26,10 +28,10 @@ fn write_found(
     message: &[u8],
     p: WritePart,
     answer: &mut [u8],
-) -> u8
+) -> Result<(), Refusal>
     requires { Asked message.now p (view_key key) clock × FoundIn header.old stores.old (view_key key) at }
     ensures { WritesShard (buffers header.old stores.old answer.old) (view_key key) clock least message.now
-        (ended result (buffers header.new stores.new answer.new)) }
+        (ended (number_of result) (buffers header.new stores.new answer.new)) }
 {
     let row = ROWS + ROW * at;
     let epoch = p.epoch;
@@ -38,24 +40,24 @@ fn write_found(
     match admit {
         Admit::NotPrimary(own) => {
             put_number(answer, own);
-            return 18;
+            return Err(Refusal::NotPrimary);
         }
         Admit::NoLease => {
-            return 19;
+            return Err(Refusal::NoLease);
         }
         Admit::TooFew => {
-            return 20;
+            return Err(Refusal::TooFewInSync);
         }
         Admit::NoRoom => {
-            return 23;
+            return Err(Refusal::NoRoom);
         }
         Admit::Yes => {
             let last = num::get8(header, row + LAST);
             if !put_number(answer, last + 1) {
-                return 23;
+                return Err(Refusal::NoRoom);
             }
             grow(header, stores, at, message, op);
-            return 0;
+            return Ok(());
         }
     }
 }
@@ -70,18 +72,18 @@ pub fn write_at(
     message: &[u8],
     p: WritePart,
     answer: &mut [u8],
-) -> u8
+) -> Result<(), Refusal>
     requires { Asked message.now p (view_key key) clock }
     ensures { WritesShard (buffers header.old stores.old answer.old) (view_key key) clock least message.now
-        (ended result (buffers header.new stores.new answer.new)) }
+        (ended (number_of result) (buffers header.new stores.new answer.new)) }
 {
     let found = find(header, stores, key);
     match found {
         Lent::Malformed => {
-            return 24;
+            return Err(Refusal::Malformed);
         }
         Lent::Absent => {
-            return 17;
+            return Err(Refusal::UnknownShard);
         }
         Lent::At(at) => {
             return write_found(header, stores, key, at, clock, least, message, p, answer);

@@ -3,14 +3,16 @@
 #![tactic(auto)]
 
 ghost use Rattle.calls_client.specs.Written.{buffers, WritesImages};
+ghost use Rattle.calls_parts.specs.Refusals.{number_of};
 
 use calls_client_out::count::count_call;
+use calls_parts::refusal::Refusal;
 use message::write_message;
 
 mod held;
 mod message;
 
-// 23: 0 with the offset in `answer`; 17, 18 with the own epoch in `answer`, 19, 20, 21, 22, 24, and 23 if the log is full or `answer` has no
+// 23: Ok with the offset in `answer`; 17, 18 with the own epoch in `answer`, 19, 20, 21, 22, 24, and 23 if the log is full or `answer` has no
 // room. Refused, no byte of the images changes. `least` is min_in_sync. `refused` counts each refusal.
 pub fn write(
     header: &mut [u8],
@@ -20,12 +22,12 @@ pub fn write(
     least: u64,
     message: &[u8],
     answer: &mut [u8],
-) -> u32
+) -> Result<(), Refusal>
     ensures { WritesImages (buffers header.old stores.old answer.old)
         (buffers header.new stores.new answer.new) refused.old refused.new clock least
-        message.now result }
+        message.now (number_of result) }
 {
-    let number = write_message(header, stores, refused, clock, least, message, answer);
-    count_call(refused, number);
-    number as u32
+    let said = write_message(header, stores, refused, clock, least, message, answer);
+    count_call(refused, said);
+    said
 }

@@ -2,6 +2,8 @@
 ghost use Rattle.calls_client.specs.Searched.{SearchesImages};
 ghost use Rattle.calls_client.specs.Written.{buffers, WritesImages};
 
+use calls_parts::refusal::number;
+
 pub fn catalogue_write(
     header: &mut [u8],
     stores: &mut [u8],
@@ -16,7 +18,7 @@ pub fn catalogue_write(
         (buffers header.new stores.new answer.new)
         refused.old refused.new clock least message.now result }
 {
-    calls_write::write(header, stores, refused, clock, least, message, answer)
+    number(calls_write::write(header, stores, refused, clock, least, message, answer))
 }
 
 pub fn catalogue_search(
@@ -31,5 +33,5 @@ pub fn catalogue_search(
     ensures { SearchesImages header.now stores.now refused.old clock message.now hits.old
         answer.old refused.new hits.new answer.new result }
 {
-    calls_search::search(header, stores, refused, clock, message, hits, answer)
+    number(calls_search::search(header, stores, refused, clock, message, hits, answer))
 }

@@ -6,10 +6,12 @@ ghost use Rattle.calls_header.specs.Outcomes.{Outcomes};
 ghost use Rattle.calls_header.specs.Shows.{Shows};
 ghost use Rattle.calls_header.specs.Waits.{Waits};
 
+use calls_parts::refusal::number;
+
 pub fn catalogue_fresh_node(header: &mut [u8], id: u64, incarnation: u64) -> u32
     ensures { Freshens header.old header.new id incarnation result }
 {
-    calls_show::fresh::fresh_node(header, id, incarnation)
+    number(calls_show::fresh::fresh_node(header, id, incarnation))
 }
 
 pub fn catalogue_show_map(
@@ -22,13 +24,13 @@ pub fn catalogue_show_map(
     ensures { Shows header.old header.new map.now starts.old starts.new
         answer.old answer.new fresh result }
 {
-    calls_show::show::show_map(header, map, fresh, starts, answer)
+    number(calls_show::show::show_map(header, map, fresh, starts, answer))
 }
 
 pub fn catalogue_grant(header: &mut [u8], incarnation: u64, sent: u64, lease: u64) -> u32
     ensures { Grants header.old header.new incarnation sent lease result }
 {
-    calls_grant::grant(header, incarnation, sent, lease)
+    number(calls_grant::grant(header, incarnation, sent, lease))
 }
 
 pub fn catalogue_wait(
@@ -45,9 +47,10 @@ pub fn catalogue_wait(
     ensures { Waits header.old header.new peers.old peers.new
         answer.old answer.new name.now shard epoch offset clock timeout result }
 {
-    calls_wait::wait::wait(
+    let said = calls_wait::wait::wait(
         header, name, shard, epoch, offset, clock, timeout, peers, answer,
-    )
+    );
+    calls_wait::waited::number(said)
 }
 
 pub fn catalogue_ack(
@@ -61,7 +64,8 @@ pub fn catalogue_ack(
 ) -> u32
     ensures { Acks header.old header.new name.now reply.now shard epoch peer step result }
 {
-    calls_ack::ack::ack(header, name, shard, epoch, peer, step, reply)
+    let said = calls_ack::ack::ack(header, name, shard, epoch, peer, step, reply);
+    calls_ack::told::number(said)
 }
 
 pub fn catalogue_outcome(
@@ -75,8 +79,5 @@ pub fn catalogue_outcome(
 ) -> u32
     ensures { Outcomes header.old header.new name.now shard epoch peer command applied result }
 {
-    match calls_outcome::outcome::outcome(header, name, shard, epoch, peer, command, applied) {
-        Ok(()) => 0,
-        Err(why) => u32::from(why),
-    }
+    number(calls_outcome::outcome::outcome(header, name, shard, epoch, peer, command, applied))
 }

@@ -1,6 +1,8 @@
 // What a primary sends to a node.
 ghost use Rattle.calls_peer.specs.PeerCalls.{buffers, ReplicatesImage, NewEpochsImage, CopiesImage};
 
+use calls_parts::refusal::number;
+
 pub fn catalogue_replicate(
     header: &mut [u8],
     stores: &mut [u8],
@@ -11,7 +13,7 @@ pub fn catalogue_replicate(
         (buffers header.old stores.old reply.old)
         (buffers header.new stores.new reply.new) result }
 {
-    calls_replicate::replicate(header, stores, message, reply)
+    number(calls_replicate::replicate(header, stores, message, reply))
 }
 
 pub fn catalogue_new_epoch(
@@ -24,7 +26,7 @@ pub fn catalogue_new_epoch(
         (buffers header.old stores.old reply.old)
         (buffers header.new stores.new reply.new) result }
 {
-    calls_epoch::new_epoch(header, stores, message, reply)
+    number(calls_epoch::new_epoch(header, stores, message, reply))
 }
 
 pub fn catalogue_copy(header: &mut [u8], stores: &mut [u8], message: &[u8], reply: &mut [u8]) -> u32
@@ -32,5 +34,5 @@ pub fn catalogue_copy(header: &mut [u8], stores: &mut [u8], message: &[u8], repl
         (buffers header.old stores.old reply.old)
         (buffers header.new stores.new reply.new) result }
 {
-    calls_copy::copy(header, stores, message, reply)
+    number(calls_copy::copy(header, stores, message, reply))
 }

@@ -15,7 +15,8 @@ pub fn catalogue_step(
     ensures { StepsImage header.now stores.now (asking name.now shard epoch peer metric)
         (outputs request.old answer.old) (outputs request.new answer.new) result }
 {
-    calls_worker::step(
+    let said = calls_worker::step(
         header, stores, name, shard, epoch, peer, metric, request, answer,
-    )
+    );
+    calls_worker::next::number(said)
 }

@@ -1,5 +1,4 @@
 use mathlib.Core.Path.{sym, ◌∙◌}
-use mathlib.Core.Bool.{true}
 use Rattle.calls_epoch.specs.Asked.{stale_by}
 use Rattle.calls_epoch.proofs.held.is_stale.Goals as goal
 

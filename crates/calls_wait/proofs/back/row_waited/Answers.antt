@@ -1,4 +1,3 @@
-use native.Mathlib.Omega.{arith}
 use Rattle.calls_wait.proofs.BackLaws.{row-waited}
 use Rattle.calls_wait.proofs.back.row_waited.Goals as goal
 

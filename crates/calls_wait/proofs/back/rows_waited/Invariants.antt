@@ -1,6 +1,4 @@
-use Prim.Native.Nat.{◌+◌, ◌-◌, ◌*◌, ◌≤◌, ◌<◌}
-use lib.ListN.{length}
-use Rattle.spec.specs.Layout.Format.{number_at}
+use Prim.Native.Nat.{◌+◌, ◌*◌}
 use Rattle.image_header_row.specs.Rows.{held_row_at}
 use Rattle.image_header_put.proofs.Back.{Done}
 use Rattle.calls_wait.specs.Waited.{waited_held_row}

@@ -8,6 +8,7 @@ use Rattle.image_parts.proofs.Images.{length-used}
 use Rattle.image_header.specs.Image.{node_at}
 use Rattle.calls_header.specs.Waits.{id_bytes}
 use Rattle.calls_header.proofs.Waits.{no_answer, no_peers, all-put}
+use Rattle.calls_wait.specs.Numbers.{said_of}
 use Rattle.calls_wait.specs.Waited.{waited_node}
 use Rattle.calls_wait.proofs.ends.put_shrink.Goals as goal
 
@@ -21,7 +22,7 @@ returns-then-peers-n c =
     let f = c.if-peers-n.true in
     let w = u.0 in
     let g : length a.peers.now < 8 * length (take a.shrink.count a.shrink.items) = omega arith in
-    no_peers id_bytes 8 a.said a.header.now a.peers.now a.answer.now (take a.shrink.count a.shrink.items) n g
+    no_peers id_bytes 8 (said_of a.said) a.header.now a.peers.now a.answer.now (take a.shrink.count a.shrink.items) n g
 
 pub returns-then-not-put_number : goal.returns-then-not-put_number
 returns-then-not-put_number c =
@@ -33,7 +34,7 @@ returns-then-not-put_number c =
     let f = c.if-peers-n.false in
     let p = c.put_number in
     let g : 8 * length (take a.shrink.count a.shrink.items) ≤ length a.peers.now = omega arith in
-    no_answer id_bytes 8 a.said a.header.now a.peers.now a.answer.now (take a.shrink.count a.shrink.items) n g _ _ p.ensures.1 (sym p.ensures.0 ∙ c.if-not-put_number.true)
+    no_answer id_bytes 8 (said_of a.said) a.header.now a.peers.now a.answer.now (take a.shrink.count a.shrink.items) n g _ _ p.ensures.1 (sym p.ensures.0 ∙ c.if-not-put_number.true)
 
 pub returns : goal.returns
 returns c =
@@ -46,4 +47,4 @@ returns c =
     let p = c.put_number in
     let w = c.put_waited.ensures in
     let g : 8 * length (take a.shrink.count a.shrink.items) ≤ length a.peers.now = omega arith in
-    all-put id_bytes 8 a.said a.header.now a.peers.now a.answer.now (take a.shrink.count a.shrink.items) n g _ _ p.ensures.1 (sym p.ensures.0 ∙ c.if-not-put_number.false) w.image w.becomes c.put_ids.ensures (u ∙ sym m)
+    all-put id_bytes 8 (said_of a.said) a.header.now a.peers.now a.answer.now (take a.shrink.count a.shrink.items) n g _ _ p.ensures.1 (sym p.ensures.0 ∙ c.if-not-put_number.false) w.image w.becomes c.put_ids.ensures (u ∙ sym m)

@@ -1,4 +1,3 @@
-use native.Mathlib.Omega.{arith}
 use mathlib.Core.Path.{sym, ◌∙◌}
 use Rattle.calls_wait.proofs.WaitLaws.{at_other, at_over, at-still}
 use Rattle.calls_wait.proofs.wait.wait_at.Goals as goal

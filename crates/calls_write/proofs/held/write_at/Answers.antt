@@ -20,6 +20,3 @@ returns-in-Absent c =
 pub write_found-requires : goal.write_found-requires
 write_found-requires c =
     let a = c.args in (c.requires, subst (FindsIn a.header.now a.stores.now (view_key a.key)) c.in-At.is c.find-found.ensures)
-
-pub returns-in-At : goal.returns-in-At
-returns-in-At c = c.write_found.ensures
