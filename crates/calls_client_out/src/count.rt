@@ -1,16 +1,14 @@
 // The count of refused client calls in its four bytes (paper 01, 'The node'). Internal.
 ghost use Rattle.std.specs.Prelude.{◌≡◌};
 ghost use Rattle.calls_client_out.specs.Count.{count_put};
-ghost use Rattle.calls_parts.specs.Refusals.{number_of};
 
-use calls_parts::refusal::Refusal;
 use node_refused::one_more;
 
 // One more, if the call was refused and its count is lent.
-pub fn count_call(refused: &mut [u8], said: Result<(), Refusal>)
-    ensures { refused.new ≡ count_put refused.old (number_of said) }
+pub fn count_call(refused: &mut [u8], number: u32)
+    ensures { refused.new ≡ count_put refused.old number }
 {
-    if said.is_ok() {
+    if number == 0 {
         return;
     }
     if refused.len() < 4 {

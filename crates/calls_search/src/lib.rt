@@ -7,7 +7,7 @@ ghost use Rattle.calls_client_out.specs.Found.{ended};
 ghost use Rattle.calls_parts.specs.Refusals.{number_of};
 
 use calls_client_out::count::count_call;
-use calls_parts::refusal::Refusal;
+use calls_parts::refusal::{Refusal, number};
 use map_names::key_of;
 use named::search_named;
 use node_search::query::read_query;
@@ -80,6 +80,6 @@ pub fn search(
         answer.old refused.new hits.new answer.new (number_of result) }
 {
     let said = search_message(header, stores, refused, clock, message, hits, answer);
-    count_call(refused, said);
+    count_call(refused, number(said));
     said
 }

@@ -46,10 +46,10 @@ use Rattle.calls_show.proofs.ShowLaws.{refused, refused-put}
 abbrev no_taken : Taken
 no_taken = record { kept = no_held_row; start = no_start }
 
-pub change-full : (s m : List ℕ) → formed_node (node_at s) ≡ true → RowsRefused (node_at s) (map_at m) → (p a : List ℕ) → TakesAt s s m p p a a 23
-change-full s m formed k p a = record {
+pub change-full : (s m : List ℕ) → formed_node (node_at s) ≡ true → (r : RowsMade) → RowsRefused (node_at s) (map_at m) r → (p a : List ℕ) → TakesAt s s m p p a a 23
+change-full s m formed r k p a = record {
   after = refused 23 (node_at s);
-  call = taken-full (node_at s) (map_at m) (record { full = true; items = k.items; count = k.count }) k.walks formed refl [];
+  call = taken-full (node_at s) (map_at m) (record { full = true; items = k.items; count = r.count }) k.walks formed refl [];
   put = refused-put s p a (node_at s) 23;
 }
 

@@ -194,16 +194,17 @@ module _ (n : Node) (s : List ℕ) (counted : TablesCounted (map_at s)) (u₀ p�
             (λ st k c. let z = f st k c in record { showing = z.showing; is = on_list st k ∙ z.is; over = z.over })
 
         -- the map is refused
-        pub going_full : Refused n (collections_at s) row count → RowsRefused n (map_at s)
+        pub going_full : Refused n (collections_at s) row count → RowsRefused n (map_at s) (record { count = count; workers = many })
         unfolding map_at
         going_full t =
             let a = g.few in
             let b = g.long in
+            let c = g.most in
             record {
               items = g.out;
-              count = count;
               walks = walks_full n (map_at s) g.out count i g.walking a (omega arith)
                   (refused (subst (λ (x : ShardRow). Refused n (collections_at s) x count) here t));
+              most = omega arith;
             }
 
         -- the shard is taken

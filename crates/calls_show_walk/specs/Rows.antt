@@ -99,12 +99,12 @@ pub record RowsStand (n : Node) (m : ShardMap) (u p : List ℕ) (r : RowsMade) :
   pub workers : r.workers ≡ length (view_starts (map start_of (take r.count items)))
   pub most : r.workers ≤ 256
 
--- .. or the map is refused, after `count` of them
-pub record RowsRefused (n : Node) (m : ShardMap) : Type 0 where
+-- .. or the map is refused, after as many as are told
+pub record RowsRefused (n : Node) (m : ShardMap) (r : RowsMade) : Type 0 where
   pub items : List Taken
-  pub count : ℕ
-  pub walks : Walks n m (record { full = true; items = items; count = count })
+  pub walks : Walks n m (record { full = true; items = items; count = r.count })
+  pub most : r.workers ≤ 256
 
-abbrev pub Made : Node → ShardMap → (u p : List ℕ) → Result RowsMade Full → Type 0
+abbrev pub Made : Node → ShardMap → (u p : List ℕ) → Result RowsMade RowsMade → Type 0
 Made n m u p (Ok r) = RowsStand n m u p r
-Made n m u p (Err e) = RowsRefused n m
+Made n m u p (Err r) = RowsRefused n m r

@@ -7,21 +7,22 @@ ghost use Rattle.image_header.specs.Image.{node_at};
 ghost use Rattle.image_header_check.specs.Rows.{Counts};
 ghost use Rattle.calls_show_walk.specs.Rows.{Made};
 
+use crate::RowsMade;
 use crate::row::take_row;
-use crate::{Full, RowsMade};
 use image_layout::header::{ID, INCARNATION};
 use image_map_check::layout::{SHARD, SHARDS, SHARDS_USED};
 use image_map_row::shards::shard_at;
 use node_show_row::rows::is_listed;
 
-// One that does not list this node under its incarnation is not held (any more). No lent byte is written.
+// One that does not list this node under its incarnation is not held (any more). No lent byte is written. Err: how far it came where a ninth
+// shard would be held, or a 33rd worker needed.
 pub fn make_rows(
     header: &[u8],
     held: usize,
     map: &[u8],
     rows: &mut [u8],
     workers: &mut [u8],
-) -> Result<RowsMade, Full>
+) -> Result<RowsMade, RowsMade>
     requires { Counts header.now held × (formed_node (node_at header.now) ≡ true) × (26536 ≤ length map.now) × TablesCounted (map_at map.now)
         × (10240 ≤ length rows.old) × (13824 ≤ length workers.old) }
     ensures { Made (node_at header.now) (map_at map.now) rows.new workers.new result }
@@ -37,7 +38,13 @@ pub fn make_rows(
         if !is_listed(list, me, own) {
             continue;
         }
-        let Some(after) = take_row(header, held, map, row, rows, count, workers, many)? else {
+        let Ok(taken) = take_row(header, held, map, row, rows, count, workers, many) else {
+            return Err(RowsMade {
+                count,
+                workers: many,
+            });
+        };
+        let Some(after) = taken else {
             continue;
         };
         many = after;

@@ -9,6 +9,10 @@ abbrev pub said_of : Waited → ℕ
 said_of Done = 0
 said_of Waiting = 1
 
+-- what is said, by the number that its maker gives it, or the refusal's number
+abbrev pub numbered : {A : Type 0} → (A → ℕ) → Result A Refusal → ℕ
+numbered number (Ok said) = number said
+numbered number (Err why) = code_of why
+
 abbrev pub number_of : Result Waited Refusal → ℕ
-number_of (Ok said) = said_of said
-number_of (Err why) = code_of why
+number_of = numbered said_of

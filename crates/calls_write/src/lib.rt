@@ -6,7 +6,7 @@ ghost use Rattle.calls_client.specs.Written.{buffers, WritesImages};
 ghost use Rattle.calls_parts.specs.Refusals.{number_of};
 
 use calls_client_out::count::count_call;
-use calls_parts::refusal::Refusal;
+use calls_parts::refusal::{Refusal, number};
 use message::write_message;
 
 mod held;
@@ -28,6 +28,6 @@ pub fn write(
         message.now (number_of result) }
 {
     let said = write_message(header, stores, refused, clock, least, message, answer);
-    count_call(refused, said);
+    count_call(refused, number(said));
     said
 }

@@ -12,7 +12,7 @@ make_rows-requires c = (c.requires.0, c.requires.1, c.requires.2.long, c.require
 
 pub returns-in_default : goal.returns-in_default
 returns-in_default c =
-    let a = c.args in change-full a.header.now a.map.now c.requires.1 c.in_default.ensures a.starts.now a.answer.now
+    let a = c.args in change-full a.header.now a.map.now c.requires.1 _ c.in_default.ensures a.starts.now a.answer.now
 
 pub returns-then-starts-size : goal.returns-then-starts-size
 returns-then-starts-size c =

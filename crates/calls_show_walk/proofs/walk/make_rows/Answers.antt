@@ -9,7 +9,6 @@ use Rattle.std.specs.Prelude as prelude
 use Rattle.std.specs.Prelude.{Ok}
 use Rattle.image_map.specs.Image.{collections_at}
 use Rattle.calls_show_walk.specs.Rows.{Takes}
-use Rattle.std.proofs.lemmas.Result.{err_from_is_err_and}
 use Rattle.calls_show_walk.proofs.walk.make_rows.Goals as goal
 
 pub get8-total-requires : goal.get8-total-requires
@@ -56,24 +55,23 @@ loop-i-preserved-then-not-is_listed c =
     going_past (node_at c.args.header.now) c.args.map.now c.requires.3 c.args.rows.now c.args.workers.now c.loop-i.rows c.loop-i.workers c.loop-i.count c.loop-i.many c.loop-i.i c.loop-i.invariant (omega arith) c.shard_at-row.result c.shard_at-row.ensures
     (listed_by c.args.header.now _ _ c.get8-me.ensures c.get8-own.ensures _ false (sym c.if-not-is_listed.true ∙ c.is_listed.ensures))
 
-pub returns-in_err-after : goal.returns-in_err-after
-returns-in_err-after c =
+pub returns-in_default : goal.returns-in_default
+returns-in_default c =
     let k = c.get8-total.ensures in let e = shards-many c.args.map.now in let lt = c.loop-i-test.true in
-    let p = err_from_is_err_and c.from_residual.result c.from_residual.ensures.1 in
-    rw p.1 (going_full (node_at c.args.header.now) c.args.map.now c.requires.3 c.args.rows.now c.args.workers.now c.loop-i.rows c.loop-i.workers c.loop-i.count c.loop-i.many c.loop-i.i c.loop-i.invariant (omega arith) c.shard_at-row.result c.shard_at-row.ensures
-    (listed_by c.args.header.now _ _ c.get8-me.ensures c.get8-own.ensures _ true (sym c.if-not-is_listed.false ∙ c.is_listed.ensures)) c.in_err-after.ensures)
+    going_full (node_at c.args.header.now) c.args.map.now c.requires.3 c.args.rows.now c.args.workers.now c.loop-i.rows c.loop-i.workers c.loop-i.count c.loop-i.many c.loop-i.i c.loop-i.invariant (omega arith) c.shard_at-row.result c.shard_at-row.ensures
+    (listed_by c.args.header.now _ _ c.get8-me.ensures c.get8-own.ensures _ true (sym c.if-not-is_listed.false ∙ c.is_listed.ensures)) c.in_default.ensures
 
-pub loop-i-preserved-in_default : goal.loop-i-preserved-in_default
-loop-i-preserved-in_default c =
+pub loop-i-preserved-in_default-taken : goal.loop-i-preserved-in_default-taken
+loop-i-preserved-in_default-taken c =
     let k = c.get8-total.ensures in let e = shards-many c.args.map.now in let lt = c.loop-i-test.true in
     going_skip (node_at c.args.header.now) c.args.map.now c.requires.3 c.args.rows.now c.args.workers.now c.loop-i.rows c.loop-i.workers c.loop-i.count c.loop-i.many c.loop-i.i c.loop-i.invariant (omega arith) c.shard_at-row.result c.shard_at-row.ensures
-    (listed_by c.args.header.now _ _ c.get8-me.ensures c.get8-own.ensures _ true (sym c.if-not-is_listed.false ∙ c.is_listed.ensures)) _ _ (subst (λ (o : prelude.Option ℕ). Takes (node_at c.args.header.now) (collections_at c.args.map.now) c.shard_at-row.result c.loop-i.rows c.take_row.new.rows c.loop-i.workers c.take_row.new.workers c.loop-i.count c.loop-i.many (Ok o)) c.in_default.is c.in_ok-after.ensures)
+    (listed_by c.args.header.now _ _ c.get8-me.ensures c.get8-own.ensures _ true (sym c.if-not-is_listed.false ∙ c.is_listed.ensures)) _ _ (subst (λ (o : prelude.Option ℕ). Takes (node_at c.args.header.now) (collections_at c.args.map.now) c.shard_at-row.result c.loop-i.rows c.take_row.new.rows c.loop-i.workers c.take_row.new.workers c.loop-i.count c.loop-i.many (Ok o)) c.in_default-taken.is c.in-Ok.ensures)
 
 pub loop-i-preserved : goal.loop-i-preserved
 loop-i-preserved c =
     let k = c.get8-total.ensures in let e = shards-many c.args.map.now in let lt = c.loop-i-test.true in
     going_take (node_at c.args.header.now) c.args.map.now c.requires.3 c.args.rows.now c.args.workers.now c.loop-i.rows c.loop-i.workers c.loop-i.count c.loop-i.many c.loop-i.i c.loop-i.invariant (omega arith) c.shard_at-row.result c.shard_at-row.ensures
-    (listed_by c.args.header.now _ _ c.get8-me.ensures c.get8-own.ensures _ true (sym c.if-not-is_listed.false ∙ c.is_listed.ensures)) c.requires.4 c.requires.5 _ _ _ (subst (λ (o : prelude.Option ℕ). Takes (node_at c.args.header.now) (collections_at c.args.map.now) c.shard_at-row.result c.loop-i.rows c.take_row.new.rows c.loop-i.workers c.take_row.new.workers c.loop-i.count c.loop-i.many (Ok o)) c.in-Some.is c.in_ok-after.ensures)
+    (listed_by c.args.header.now _ _ c.get8-me.ensures c.get8-own.ensures _ true (sym c.if-not-is_listed.false ∙ c.is_listed.ensures)) c.requires.4 c.requires.5 _ _ _ (subst (λ (o : prelude.Option ℕ). Takes (node_at c.args.header.now) (collections_at c.args.map.now) c.shard_at-row.result c.loop-i.rows c.take_row.new.rows c.loop-i.workers c.take_row.new.workers c.loop-i.count c.loop-i.many (Ok o)) c.in-Some.is c.in-Ok.ensures)
 
 pub shape_of-rows : goal.shape_of-rows
 shape_of-rows c = c.loop-i.invariant.wide

@@ -1,4 +1,5 @@
 use mathlib.Core.Path.{sym, ◌∙◌}
+use Rattle.calls_wait.specs.Numbers.{said_of}
 use Rattle.calls_wait.proofs.WaitLaws.{at_other, at_over, at-still}
 use Rattle.calls_wait.proofs.wait.wait_at.Goals as goal
 
@@ -17,7 +18,7 @@ returns-then-all_acked c =
     let the-get82 = c.get8-last in
     let the-get83 = c.get8-n in
     let the-shrinks-of = c.shrinks_of-shrink in
-    at_over a.header.now _ a.peers.now _ a.answer.now _ a.at a.epoch a.offset a.clock a.timeout _ the-role-at.result the-role-at.ensures (sym c.leads.ensures ∙ c.if-not-leads.false) the-get83.result the-get82.result the-get83.ensures the-get82.ensures the-shrinks-of.result the-shrinks-of.ensures (sym c.all_acked.ensures ∙ c.if-all_acked.true) c.put_shrink.ensures
+    at_over a.header.now _ a.peers.now _ a.answer.now _ a.at a.epoch a.offset a.clock a.timeout _ the-role-at.result the-role-at.ensures (sym c.leads.ensures ∙ c.if-not-leads.false) the-get83.result the-get82.result the-get83.ensures the-get82.ensures the-shrinks-of.result the-shrinks-of.ensures (sym c.all_acked.ensures ∙ c.if-all_acked.true) (c.put_shrink.ensures said_of)
 
 pub returns : goal.returns
 returns c =
@@ -26,4 +27,4 @@ returns c =
     let the-get82 = c.get8-last in
     let the-get83 = c.get8-n in
     let the-shrinks-of = c.shrinks_of-shrink in
-    at-still a.header.now _ a.peers.now _ a.answer.now _ a.at a.epoch a.offset a.clock a.timeout _ the-role-at.result the-role-at.ensures (sym c.leads.ensures ∙ c.if-not-leads.false) the-get83.result the-get82.result the-get83.ensures the-get82.ensures the-shrinks-of.result the-shrinks-of.ensures (sym c.all_acked.ensures ∙ c.if-all_acked.false) c.put_shrink-2.ensures
+    at-still a.header.now _ a.peers.now _ a.answer.now _ a.at a.epoch a.offset a.clock a.timeout _ the-role-at.result the-role-at.ensures (sym c.leads.ensures ∙ c.if-not-leads.false) the-get83.result the-get82.result the-get83.ensures the-get82.ensures the-shrinks-of.result the-shrinks-of.ensures (sym c.all_acked.ensures ∙ c.if-all_acked.false) (c.put_shrink-2.ensures said_of)
