@@ -76,5 +76,5 @@ pub fn search_held(
         return Err(Refusal::NoLease);
     }
     let h = nearest_held(header, stores, key, at, query, k);
-    put_found(hits, answer, &h)
+    put_found(hits, answer, h)
 }

@@ -29,9 +29,9 @@ fn bits_of(x: f32) -> u32
 }
 
 // The neighbours from the start of the buffer.
-fn put_hits(hits: &mut [u8], h: &Hits)
-    requires { (12 * h.now.count ≤ length hits.old) × (h.now.count ≤ 1024) × (length h.now.items ≡ 1025) }
-    ensures { hits.new ≡ sets hits.old 0 (hits_bytes (map id_of h.now.items) (map distance_of h.now.items) h.now.count) }
+fn put_hits(hits: &mut [u8], h: Hits)
+    requires { (12 * h.count ≤ length hits.old) × (h.count ≤ 1024) × (length h.items ≡ 1025) }
+    ensures { hits.new ≡ sets hits.old 0 (hits_bytes (map id_of h.items) (map distance_of h.items) h.count) }
 {
     let n = h.count;
     for i in 0..n {
@@ -42,9 +42,9 @@ fn put_hits(hits: &mut [u8], h: &Hits)
 }
 
 // 23 without room for the neighbours or for their count.
-pub fn put_found(hits: &mut [u8], answer: &mut [u8], h: &Hits) -> Result<(), Refusal>
-    requires { (h.now.count ≤ 1024) × (length h.now.items ≡ 1025) }
-    ensures { ended (number_of result) hits.new answer.new ≡ hits_ended hits.old answer.old h.now.items h.now.count }
+pub fn put_found(hits: &mut [u8], answer: &mut [u8], h: Hits) -> Result<(), Refusal>
+    requires { (h.count ≤ 1024) × (length h.items ≡ 1025) }
+    ensures { ended (number_of result) hits.new answer.new ≡ hits_ended hits.old answer.old h.items h.count }
 {
     let n = h.count;
     if room_of(hits.len()) < n {

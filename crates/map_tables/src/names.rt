@@ -33,11 +33,11 @@ pub fn name_below(a: Name, b: Name) -> bool
     bytes_of(&a) < bytes_of(&b)
 }
 
-// Internal: whether two keys agree.
+// Internal: whether two keys agree. Their numbers come first: those of one collection have the same name.
 pub fn same_key(a: ShardKey, b: ShardKey) -> bool
     ensures { result ≡ same_key (view_key a) (view_key b) }
 {
-    same_name(a.collection, b.collection) && a.shard == b.shard
+    a.shard == b.shard && same_name(a.collection, b.collection)
 }
 
 // Internal: by collection, then by number.

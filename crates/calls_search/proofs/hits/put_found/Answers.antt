@@ -6,11 +6,11 @@ use Rattle.calls_search.proofs.hits.put_found.Goals as goal
 
 pub returns-then-room_of-n : goal.returns-then-room_of-n
 returns-then-room_of-n c =
-    let a = c.args in ended-short a.hits.now a.answer.now a.h.now.items a.h.now.count _ c.room_of.ensures c.if-room_of-n.true
+    let a = c.args in ended-short a.hits.now a.answer.now a.h.items a.h.count _ c.room_of.ensures c.if-room_of-n.true
 
 pub returns-then-not-put_number : goal.returns-then-not-put_number
 returns-then-not-put_number c =
-    let a = c.args in ended_uncounted a.hits.now a.answer.now a.h.now.items a.h.now.count _ c.room_of.ensures c.if-room_of-n.false (sym c.put_number.ensures.0 ∙ c.if-not-put_number.true) _ c.put_number.ensures.1
+    let a = c.args in ended_uncounted a.hits.now a.answer.now a.h.items a.h.count _ c.room_of.ensures c.if-room_of-n.false (sym c.put_number.ensures.0 ∙ c.if-not-put_number.true) _ c.put_number.ensures.1
 
 pub put_hits-requires : goal.put_hits-requires
 put_hits-requires c =
@@ -18,4 +18,4 @@ put_hits-requires c =
 
 pub returns : goal.returns
 returns c =
-    let a = c.args in ended-found a.hits.now a.answer.now a.h.now.items a.h.now.count _ c.room_of.ensures c.if-room_of-n.false (sym c.put_number.ensures.0 ∙ c.if-not-put_number.false) _ _ c.put_hits.ensures c.put_number.ensures.1
+    let a = c.args in ended-found a.hits.now a.answer.now a.h.items a.h.count _ c.room_of.ensures c.if-room_of-n.false (sym c.put_number.ensures.0 ∙ c.if-not-put_number.false) _ _ c.put_hits.ensures c.put_number.ensures.1
