@@ -22,6 +22,7 @@ pub fn bad(r: Reply) -> bool
 }
 
 // Internal: alignment is cut to the log's end; any other ack only raises.
+#[tactic(auto, unfolding(spec::specs::Node::Ack::acked_through))]
 pub fn acked_through(p: Peer, last: u64, through: u64, aligned: bool) -> u64
     ensures { result ≡ acked_through last through aligned p }
 {

@@ -12,6 +12,7 @@ pub struct Refused {
 }
 
 // One more, or the largest value again.
+#[tactic(auto, unfolding(spec::specs::Node::Refused::counted))]
 pub fn next_count(n: u32) -> u32
     ensures { result ≡ bumped n }
 {
