@@ -75,7 +75,7 @@ uint32_t catalogue_version(void);
 #define CATALOGUE_VECTOR 17u      /* a position's vector as a Write has it: 04, four floats */
 #define CATALOGUE_ANSWERS 196704u /* room for any answers to join: 16 of 1,024 neighbours and 6 bytes */
 #define CATALOGUE_JOINED 196608u  /* room for any joined neighbours: 16 times 1,024 */
-#define CATALOGUE_STACK 196608u   /* stack that a call needs at most, which `make fuzz` measures; a search takes 161,000 */
+#define CATALOGUE_STACK 196608u   /* stack that a call needs at most; `make fuzz` measures it: under 148,000 */
 
 /* ---- answers */
 
